@@ -1,0 +1,4 @@
+pub mod Crc
+pub mod Code
+pub mod Loop
+pub mod Byte

@@ -1,0 +1,124 @@
+// The two check sums of document 01, and the check of a code.
+ghost use mathlib.Core.Path.{_≡_};
+ghost use Rattle.crc.specs.Crc.{poly8, poly16, crcBit, crcByte, crcOf};
+ghost use Rattle.crc.specs.Code.{byteOf, codeCrc, checkOf};
+
+// What the check of a code finds.
+pub enum CodeCheck {
+    Good,
+    Bad,
+}
+
+// One bit into the CRC-8.
+pub fn bit8(x: u8, v: bool) -> u8
+    ensures { λ r. ⌜ r ≡ crcBit poly8 x v ⌝ }
+{
+    let out = base::bit_of(x as u64, 0);
+    if base::is_same(out, v) {
+        return x / 2;
+    }
+    (x / 2) ^ 0x8C
+}
+
+// One byte into the CRC-8, bit 0 first.
+pub fn byte8(x: u8, b: u8) -> u8
+    ensures { λ r. ⌜ r ≡ crcByte poly8 x b ⌝ }
+{
+    let n = b as u64;
+    let x1 = bit8(x, base::bit_of(n, 0));
+    let x2 = bit8(x1, base::bit_of(n, 1));
+    let x3 = bit8(x2, base::bit_of(n, 2));
+    let x4 = bit8(x3, base::bit_of(n, 3));
+    let x5 = bit8(x4, base::bit_of(n, 4));
+    let x6 = bit8(x5, base::bit_of(n, 5));
+    let x7 = bit8(x6, base::bit_of(n, 6));
+    bit8(x7, base::bit_of(n, 7))
+}
+
+// One bit into the CRC-16.
+pub fn bit16(x: u16, v: bool) -> u16
+    ensures { λ r. ⌜ r ≡ crcBit poly16 x v ⌝ }
+{
+    let out = base::bit_of(x as u64, 0);
+    if base::is_same(out, v) {
+        return x / 2;
+    }
+    (x / 2) ^ 0xA001
+}
+
+// One byte into the CRC-16, bit 0 first.
+pub fn byte16(x: u16, b: u8) -> u16
+    ensures { λ r. ⌜ r ≡ crcByte poly16 x b ⌝ }
+{
+    let n = b as u64;
+    let x1 = bit16(x, base::bit_of(n, 0));
+    let x2 = bit16(x1, base::bit_of(n, 1));
+    let x3 = bit16(x2, base::bit_of(n, 2));
+    let x4 = bit16(x3, base::bit_of(n, 3));
+    let x5 = bit16(x4, base::bit_of(n, 4));
+    let x6 = bit16(x5, base::bit_of(n, 5));
+    let x7 = bit16(x6, base::bit_of(n, 6));
+    bit16(x7, base::bit_of(n, 7))
+}
+
+// The CRC-8 of a run of bytes.
+pub fn crc8(s: &[u8]) -> u8
+    ensures { λ r. ⌜ r ≡ crcOf poly8 0 (now (s .entry)) ⌝ }
+{
+    let mut x: u8 = 0;
+    let mut i = 0;
+    while i < s.len() {
+        x = byte8(x, s[i]);
+        i += 1;
+    }
+    x
+}
+
+// The CRC-16 of a run of bytes.
+pub fn crc16(s: &[u8]) -> u16
+    ensures { λ r. ⌜ r ≡ crcOf poly16 0 (now (s .entry)) ⌝ }
+{
+    let mut x: u16 = 0;
+    let mut i = 0;
+    while i < s.len() {
+        x = byte16(x, s[i]);
+        i += 1;
+    }
+    x
+}
+
+// The CRC-8 of the first seven bytes of a code.
+pub fn of_code(code: u64) -> u8
+    ensures { λ r. ⌜ r ≡ codeCrc code ⌝ }
+{
+    let x1 = byte8(0, byte_of(code, 0));
+    let x2 = byte8(x1, byte_of(code, 1));
+    let x3 = byte8(x2, byte_of(code, 2));
+    let x4 = byte8(x3, byte_of(code, 3));
+    let x5 = byte8(x4, byte_of(code, 4));
+    let x6 = byte8(x5, byte_of(code, 5));
+    byte8(x6, byte_of(code, 6))
+}
+
+// Whether the eighth byte of a code is the CRC-8 of the first seven.
+pub fn check_code(code: u64) -> CodeCheck
+    ensures { λ r. ⌜ r ≡ checkOf code ⌝ }
+{
+    let sum = of_code(code);
+    let last = byte_of(code, 7);
+    if sum == last {
+        return CodeCheck::Good;
+    }
+    CodeCheck::Bad
+}
+
+// Byte k of a code, the family being byte 0; past the eighth there is none.
+pub fn byte_of(code: u64, k: u8) -> u8
+    ensures { λ r. ⌜ r ≡ byteOf code k ⌝ }
+{
+    if k < 8 {
+        ((code >> (8 * (k as u64))) % 256) as u8
+    } else {
+        0
+    }
+}
