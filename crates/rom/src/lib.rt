@@ -1,0 +1,215 @@
+// The ROM level of a chip, over its code and RC. It knows no part.
+ghost use mathlib.Core.Path.{_≡_};
+ghost use Rattle.rom.specs.Rom.{commandOf, commandBit, readBit, matchBit, searchBit, romTakes, searchSends, romSends, romInRange};
+
+// A step of the ROM level, with what it needs to go on.
+pub enum RomStep {
+    // the ROM command: bits taken so far, and the register that they fill
+    Command { count: u8, bits: u8 },
+    // Read ROM: the place of the bit to send
+    Read { place: u8 },
+    // Match ROM: the place of the bit to take
+    Match { place: u8 },
+    // Search ROM: the place, and at it 0 the bit, 1 its complement, 2 the bit to take
+    Search { place: u8, step: u8 },
+}
+
+// Where a slot leads from a step.
+pub enum RomNext {
+    Wait,
+    Step(RomStep),
+    Function,
+}
+
+// Where a slot leads, and RC.
+pub struct Rom {
+    pub next: RomNext,
+    pub rc: bool,
+}
+
+// What a ROM command does, once its eight bits are in.
+pub fn command(rc: bool, b: u8) -> Rom
+    ensures { λ r. ⌜ r ≡ commandOf rc b ⌝ }
+{
+    if b == 0x33 {
+        return Rom {
+            next: RomNext::Step(RomStep::Read { place: 0 }),
+            rc: false,
+        };
+    }
+    if b == 0x55 {
+        return Rom {
+            next: RomNext::Step(RomStep::Match { place: 0 }),
+            rc: false,
+        };
+    }
+    if b == 0xF0 {
+        return Rom {
+            next: RomNext::Step(RomStep::Search { place: 0, step: 0 }),
+            rc: false,
+        };
+    }
+    if b == 0xCC {
+        return Rom {
+            next: RomNext::Function,
+            rc: false,
+        };
+    }
+    if b == 0xA5 {
+        if rc {
+            return Rom {
+                next: RomNext::Function,
+                rc: rc,
+            };
+        }
+        return Rom {
+            next: RomNext::Wait,
+            rc: rc,
+        };
+    }
+    Rom {
+        next: RomNext::Wait,
+        rc: rc,
+    }
+}
+
+// A bit of the ROM command.
+pub fn command_bit(rc: bool, count: u8, bits: u8, v: bool) -> Rom
+    ensures { λ r. ⌜ r ≡ commandBit rc count bits v ⌝ }
+{
+    let b = base::filled8(bits, v);
+    if count < 7 {
+        return Rom {
+            next: RomNext::Step(RomStep::Command {
+                count: count + 1,
+                bits: b,
+            }),
+            rc: rc,
+        };
+    }
+    command(rc, b)
+}
+
+// A bit of the code was sent.
+pub fn read_bit(rc: bool, place: u8) -> Rom
+    ensures { λ r. ⌜ r ≡ readBit rc place ⌝ }
+{
+    if place < 63 {
+        return Rom {
+            next: RomNext::Step(RomStep::Read { place: place + 1 }),
+            rc: rc,
+        };
+    }
+    Rom {
+        next: RomNext::Function,
+        rc: rc,
+    }
+}
+
+// A bit of Match ROM.
+pub fn match_bit(code: u64, rc: bool, place: u8, v: bool) -> Rom
+    ensures { λ r. ⌜ r ≡ matchBit code rc place v ⌝ }
+{
+    let own = base::bit_of(code, place);
+    if base::is_same(own, v) {
+        if place < 63 {
+            return Rom {
+                next: RomNext::Step(RomStep::Match { place: place + 1 }),
+                rc: rc,
+            };
+        }
+        return Rom {
+            next: RomNext::Function,
+            rc: true,
+        };
+    }
+    Rom {
+        next: RomNext::Wait,
+        rc: rc,
+    }
+}
+
+// A slot of Search ROM.
+pub fn search_bit(code: u64, rc: bool, place: u8, step: u8, v: bool) -> Rom
+    ensures { λ r. ⌜ r ≡ searchBit code rc place step v ⌝ }
+{
+    if step < 2 {
+        return Rom {
+            next: RomNext::Step(RomStep::Search {
+                place: place,
+                step: step + 1,
+            }),
+            rc: rc,
+        };
+    }
+    let own = base::bit_of(code, place);
+    if base::is_same(own, v) {
+        if place < 63 {
+            return Rom {
+                next: RomNext::Step(RomStep::Search {
+                    place: place + 1,
+                    step: 0,
+                }),
+                rc: rc,
+            };
+        }
+        return Rom {
+            next: RomNext::Function,
+            rc: true,
+        };
+    }
+    Rom {
+        next: RomNext::Wait,
+        rc: rc,
+    }
+}
+
+// What a slot of the value v does at a step.
+pub fn takes(code: u64, rc: bool, v: bool, s: RomStep) -> Rom
+    ensures { λ r. ⌜ r ≡ romTakes code rc v s ⌝ }
+{
+    match s {
+        RomStep::Command { count, bits } => command_bit(rc, count, bits, v),
+        RomStep::Read { place } => read_bit(rc, place),
+        RomStep::Match { place } => match_bit(code, rc, place, v),
+        RomStep::Search { place, step } => search_bit(code, rc, place, step, v),
+    }
+}
+
+// What Search ROM sends: the bit, its complement, and nothing while the chip takes one.
+pub fn search_sends(code: u64, place: u8, step: u8) -> bool
+    ensures { λ r. ⌜ r ≡ searchSends code place step ⌝ }
+{
+    let own = base::bit_of(code, place);
+    if step == 0 {
+        return own;
+    }
+    if step == 1 {
+        return !own;
+    }
+    true
+}
+
+// What a chip sends in a slot at a step.
+pub fn sends(code: u64, s: RomStep) -> bool
+    ensures { λ r. ⌜ r ≡ romSends code s ⌝ }
+{
+    match s {
+        RomStep::Command { count: _, bits: _ } => true,
+        RomStep::Read { place } => base::bit_of(code, place),
+        RomStep::Match { place: _ } => true,
+        RomStep::Search { place, step } => search_sends(code, place, step),
+    }
+}
+
+// Whether a step's count and places lie inside it.
+pub fn in_range(s: RomStep) -> bool
+    ensures { λ r. ⌜ r ≡ romInRange s ⌝ }
+{
+    match s {
+        RomStep::Command { count, bits: _ } => count < 8,
+        RomStep::Read { place } => place < 64,
+        RomStep::Match { place } => place < 64,
+        RomStep::Search { place, step } => base::are_both(place < 64, step < 3),
+    }
+}

@@ -1,0 +1,217 @@
+-- Document 01, "DS28EC20": the commands 0Fh, AAh, 55h and F0h, slot by slot. What a slot does to the memory and the
+-- scratchpad is answered as a deed, and what a slot sees of them is handed in as a sight.
+use Prim.Native.Nat.{ℕ, _+_, _*_, _/_, _%_}
+use mathlib.Core.Bool.{Bool, true, false, not}
+use lib.Dec.{eqb, ltb, leb}
+use Rattle.base.specs.Pick.{pick}
+use Rattle.base.specs.Bits.{bitOf, both, filled}
+use Rattle.crc.specs.Crc.{poly16, crcByte}
+use Rattle.scratchpad.specs.Registers.{registers, pf, withE, withPF, withAA, targetOf, ruleOfByte}
+use Rattle.scratchpad.specs.declared.Registers.{Registers}
+use Rattle.scratchpad.specs.declared.Sight.{Sight}
+use Rattle.scratchpad.specs.declared.MemoryStep.{MemoryStep}
+use Rattle.scratchpad.specs.declared.Deed.{Deed}
+use Rattle.scratchpad.specs.declared.Deed.the-variants.{Nothing, Put, Copy}
+use Rattle.scratchpad.specs.declared.MemoryPhase.{MemoryPhase}
+use Rattle.scratchpad.specs.declared.MemoryPhase.the-variants.{Ones, WriteAddress, WriteData, SendCrc, ReadRegisters, ReadPad, CopyAddress, CopyEnd, Copied, ReadAddress, ReadMemory}
+
+-- where a slot leaves the part, and what it does to memory and scratchpad
+abbrev pub step : Registers → MemoryPhase → Deed → MemoryStep
+step r p d = record { registers = r; phase = p; deed = d }
+
+-- the function command b, once its eight bits are in; "Any other, the sheet's Extended Read Memory (A5h) too: ones until reset (here)."
+unfoldable pub memoryFunction : ℕ → MemoryPhase
+memoryFunction b =
+    pick (eqb b 0x0F) (WriteAddress 0 0)
+    (pick (eqb b 0xAA) (ReadRegisters 0)
+    (pick (eqb b 0x55) (CopyAddress 0 0)
+    (pick (eqb b 0xF0) (ReadAddress 0 0)
+    Ones)))
+
+-- the CRC-16 of a command and the two bytes of T
+unfoldable pub crcOfAddress : ℕ → ℕ → ℕ
+crcOfAddress command t = crcByte poly16 (crcByte poly16 (crcByte poly16 0 command) (t % 256)) (t / 256)
+
+-- 0Fh: "When all 16 address bits are in, T is set, E = T mod 32, PF = AA = 0."
+unfoldable pub addressIn : ℕ → MemoryStep
+addressIn t = step (registers t (t % 32)) (WriteData (t % 32) 0 0 (crcOfAddress 0x0F t)) Nothing
+
+-- 0Fh, a bit of the address: "A cut before that changes nothing."
+unfoldable pub writeAddress : Registers → ℕ → ℕ → Bool → MemoryStep
+writeAddress r count bits v =
+    pick (ltb count 15) (step r (WriteAddress (count + 1) (filled 0x8000 bits v)) Nothing)
+    (addressIn (targetOf (filled 0x8000 bits v)))
+
+-- 0Fh: "After offset 31 the chip sends the CRC-16"
+unfoldable pub afterByte : ℕ → ℕ → MemoryPhase
+afterByte offset crc = pick (ltb offset 31) (WriteData (offset + 1) 0 0 crc) (SendCrc 0 crc)
+
+-- 0Fh: "Each whole byte passes the rule of a byte into the scratchpad and sets E to its offset"; the CRC-16 is
+-- "of command, address and data as it took them, before the rule of a byte"
+unfoldable pub byteIn : Registers → ℕ → ℕ → ℕ → Sight → MemoryStep
+byteIn r offset b crc see =
+    step (registers (r .t) (withE (r .es) offset)) (afterByte offset (crcByte poly16 crc b))
+    (Put offset (ruleOfByte (see .held) (see .falls) (see .memory) b))
+
+-- 0Fh, a bit of a data byte
+unfoldable pub writeData : Registers → ℕ → ℕ → ℕ → ℕ → Bool → Sight → MemoryStep
+writeData r offset count bits crc v see =
+    pick (ltb count 7) (step r (WriteData offset (count + 1) (filled 0x80 bits v) crc) Nothing)
+    (byteIn r offset (filled 0x80 bits v) crc see)
+
+-- a bit of a CRC-16 was sent; "then ones"
+unfoldable pub crcSent : ℕ → ℕ → MemoryPhase
+crcSent place crc = pick (ltb place 15) (SendCrc (place + 1) crc) Ones
+
+-- AAh: the registers were sent, and "the scratchpad from T mod 32 to 31" comes next
+unfoldable pub padBegins : Registers → MemoryPhase
+padBegins r = ReadPad (r .t % 32) 0 (crcByte poly16 (crcOfAddress 0xAA (r .t)) (r .es))
+
+-- AAh, a bit of "TA1, TA2, E/S" was sent
+unfoldable pub registerSent : Registers → ℕ → MemoryPhase
+registerSent r place = pick (ltb place 23) (ReadRegisters (place + 1)) (padBegins r)
+
+-- AAh, a byte of the scratchpad was sent; after the last, "the CRC-16 of the command and all that, then ones"
+unfoldable pub padByteSent : ℕ → ℕ → MemoryPhase
+padByteSent offset crc = pick (ltb offset 31) (ReadPad (offset + 1) 0 crc) (SendCrc 0 crc)
+
+-- AAh, a bit of the scratchpad was sent
+unfoldable pub padSent : ℕ → ℕ → ℕ → Sight → MemoryPhase
+padSent offset count crc see =
+    pick (ltb count 7) (ReadPad offset (count + 1) crc)
+    (padByteSent offset (crcByte poly16 crc (see .pad)))
+
+-- 55h, a bit of the first two bytes
+unfoldable pub copyAddress : ℕ → ℕ → Bool → MemoryPhase
+copyAddress count bits v =
+    pick (ltb count 15) (CopyAddress (count + 1) (filled 0x8000 bits v))
+    (CopyEnd (filled 0x8000 bits v) 0 0)
+
+-- 55h: "If they equal TA1, TA2, E/S, and PF = 0, and T's page isn't closed, the copy is carried out"
+unfoldable pub carriedOut : Registers → ℕ → ℕ → Sight → Bool
+carriedOut r address end see =
+    both (both (eqb address (r .t)) (eqb end (r .es))) (both (not (pf (r .es))) (not (see .closed)))
+
+-- 55h, the three bytes are in: a copy from T mod 32 to E, "AA = 1; the chip sends 0, 1, 0, 1 until reset. Otherwise ones, and AA stays."
+unfoldable pub authorized : Registers → ℕ → ℕ → Sight → MemoryStep
+authorized r address end see =
+    pick (carriedOut r address end see)
+    (step (registers (r .t) (withAA (r .es))) (Copied false) (Copy (r .t) (r .es % 32)))
+    (step r Ones Nothing)
+
+-- 55h, a bit of the third byte
+unfoldable pub copyEnd : Registers → ℕ → ℕ → ℕ → Bool → Sight → MemoryStep
+copyEnd r address count bits v see =
+    pick (ltb count 7) (step r (CopyEnd address (count + 1) (filled 0x80 bits v)) Nothing)
+    (authorized r address (filled 0x80 bits v) see)
+
+-- F0h: "bytes up to the last address, then ones"
+unfoldable pub readFrom : ℕ → ℕ → MemoryPhase
+readFrom address last = pick (leb address last) (ReadMemory address 0) Ones
+
+-- F0h, a bit of the address
+unfoldable pub readAddress : ℕ → ℕ → Bool → Sight → MemoryPhase
+readAddress count bits v see =
+    pick (ltb count 15) (ReadAddress (count + 1) (filled 0x8000 bits v))
+    (readFrom (filled 0x8000 bits v) (see .last))
+
+-- F0h, a bit of a byte was sent
+unfoldable pub memorySent : ℕ → ℕ → Sight → MemoryPhase
+memorySent address count see =
+    pick (ltb count 7) (ReadMemory address (count + 1))
+    (pick (ltb address (see .last)) (ReadMemory (address + 1) 0) Ones)
+
+-- what a slot of the value v does at each phase; a sending chip moves on whatever the value
+abbrev pub memoryTakes : Registers → Bool → Sight → MemoryPhase → MemoryStep
+memoryTakes r v see Ones = step r Ones Nothing
+memoryTakes r v see (WriteAddress count bits) = writeAddress r count bits v
+memoryTakes r v see (WriteData offset count bits crc) = writeData r offset count bits crc v see
+memoryTakes r v see (SendCrc place crc) = step r (crcSent place crc) Nothing
+memoryTakes r v see (ReadRegisters place) = step r (registerSent r place) Nothing
+memoryTakes r v see (ReadPad offset count crc) = step r (padSent offset count crc see) Nothing
+memoryTakes r v see (CopyAddress count bits) = step r (copyAddress count bits v) Nothing
+memoryTakes r v see (CopyEnd address count bits) = copyEnd r address count bits v see
+memoryTakes r v see (Copied answer) = step r (Copied (not answer)) Nothing
+memoryTakes r v see (ReadAddress count bits) = step r (readAddress count bits v see) Nothing
+memoryTakes r v see (ReadMemory address count) = step r (memorySent address count see) Nothing
+
+-- what a chip sends in a slot at each phase; a CRC-16 goes "inverted, low byte first"
+abbrev pub memorySends : Registers → Sight → MemoryPhase → Bool
+memorySends r see Ones = true
+memorySends r see (WriteAddress count bits) = true
+memorySends r see (WriteData offset count bits crc) = true
+memorySends r see (SendCrc place crc) = not (bitOf crc place)
+memorySends r see (ReadRegisters place) = bitOf (r .t + 65536 * r .es) place
+memorySends r see (ReadPad offset count crc) = bitOf (see .pad) count
+memorySends r see (CopyAddress count bits) = true
+memorySends r see (CopyEnd address count bits) = true
+memorySends r see (Copied answer) = answer
+memorySends r see (ReadAddress count bits) = true
+memorySends r see (ReadMemory address count) = bitOf (see .memory) count
+
+-- "A reset inside a data byte sets PF; its bits are lost, E stays (here)."
+unfoldable pub cutOf : Registers → ℕ → Registers
+cutOf r count = pick (ltb 0 count) (registers (r .t) (withPF (r .es))) r
+
+-- what a reset does to the registers at each phase
+abbrev pub memoryReset : Registers → MemoryPhase → Registers
+memoryReset r Ones = r
+memoryReset r (WriteAddress count bits) = r
+memoryReset r (WriteData offset count bits crc) = cutOf r count
+memoryReset r (SendCrc place crc) = r
+memoryReset r (ReadRegisters place) = r
+memoryReset r (ReadPad offset count crc) = r
+memoryReset r (CopyAddress count bits) = r
+memoryReset r (CopyEnd address count bits) = r
+memoryReset r (Copied answer) = r
+memoryReset r (ReadAddress count bits) = r
+memoryReset r (ReadMemory address count) = r
+
+-- "every bit count and place inside its step"; last is the last address that Read Memory reads
+abbrev pub memoryInRange : ℕ → MemoryPhase → Bool
+memoryInRange last Ones = true
+memoryInRange last (WriteAddress count bits) = ltb count 16
+memoryInRange last (WriteData offset count bits crc) = both (ltb offset 32) (ltb count 8)
+memoryInRange last (SendCrc place crc) = ltb place 16
+memoryInRange last (ReadRegisters place) = ltb place 24
+memoryInRange last (ReadPad offset count crc) = both (ltb offset 32) (ltb count 8)
+memoryInRange last (CopyAddress count bits) = ltb count 16
+memoryInRange last (CopyEnd address count bits) = ltb count 8
+memoryInRange last (Copied answer) = true
+memoryInRange last (ReadAddress count bits) = ltb count 16
+memoryInRange last (ReadMemory address count) = both (leb address last) (ltb count 8)
+
+-- "E/S bit 6 zero"
+unfoldable pub registersInRange : Registers → Bool
+registersInRange r = not (bitOf (r .es) 6)
+
+-- the address in memory that a phase has at hand: a data byte's own, or the one that is read
+unfoldable pub inPage : ℕ → ℕ → ℕ
+inPage t offset = t / 32 * 32 + offset
+
+abbrev pub addressAtHand : ℕ → MemoryPhase → ℕ
+addressAtHand t Ones = t
+addressAtHand t (WriteAddress count bits) = t
+addressAtHand t (WriteData offset count bits crc) = inPage t offset
+addressAtHand t (SendCrc place crc) = t
+addressAtHand t (ReadRegisters place) = t
+addressAtHand t (ReadPad offset count crc) = t
+addressAtHand t (CopyAddress count bits) = t
+addressAtHand t (CopyEnd address count bits) = t
+addressAtHand t (Copied answer) = t
+addressAtHand t (ReadAddress count bits) = t
+addressAtHand t (ReadMemory address count) = address
+
+-- the offset in the scratchpad that a phase has at hand
+abbrev pub offsetAtHand : MemoryPhase → ℕ
+offsetAtHand Ones = 0
+offsetAtHand (WriteAddress count bits) = 0
+offsetAtHand (WriteData offset count bits crc) = offset
+offsetAtHand (SendCrc place crc) = 0
+offsetAtHand (ReadRegisters place) = 0
+offsetAtHand (ReadPad offset count crc) = offset
+offsetAtHand (CopyAddress count bits) = 0
+offsetAtHand (CopyEnd address count bits) = 0
+offsetAtHand (Copied answer) = 0
+offsetAtHand (ReadAddress count bits) = 0
+offsetAtHand (ReadMemory address count) = 0
