@@ -1,3 +1,4 @@
 pub mod Pick
 pub mod Bits
 pub mod Rules
+pub mod Fill

@@ -1,6 +1,6 @@
 // Bits, registers and bytes of slices: what every other crate uses. Each function answers for every input.
 ghost use mathlib.Core.Path.{_≡_};
-ghost use lib.ListN.{getD, set};
+ghost use lib.ListN.{length, getD, set, replicate};
 ghost use Rattle.base.specs.Bits.{bitOf, same, both, filled};
 
 // Bit k of a number; past the 64th there is none.
@@ -55,5 +55,16 @@ pub fn put_at(s: &mut [u8], i: usize, b: u8)
 {
     if i < s.len() {
         s[i] = b;
+    }
+}
+
+// Every byte of a slice set to one value.
+pub fn fill(s: &mut [u8], b: u8)
+    ensures { λ r. ⌜ now (s .exit) ≡ replicate (length (now (s .entry))) b ⌝ }
+{
+    let mut i = 0;
+    while i < s.len() {
+        s[i] = b;
+        i += 1;
     }
 }

@@ -4,18 +4,18 @@ use mathlib.Core.Bool.{Bool, true, false, not}
 use lib.Dec.{eqb, ltb}
 use Rattle.base.specs.Pick.{pick}
 use Rattle.base.specs.Bits.{bitOf, same, both, filled}
-use Rattle.rom.specs.declared.Rom.{Rom}
+use Rattle.rom.specs.declared.RomResult.{RomResult}
 use Rattle.rom.specs.declared.RomNext.{RomNext}
 use Rattle.rom.specs.declared.RomNext.the-variants.{Wait, Step, Function}
 use Rattle.rom.specs.declared.RomStep.{RomStep}
 use Rattle.rom.specs.declared.RomStep.the-variants.{Command, Read, Match, Search}
 
 -- where a slot leaves the chip, and RC
-abbrev pub rom : RomNext → Bool → Rom
+abbrev pub rom : RomNext → Bool → RomResult
 rom next rc = record { next = next; rc = rc }
 
 -- the ROM command b, once its eight bits are in
-unfoldable pub commandOf : Bool → ℕ → Rom
+unfoldable pub commandOf : Bool → ℕ → RomResult
 commandOf rc b =
     -- "33h: RC = 0, send the 64 bits, go to the function level."
     pick (eqb b 0x33) (rom (Step (Read 0)) false)
@@ -31,24 +31,24 @@ commandOf rc b =
     (rom Wait rc)))))
 
 -- "After a reset every chip takes 8 bits, least significant first."
-unfoldable pub commandBit : Bool → ℕ → ℕ → Bool → Rom
+unfoldable pub commandBit : Bool → ℕ → ℕ → Bool → RomResult
 commandBit rc count bits v =
     pick (ltb count 7) (rom (Step (Command (count + 1) (filled 0x80 bits v))) rc)
     (commandOf rc (filled 0x80 bits v))
 
 -- a bit of the code was sent; after the 64th comes the function level
-unfoldable pub readBit : Bool → ℕ → Rom
+unfoldable pub readBit : Bool → ℕ → RomResult
 readBit rc place = pick (ltb place 63) (rom (Step (Read (place + 1))) rc) (rom Function rc)
 
 -- "At the first that differs, wait for reset. After the 64th, RC = 1 and function level."
-unfoldable pub matchBit : ℕ → Bool → ℕ → Bool → Rom
+unfoldable pub matchBit : ℕ → Bool → ℕ → Bool → RomResult
 matchBit code rc place v =
     pick (same (bitOf code place) v)
     (pick (ltb place 63) (rom (Step (Match (place + 1))) rc) (rom Function true))
     (rom Wait rc)
 
 -- steps 0 and 1 send the bit and its complement, step 2 takes one: "a different one means wait. After the 64th, RC = 1 and function level."
-unfoldable pub searchBit : ℕ → Bool → ℕ → ℕ → Bool → Rom
+unfoldable pub searchBit : ℕ → Bool → ℕ → ℕ → Bool → RomResult
 searchBit code rc place step v =
     pick (ltb step 2) (rom (Step (Search place (step + 1))) rc)
     (pick (same (bitOf code place) v)
@@ -56,7 +56,7 @@ searchBit code rc place step v =
     (rom Wait rc))
 
 -- what a slot of the value v does at each step
-abbrev pub romTakes : ℕ → Bool → Bool → RomStep → Rom
+abbrev pub romTakes : ℕ → Bool → Bool → RomStep → RomResult
 romTakes code rc v (Command count bits) = commandBit rc count bits v
 romTakes code rc v (Read place) = readBit rc place
 romTakes code rc v (Match place) = matchBit code rc place v

@@ -22,64 +22,64 @@ pub enum RomNext {
 }
 
 // Where a slot leads, and RC.
-pub struct Rom {
+pub struct RomResult {
     pub next: RomNext,
     pub rc: bool,
 }
 
 // What a ROM command does, once its eight bits are in.
-pub fn command(rc: bool, b: u8) -> Rom
+pub fn command(rc: bool, b: u8) -> RomResult
     ensures { λ r. ⌜ r ≡ commandOf rc b ⌝ }
 {
     if b == 0x33 {
-        return Rom {
+        return RomResult {
             next: RomNext::Step(RomStep::Read { place: 0 }),
             rc: false,
         };
     }
     if b == 0x55 {
-        return Rom {
+        return RomResult {
             next: RomNext::Step(RomStep::Match { place: 0 }),
             rc: false,
         };
     }
     if b == 0xF0 {
-        return Rom {
+        return RomResult {
             next: RomNext::Step(RomStep::Search { place: 0, step: 0 }),
             rc: false,
         };
     }
     if b == 0xCC {
-        return Rom {
+        return RomResult {
             next: RomNext::Function,
             rc: false,
         };
     }
     if b == 0xA5 {
         if rc {
-            return Rom {
+            return RomResult {
                 next: RomNext::Function,
                 rc: rc,
             };
         }
-        return Rom {
+        return RomResult {
             next: RomNext::Wait,
             rc: rc,
         };
     }
-    Rom {
+    RomResult {
         next: RomNext::Wait,
         rc: rc,
     }
 }
 
 // A bit of the ROM command.
-pub fn command_bit(rc: bool, count: u8, bits: u8, v: bool) -> Rom
+pub fn command_bit(rc: bool, count: u8, bits: u8, v: bool) -> RomResult
     ensures { λ r. ⌜ r ≡ commandBit rc count bits v ⌝ }
 {
     let b = base::filled8(bits, v);
     if count < 7 {
-        return Rom {
+        return RomResult {
             next: RomNext::Step(RomStep::Command {
                 count: count + 1,
                 bits: b,
@@ -91,50 +91,50 @@ pub fn command_bit(rc: bool, count: u8, bits: u8, v: bool) -> Rom
 }
 
 // A bit of the code was sent.
-pub fn read_bit(rc: bool, place: u8) -> Rom
+pub fn read_bit(rc: bool, place: u8) -> RomResult
     ensures { λ r. ⌜ r ≡ readBit rc place ⌝ }
 {
     if place < 63 {
-        return Rom {
+        return RomResult {
             next: RomNext::Step(RomStep::Read { place: place + 1 }),
             rc: rc,
         };
     }
-    Rom {
+    RomResult {
         next: RomNext::Function,
         rc: rc,
     }
 }
 
 // A bit of Match ROM.
-pub fn match_bit(code: u64, rc: bool, place: u8, v: bool) -> Rom
+pub fn match_bit(code: u64, rc: bool, place: u8, v: bool) -> RomResult
     ensures { λ r. ⌜ r ≡ matchBit code rc place v ⌝ }
 {
     let own = base::bit_of(code, place);
     if base::is_same(own, v) {
         if place < 63 {
-            return Rom {
+            return RomResult {
                 next: RomNext::Step(RomStep::Match { place: place + 1 }),
                 rc: rc,
             };
         }
-        return Rom {
+        return RomResult {
             next: RomNext::Function,
             rc: true,
         };
     }
-    Rom {
+    RomResult {
         next: RomNext::Wait,
         rc: rc,
     }
 }
 
 // A slot of Search ROM.
-pub fn search_bit(code: u64, rc: bool, place: u8, step: u8, v: bool) -> Rom
+pub fn search_bit(code: u64, rc: bool, place: u8, step: u8, v: bool) -> RomResult
     ensures { λ r. ⌜ r ≡ searchBit code rc place step v ⌝ }
 {
     if step < 2 {
-        return Rom {
+        return RomResult {
             next: RomNext::Step(RomStep::Search {
                 place: place,
                 step: step + 1,
@@ -145,7 +145,7 @@ pub fn search_bit(code: u64, rc: bool, place: u8, step: u8, v: bool) -> Rom
     let own = base::bit_of(code, place);
     if base::is_same(own, v) {
         if place < 63 {
-            return Rom {
+            return RomResult {
                 next: RomNext::Step(RomStep::Search {
                     place: place + 1,
                     step: 0,
@@ -153,19 +153,19 @@ pub fn search_bit(code: u64, rc: bool, place: u8, step: u8, v: bool) -> Rom
                 rc: rc,
             };
         }
-        return Rom {
+        return RomResult {
             next: RomNext::Function,
             rc: true,
         };
     }
-    Rom {
+    RomResult {
         next: RomNext::Wait,
         rc: rc,
     }
 }
 
 // What a slot of the value v does at a step.
-pub fn takes(code: u64, rc: bool, v: bool, s: RomStep) -> Rom
+pub fn takes(code: u64, rc: bool, v: bool, s: RomStep) -> RomResult
     ensures { λ r. ⌜ r ≡ romTakes code rc v s ⌝ }
 {
     match s {
