@@ -2,3 +2,4 @@ pub mod Pick
 pub mod Bits
 pub mod Rules
 pub mod Fill
+pub mod Both
