@@ -13,6 +13,8 @@ use Rattle.chip.specs.declared.Level.the-variants.{Waiting}
 use Rattle.line.specs.Line.{busBit, lineAfter}
 use Rattle.line.specs.Layout.{imagesSize, padsSize, lineOf, Lent, lent, lentFrom}
 use Rattle.line.specs.declared.Event.{Event}
+use Rattle.line.specs.declared.Standing.{Standing}
+use Rattle.line.specs.declared.Standing.the-variants as standing
 use Rattle.line.specs.declared.Answer.{Answer}
 use Rattle.line.specs.declared.Answer.the-variants.{Bit, OutOfRange, WrongSize, NoSuchEvent, NoSuchLevels}
 
@@ -46,6 +48,13 @@ tableInRange n cs = pick (leb n 16) (allInRange (take n cs)) false
 unfoldable pub sizesFit : ℕ → List Chip → List ℕ → List ℕ → Bool
 sizesFit n cs ms ss = both (eqb (length ms) (imagesSize (take n cs))) (eqb (length ss) (padsSize (take n cs)))
 
+-- how a table and its buffers stand: 8, then 5
+unfoldable pub standingOf : ℕ → List Chip → List ℕ → List ℕ → Standing
+standingOf n cs ms ss =
+    pick (tableInRange n cs)
+    (pick (sizesFit n cs ms ss) standing.Fine standing.WrongSize)
+    standing.OutOfRange
+
 -- not 7: "event 4 names an absent chip, one of kind 1, or levels over 3"
 unfoldable pub levelsFit : Event → ℕ → List Chip → Bool
 levelsFit e n cs =
@@ -73,15 +82,20 @@ unfoldable pub happens : ℕ → List Chip → Event → List ℕ → List ℕ �
 happens n cs e ms ss =
     outcome (bit (busBit e (lineOf n cs ms ss))) n (lentFrom n cs (lineAfter e (lineOf n cs ms ss)))
 
+-- an event on a table that stands well: 6, then 7
+unfoldable pub acceptedOf : ℕ → List Chip → Event → List ℕ → List ℕ → Outcome
+acceptedOf n cs e ms ss =
+    pick (leb (e .number) 4)
+    (pick (levelsFit e n cs)
+    (happens n cs e ms ss)
+    (outcome (refused 7) n (lent cs ms ss)))
+    (outcome (refused 6) n (lent cs ms ss))
+
 -- "Event: 8, 5, 6, 7.", each with nothing changed
 unfoldable pub eventOf : ℕ → List Chip → Event → List ℕ → List ℕ → Outcome
 eventOf n cs e ms ss =
     pick (tableInRange n cs)
     (pick (sizesFit n cs ms ss)
-    (pick (leb (e .number) 4)
-    (pick (levelsFit e n cs)
-    (happens n cs e ms ss)
-    (outcome (refused 7) n (lent cs ms ss)))
-    (outcome (refused 6) n (lent cs ms ss)))
+    (acceptedOf n cs e ms ss)
     (outcome (refused 5) n (lent cs ms ss)))
     (outcome (refused 8) n (lent cs ms ss))

@@ -17,10 +17,12 @@ use Rattle.chip.specs.Range.{imageSize, padSize}
 use Rattle.chip.specs.declared.Chip.{Chip}
 use Rattle.line.specs.Line.{valueOf, absent, actOf, levelsAt, slotValue, busBit, lineAfter}
 use Rattle.line.specs.Layout.{imagesSize, padsSize, split, chipsOf, imagesOf, padsOf, Lent, lent, lineOf, lentFrom}
-use Rattle.line.specs.Event.{Answered, bit, refused, noChip, tableInRange, allInRange, sizesFit, levelsFit, Fits, Outcome, outcome, happens, eventOf}
+use Rattle.line.specs.Event.{Answered, bit, refused, noChip, tableInRange, allInRange, sizesFit, levelsFit, Fits, Outcome, outcome, happens, acceptedOf, eventOf, standingOf}
 use Rattle.line.specs.Sizes.{act-sized}
 use Rattle.line.specs.Bridge.{each, eachBit, each-means, bits-mean}
 use Rattle.line.specs.declared.Event.{Event}
+use Rattle.line.specs.declared.Standing.{Standing}
+use Rattle.line.specs.declared.Standing.the-variants as standing
 use Rattle.line.specs.declared.Act.{Act}
 use Rattle.line.specs.declared.Act.the-variants.{Take, Reset, PowerOn}
 
@@ -145,12 +147,58 @@ module _ (n : ℕ) (cs : List Chip) (e : Event) (ms ss : List ℕ) (l : n ≤ le
       (λ j. outcome (p j) (q j) (lent ((r ∙ a) j) (b j) (d j)))
       ∙ (simp (le-ltb (e .number) 2 (omega arith), ne-eqb (e .number) 2 (λ (p : e .number ≡ 2). omega arith), ne-eqb (e .number) 3 (λ (p : e .number ≡ 3). omega arith), pick-false))
 
--- an event, from what it is judged by
-module _ (n : ℕ) (cs : List Chip) (e : Event) (ms ss : List ℕ) (p : tableInRange n cs ≡ true) (q : sizesFit n cs ms ss ≡ true) (r : e .number ≤ 4) where
-  pub event-happens : levelsFit e n cs ≡ true → happens n cs e ms ss ≡ eventOf n cs e ms ss
-  unfolding eventOf
-  event-happens s = simp (p, q, le-leb (e .number) 4 r, s, pick-true)
+-- what a standing says
+stands : (s t : Bool) (q : Standing) → q ≡ pick s (pick t standing.Fine standing.WrongSize) standing.OutOfRange
+    → ((q ≡ standing.Fine → (s ≡ true) × (t ≡ true)) × (q ≡ standing.WrongSize → (s ≡ true) × (t ≡ false)) × (q ≡ standing.OutOfRange → s ≡ false))
+unfolding pick
+stands true true q e = ((λ f. (refl, refl)), (λ f. absurd (other (sym e ∙ f))), (λ f. absurd (other′ (sym e ∙ f))))
+  where
+    other : standing.Fine ≡ standing.WrongSize → ⊥
+    other z = let y : _≡_ {A = ℕ} 0 1 = cc in omega arith
 
-  pub event-levels : levelsFit e n cs ≡ false → outcome (refused 7) n (lent cs ms ss) ≡ eventOf n cs e ms ss
-  unfolding eventOf
-  event-levels s = simp (p, q, le-leb (e .number) 4 r, s, pick-true, pick-false)
+    other′ : standing.Fine ≡ standing.OutOfRange → ⊥
+    other′ z = let y : _≡_ {A = ℕ} 0 1 = cc in omega arith
+stands true false q e = ((λ f. absurd (other (sym e ∙ f))), (λ f. (refl, refl)), (λ f. absurd (other′ (sym e ∙ f))))
+  where
+    other : standing.WrongSize ≡ standing.Fine → ⊥
+    other z = let y : _≡_ {A = ℕ} 0 1 = cc in omega arith
+
+    other′ : standing.WrongSize ≡ standing.OutOfRange → ⊥
+    other′ z = let y : _≡_ {A = ℕ} 0 1 = cc in omega arith
+stands false t q e = ((λ f. absurd (other (sym e ∙ f))), (λ f. absurd (other′ (sym e ∙ f))), (λ f. refl))
+  where
+    other : standing.OutOfRange ≡ standing.Fine → ⊥
+    other z = let y : _≡_ {A = ℕ} 0 1 = cc in omega arith
+
+    other′ : standing.OutOfRange ≡ standing.WrongSize → ⊥
+    other′ z = let y : _≡_ {A = ℕ} 0 1 = cc in omega arith
+
+module _ (n : ℕ) (cs : List Chip) (ms ss : List ℕ) (q : Standing) (h : q ≡ standingOf n cs ms ss) where
+  pub stands-fine : q ≡ standing.Fine → (tableInRange n cs ≡ true) × (sizesFit n cs ms ss ≡ true)
+  unfolding standingOf
+  stands-fine = stands (tableInRange n cs) (sizesFit n cs ms ss) q h .0
+
+  pub stands-size : q ≡ standing.WrongSize → (tableInRange n cs ≡ true) × (sizesFit n cs ms ss ≡ false)
+  unfolding standingOf
+  stands-size = stands (tableInRange n cs) (sizesFit n cs ms ss) q h .1
+
+  pub stands-range : q ≡ standing.OutOfRange → tableInRange n cs ≡ false
+  unfolding standingOf
+  stands-range = stands (tableInRange n cs) (sizesFit n cs ms ss) q h .2
+
+  pub stands-fit : q ≡ standing.Fine → Fits n cs ms ss
+  stands-fit f = let b = stands-fine f in fit n cs ms ss (b .0) (b .1)
+
+  -- an event, by how the table stands
+  module _ (e : Event) where
+    pub event-range : q ≡ standing.OutOfRange → outcome (refused 8) n (lent cs ms ss) ≡ eventOf n cs e ms ss
+    unfolding eventOf
+    event-range f = simp (stands-range f, pick-false)
+
+    pub event-size : q ≡ standing.WrongSize → outcome (refused 5) n (lent cs ms ss) ≡ eventOf n cs e ms ss
+    unfolding eventOf
+    event-size f = let b = stands-size f in simp (b .0, b .1, pick-true, pick-false)
+
+    pub event-accepted : q ≡ standing.Fine → acceptedOf n cs e ms ss ≡ eventOf n cs e ms ss
+    unfolding eventOf
+    event-accepted f = let b = stands-fine f in simp (b .0, b .1, pick-true)

@@ -9,9 +9,7 @@ ghost use Prim.Native.Nat.{_<_, _≤_};
 ghost use lib.ListN.{getD, set};
 ghost use Rattle.chip.specs.Chip.{levelsChip};
 ghost use Rattle.line.specs.Layout.{lent};
-ghost use Rattle.line.specs.Event.{bit, answered, noChip, levelsFit, Fits, outcome, happens, eventOf};
-ghost use Rattle.line.specs.Bridge.{each};
-ghost use Rattle.line.specs.Line.{actOf};
+ghost use Rattle.line.specs.Event.{bit, answered, noChip, levelsFit, Fits, outcome, happens, acceptedOf, eventOf, standingOf};
 
 // The table: the first n places hold the attached chips.
 pub struct Table {
@@ -37,6 +35,13 @@ pub enum Answer {
     NoSuchEvent,
     // refusal 7
     NoSuchLevels,
+}
+
+// How a table and its buffers stand.
+pub enum Standing {
+    Fine,
+    WrongSize,
+    OutOfRange,
 }
 
 // What an event answers, and the table that it leaves.
@@ -133,35 +138,56 @@ fn happen(t: Table, e: Event, ms: &mut [u8], ss: &mut [u8]) -> Happened
     levels(t, e.chip as usize, e.levels as u8)
 }
 
+// An event on a table that stands well: refusals 6 and 7, else the bus bit.
+fn accept(t: Table, e: Event, ms: &mut [u8], ss: &mut [u8]) -> Happened
+    requires { ⌜ Fits (t .n) (t .chips) (now ms) (now ss) ⌝ }
+    ensures { λ r. ⌜ outcome (answered (r .answer)) (r .table .n) (lent (r .table .chips) (now (ms .exit)) (now (ss .exit)))
+        ≡ acceptedOf (t .n) (t .chips) e (now (ms .entry)) (now (ss .entry)) ⌝ }
+{
+    let number = e.number;
+    if number <= 4 {
+        if judged::levels_fit(t, e) {
+            return happen(t, e, ms, ss);
+        }
+        return Happened {
+            answer: Answer::NoSuchLevels,
+            table: t,
+        };
+    }
+    Happened {
+        answer: Answer::NoSuchEvent,
+        table: t,
+    }
+}
+
+// How a table and its buffers stand: refusal 8, then 5.
+pub fn how_stands(t: Table, ms: &[u8], ss: &[u8]) -> Standing
+    ensures { λ r. ⌜ r ≡ standingOf (t .n) (t .chips) (now (ms .entry)) (now (ss .entry)) ⌝ }
+{
+    if judged::in_range(t) {
+        if judged::sizes_fit(t, ms, ss) {
+            return Standing::Fine;
+        }
+        return Standing::WrongSize;
+    }
+    Standing::OutOfRange
+}
+
 // One event: refusals 8, 5, 6 and 7 in this order, each with nothing changed; else the bus bit.
 pub fn take_event(t: Table, e: Event, ms: &mut [u8], ss: &mut [u8]) -> Happened
     ensures { λ r. ⌜ outcome (answered (r .answer)) (r .table .n) (lent (r .table .chips) (now (ms .exit)) (now (ss .exit)))
         ≡ eventOf (t .n) (t .chips) e (now (ms .entry)) (now (ss .entry)) ⌝ }
 {
-    let number = e.number;
-    if judged::in_range(t) {
-        if judged::sizes_fit(t, ms, ss) {
-            if number <= 4 {
-                if judged::levels_fit(t, e) {
-                    return happen(t, e, ms, ss);
-                }
-                return Happened {
-                    answer: Answer::NoSuchLevels,
-                    table: t,
-                };
-            }
-            return Happened {
-                answer: Answer::NoSuchEvent,
-                table: t,
-            };
-        }
-        return Happened {
+    let stands = how_stands(t, ms, ss);
+    match stands {
+        Standing::Fine => accept(t, e, ms, ss),
+        Standing::WrongSize => Happened {
             answer: Answer::WrongSize,
             table: t,
-        };
-    }
-    Happened {
-        answer: Answer::OutOfRange,
-        table: t,
+        },
+        Standing::OutOfRange => Happened {
+            answer: Answer::OutOfRange,
+            table: t,
+        },
     }
 }

@@ -1,0 +1,5 @@
+pub mod Host
+pub mod Search
+pub mod Counts
+pub mod Pass
+pub mod Passes

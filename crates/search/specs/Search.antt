@@ -1,0 +1,74 @@
+-- Document 01, "Search" and "Refusal numbers": the search over a table, its buffers and a lent list, for every input.
+use Prim.Native.Nat.{ℕ}
+use mathlib.Core.Bool.{Bool, true, false}
+use mathlib.Core.List.{List, _++_}
+use lib.ListN.{length, drop}
+use Rattle.base.specs.Pick.{pick}
+use Rattle.chip.specs.declared.Chip.{Chip}
+use Rattle.line.specs.Layout.{Lent, lent}
+use Rattle.line.specs.Event.{Answered, Outcome, eventOf, tableInRange, sizesFit}
+use Rattle.line.specs.declared.Event.{Event}
+use Rattle.search.specs.Host.{Wire, Played, Listed, play, searchHost}
+use Rattle.search.specs.declared.SearchAnswer.{SearchAnswer}
+use Rattle.search.specs.declared.SearchAnswer.the-variants.{Complete, TooFewPlaces, WrongSize, OutOfRange}
+
+-- what a search answers: that the list is complete, or document 01's refusal number
+pub data Searched : Type 0 where
+  complete : Searched
+  refused : ℕ → Searched
+
+abbrev pub searched : SearchAnswer → Searched
+searched Complete = complete
+searched TooFewPlaces = refused 4
+searched WrongSize = refused 5
+searched OutOfRange = refused 8
+
+-- a table of chips with its buffers, as events find and leave it
+pub record Attached : Type 0 where
+  pub count : ℕ
+  pub lent : Lent
+
+abbrev pub attached : ℕ → List Chip → List ℕ → List ℕ → Attached
+attached n cs ms ss = record { count = n; lent = lent cs ms ss }
+
+abbrev pub eventOn : Event → Attached → Outcome
+eventOn e l = eventOf (l .count) (l .lent .chips) e (l .lent .images) (l .lent .pads)
+
+-- what an event answers there, and what it leaves
+unfoldable pub saysOf : Event → Attached → Answered
+saysOf e l = eventOn e l .answer
+
+unfoldable pub leavesOf : Event → Attached → Attached
+leavesOf e l = record { count = eventOn e l .count; lent = eventOn e l .lent }
+
+-- the line's own events as a wire
+abbrev pub wire : Wire
+wire = record { L = Attached; says = saysOf; does = leavesOf }
+
+-- what a search answers, its list, its counts, and the line that it leaves
+pub record Search : Type 0 where
+  pub answer : Searched
+  pub number : ℕ
+  pub list : List ℕ
+  pub resets : ℕ
+  pub slots : ℕ
+  pub line : Attached
+
+abbrev pub outcome : Searched → ℕ → List ℕ → ℕ → ℕ → Attached → Search
+outcome a n l r s k = record { answer = a; number = n; list = l; resets = r; slots = s; line = k }
+
+-- "4: the list has fewer places than distinct codes: list filled to its end, line as after those passes";
+-- "Places past the codes listed stay as found."
+abbrev pub fromPlayed : List ℕ → Played Listed Attached → Search
+fromPlayed list p =
+    outcome (pick (p .result .complete) complete (refused 4)) (length (p .result .codes))
+    (p .result .codes ++ drop (length (p .result .codes)) list) (p .resets) (p .slots) (p .line)
+
+-- "Search: 8, 5 (both without an event, counts 0), then 4."
+unfoldable pub searchOf : List ℕ → Attached → Search
+searchOf list l =
+    pick (tableInRange (l .count) (l .lent .chips))
+    (pick (sizesFit (l .count) (l .lent .chips) (l .lent .images) (l .lent .pads))
+    (fromPlayed list (play wire (searchHost (length list)) l))
+    (outcome (refused 5) 0 list 0 0 l))
+    (outcome (refused 8) 0 list 0 0 l)
