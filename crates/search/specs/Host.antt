@@ -56,12 +56,16 @@ abbrev pub heard : Answered → Bool
 heard (bit b) = b
 heard (refused n) = true
 
+-- an event that names no chip, by its number
+abbrev pub eventNumber : ℕ → Event
+eventNumber n = record { number = n; chip = 0; levels = 0 }
+
 -- the host's events
 abbrev pub slotEvent : Bool → Event
-slotEvent b = record { number = pick b 1 0; chip = 0; levels = 0 }
+slotEvent b = eventNumber (pick b 1 0)
 
 abbrev pub resetEvent : Event
-resetEvent = record { number = 2; chip = 0; levels = 0 }
+resetEvent = eventNumber 2
 
 -- how a pass ended: the path that was taken; one more than the last place where both bits were read as 0 and 0 was taken, or 0;
 -- and whether a chip answered at every place

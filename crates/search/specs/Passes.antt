@@ -11,10 +11,14 @@ use borrow.Author.Tests.{eq-eqb, ne-eqb, lt-ltb, le-ltb}
 use native.Mathlib.Nat.{zero-add, add-zero}
 use native.Mathlib.Numerals.{add-one}
 use Rattle.base.specs.Pick.{pick, pick-true, pick-false}
-use Rattle.line.specs.Event.{tableInRange, sizesFit}
+use Rattle.chip.specs.declared.Chip.{Chip}
+use Rattle.line.specs.Event.{standingOf}
+use Rattle.line.specs.Refusals.{stands-fine, stands-size, stands-range}
+use Rattle.line.specs.declared.Standing.{Standing}
+use Rattle.line.specs.declared.Standing.the-variants as standing
 use Rattle.search.specs.Host.{Host, ask, done, bind, Played, played, Listed, listed, End, end, more, resetEvent, heard, play, pass, write, passes, goOn, upTo, capped, searchHost}
 use Rattle.search.specs.Counts.{more-more, more-none, andThen, play-bind}
-use Rattle.search.specs.Search.{Searched, complete, refused, Attached, saysOf, leavesOf, wire, Search, outcome, fromPlayed, searchOf}
+use Rattle.search.specs.Search.{Searched, complete, refused, completeOr4, Attached, attached, saysOf, leavesOf, wire, Search, outcome, fromPlayed, searchOf}
 use Rattle.search.specs.Pass.{playedPass, playedWrite}
 
 abbrev pub playedList : Attached → List ℕ → Bool → ℕ → ℕ → Played Listed Attached
@@ -150,9 +154,25 @@ pub capped-many : (n : ℕ) → 16 ≤ n → 16 ≡ capped n
 unfolding capped
 capped-many n h = sym (pick-false (ltb n 16) n 16 (le-ltb n 16 h))
 
--- a list that was filled to its first n places
-pub filled-list : (n : ℕ) (list list₀ : List ℕ) → n ≤ length list → drop n list ≡ drop n list₀ → take n list ++ drop (length (take n list)) list₀ ≡ list
-filled-list n list list₀ h e =
-    ap (λ (k : ℕ). take n list ++ drop k list₀) (length-take-le n list h)
-    ∙ ap (λ (k : List ℕ). take n list ++ k) (sym e)
-    ∙ take-append-drop n list
+-- a list that was filled to its first n places is what the host listed, then what stood there
+pub found-list : (n : ℕ) (list list₀ : List ℕ) (l : Attached) (b : Bool) (r s : ℕ) (a : Searched) → n ≤ length list → drop n list ≡ drop n list₀ → a ≡ completeOr4 b
+    → outcome a n list r s l ≡ fromPlayed list₀ (playedList l (take n list) b r s)
+found-list n list list₀ l b r s a h e f =
+    let k : length (take n list) ≡ n = length-take-le n list h in
+    let m : take n list ++ drop (length (take n list)) list₀ ≡ list
+    = ap (λ (i : ℕ). take n list ++ drop i list₀) k ∙ ap (λ (i : List ℕ). take n list ++ i) (sym e) ∙ take-append-drop n list in
+    λ j. outcome (f j) (sym k j) (sym m j) r s l
+
+-- a search, by how the table stands
+module _ (n : ℕ) (cs : List Chip) (ms ss : List ℕ) (q : Standing) (h : q ≡ standingOf n cs ms ss) (list : List ℕ) where
+  pub search-range : q ≡ standing.OutOfRange → outcome (refused 8) 0 list 0 0 (attached n cs ms ss) ≡ searchOf list (attached n cs ms ss)
+  unfolding searchOf
+  search-range f = simp (stands-range n cs ms ss q h f, pick-false)
+
+  pub search-size : q ≡ standing.WrongSize → outcome (refused 5) 0 list 0 0 (attached n cs ms ss) ≡ searchOf list (attached n cs ms ss)
+  unfolding searchOf
+  search-size f = let b = stands-size n cs ms ss q h f in simp (b .0, b .1, pick-true, pick-false)
+
+  pub search-fine : q ≡ standing.Fine → fromPlayed list (play wire (searchHost (length list)) (attached n cs ms ss)) ≡ searchOf list (attached n cs ms ss)
+  unfolding searchOf
+  search-fine f = let b = stands-fine n cs ms ss q h f in simp (b .0, b .1, pick-true)

@@ -34,12 +34,16 @@ attached n cs ms ss = record { count = n; lent = lent cs ms ss }
 abbrev pub eventOn : Event → Attached → Outcome
 eventOn e l = eventOf (l .count) (l .lent .chips) e (l .lent .images) (l .lent .pads)
 
+-- what an outcome leaves
+abbrev pub leftBy : Outcome → Attached
+leftBy o = record { count = o .count; lent = o .lent }
+
 -- what an event answers there, and what it leaves
 unfoldable pub saysOf : Event → Attached → Answered
 saysOf e l = eventOn e l .answer
 
 unfoldable pub leavesOf : Event → Attached → Attached
-leavesOf e l = record { count = eventOn e l .count; lent = eventOn e l .lent }
+leavesOf e l = leftBy (eventOn e l)
 
 -- the line's own events as a wire
 abbrev pub wire : Wire
@@ -57,11 +61,15 @@ pub record Search : Type 0 where
 abbrev pub outcome : Searched → ℕ → List ℕ → ℕ → ℕ → Attached → Search
 outcome a n l r s k = record { answer = a; number = n; list = l; resets = r; slots = s; line = k }
 
+-- a search whose events were all put on the line
+abbrev pub completeOr4 : Bool → Searched
+completeOr4 b = pick b complete (refused 4)
+
 -- "4: the list has fewer places than distinct codes: list filled to its end, line as after those passes";
 -- "Places past the codes listed stay as found."
 abbrev pub fromPlayed : List ℕ → Played Listed Attached → Search
 fromPlayed list p =
-    outcome (pick (p .result .complete) complete (refused 4)) (length (p .result .codes))
+    outcome (completeOr4 (p .result .complete)) (length (p .result .codes))
     (p .result .codes ++ drop (length (p .result .codes)) list) (p .resets) (p .slots) (p .line)
 
 -- "Search: 8, 5 (both without an event, counts 0), then 4."

@@ -1,13 +1,14 @@
 // The host's search: it lists the codes of the line in branch order, by the answers to its events alone.
 mod host;
 
+use line::Standing;
 use line::Table;
 ghost use mathlib.Core.Path.{_≡_};
 ghost use Prim.Native.Nat.{_≤_};
 ghost use lib.ListN.{length, take, drop};
 ghost use Rattle.search.specs.Host.{play, passes, searchHost};
 ghost use mathlib.Core.List.{[]};
-ghost use Rattle.search.specs.Search.{searched, attached, wire, outcome, searchOf};
+ghost use Rattle.search.specs.Search.{searched, completeOr4, attached, wire, outcome, fromPlayed, searchOf};
 ghost use Rattle.search.specs.Passes.{playedList};
 
 // Resets put on the line. Never added to slots: the two differ in time.
@@ -80,7 +81,7 @@ fn seek(t: Table, list: &mut [u64], places: usize, ms: &mut [u8], ss: &mut [u8])
             };
         }
         let u = host::write_byte(q, 0xF0, ms, ss);
-        let e = host::pass(u, want, ms, ss);
+        let e = host::one_pass(u, want, ms, ss);
         resets = resets + 1;
         let used = e.slots;
         let after = e.table;
@@ -136,7 +137,7 @@ fn seek_all(t: Table, list: &mut [u64], ms: &mut [u8], ss: &mut [u8]) -> Sought
 
 // The answer of a search that was not refused before its first event.
 fn answer_of(complete: bool) -> SearchAnswer
-    ensures { λ r. ⌜ searched r ≡ listedAnswer complete ⌝ }
+    ensures { λ r. ⌜ searched r ≡ completeOr4 complete ⌝ }
 {
     if complete {
         return SearchAnswer::Complete;
@@ -144,28 +145,46 @@ fn answer_of(complete: bool) -> SearchAnswer
     SearchAnswer::TooFewPlaces
 }
 
+// The search on a table that stands well.
+fn find(t: Table, list: &mut [u64], ms: &mut [u8], ss: &mut [u8]) -> Found
+    ensures { λ r. ⌜ outcome (searched (r .answer)) (r .listed) (now (list .exit)) (r .resets .0) (r .slots .0) (attached (r .table .n) (r .table .chips) (now (ms .exit)) (now (ss .exit)))
+        ≡ fromPlayed (now (list .entry)) (play wire (searchHost (length (now (list .entry)))) (attached (t .n) (t .chips) (now (ms .entry)) (now (ss .entry)))) ⌝ }
+{
+    let s = seek_all(t, list, ms, ss);
+    let resets = s.resets;
+    let slots = s.slots;
+    let table = s.table;
+    let answer = answer_of(s.complete);
+    Found {
+        answer: answer,
+        listed: s.listed,
+        resets: resets,
+        slots: slots,
+        table: table,
+    }
+}
+
 // The search over a table, its buffers and a lent list: refusals 8 and 5 without an event, then 4.
 pub fn search_line(t: Table, list: &mut [u64], ms: &mut [u8], ss: &mut [u8]) -> Found
     ensures { λ r. ⌜ outcome (searched (r .answer)) (r .listed) (now (list .exit)) (r .resets .0) (r .slots .0) (attached (r .table .n) (r .table .chips) (now (ms .exit)) (now (ss .exit)))
         ≡ searchOf (now (list .entry)) (attached (t .n) (t .chips) (now (ms .entry)) (now (ss .entry))) ⌝ }
 {
-    if line::in_range(t) {
-        if line::sizes_fit(t, ms, ss) {
-            return seek_found(t, list, ms, ss);
-        }
-        return Found {
+    let stands = line::how_stands(t, ms, ss);
+    match stands {
+        Standing::Fine => find(t, list, ms, ss),
+        Standing::WrongSize => Found {
             answer: SearchAnswer::WrongSize,
             listed: 0,
             resets: Resets(0),
             slots: Slots(0),
             table: t,
-        };
-    }
-    Found {
-        answer: SearchAnswer::OutOfRange,
-        listed: 0,
-        resets: Resets(0),
-        slots: Slots(0),
-        table: t,
+        },
+        Standing::OutOfRange => Found {
+            answer: SearchAnswer::OutOfRange,
+            listed: 0,
+            resets: Resets(0),
+            slots: Slots(0),
+            table: t,
+        },
     }
 }
