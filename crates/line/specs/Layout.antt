@@ -2,7 +2,9 @@
 -- same order": the buffers as a layout of a list of whole chips, with sizes by kind.
 use Prim.Native.Nat.{ℕ, _+_}
 use mathlib.Core.List.{List, [], _∷_, _++_, map}
+use lib.Dec.{ltb}
 use lib.ListN.{take, drop}
+use Rattle.base.specs.Pick.{pick}
 use Rattle.chip.specs.Chip.{Whole, whole}
 use Rattle.chip.specs.Range.{imageSize, padSize}
 use Rattle.chip.specs.declared.Chip.{Chip}
@@ -54,3 +56,7 @@ lineOf n cs ms ss = split (take n cs) ms ss
 -- a line, put back into a table of which it holds the first n places
 abbrev pub lentFrom : ℕ → List Chip → List Whole → Lent
 lentFrom n cs L = lent (chipsOf L ++ drop n cs) (imagesOf L) (padsOf L)
+
+-- a line has at most 16 chips, so more places than 16 are never used
+unfoldable pub capped : ℕ → ℕ
+capped places = pick (ltb places 16) places 16

@@ -8,7 +8,7 @@ ghost use mathlib.Core.Bool.{true};
 ghost use Prim.Native.Nat.{_<_, _≤_};
 ghost use lib.ListN.{getD, set};
 ghost use Rattle.chip.specs.Chip.{levelsChip};
-ghost use Rattle.line.specs.Layout.{lent};
+ghost use Rattle.line.specs.Layout.{lent, capped};
 ghost use Rattle.line.specs.Event.{bit, answered, noChip, levelsFit, Fits, outcome, happens, acceptedOf, eventOf, standingOf};
 
 // The table: the first n places hold the attached chips.
@@ -55,6 +55,14 @@ pub enum Act {
     Take(bool),
     Reset,
     PowerOn,
+}
+
+// The places of a list or a table that can be used.
+pub fn used_places(places: usize) -> usize
+    ensures { λ r. ⌜ r ≡ capped places ⌝ }
+    ensures most { λ r. ⌜ (r ≤ 16) × (r ≤ places) ⌝ }
+{
+    if places < 16 { places } else { 16 }
 }
 
 // A slot: the value of the line first, then each chip takes it.

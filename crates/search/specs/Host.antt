@@ -7,6 +7,7 @@ use lib.Dec.{eqb, ltb}
 use Rattle.base.specs.Pick.{pick}
 use Rattle.base.specs.Bits.{bitOf, both}
 use Rattle.line.specs.Event.{Answered, bit, refused}
+use Rattle.line.specs.Layout.{capped}
 use Rattle.line.specs.declared.Event.{Event}
 
 -- a host that comes to an A: it is done, or it puts an event on the line and goes on by the answer
@@ -136,10 +137,6 @@ passes zero want out = ask resetEvent λ x. pick (heard x) (done (listed out tru
 passes (suc n) want out =
     ask resetEvent λ x. pick (heard x) (done (listed out true))
     (bind (write 8 0 0xF0) λ u. bind (pass 64 0 want 0 0) (goOn n out (λ w o. passes n w o)))
-
--- a line has at most 16 chips, so more places than 16 are never used
-unfoldable pub capped : ℕ → ℕ
-capped n = pick (ltb n 16) n 16
 
 -- the host of the search, by the number of places alone
 abbrev pub searchHost : ℕ → Host Listed

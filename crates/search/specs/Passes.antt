@@ -16,7 +16,7 @@ use Rattle.line.specs.Event.{standingOf}
 use Rattle.line.specs.Refusals.{stands-fine, stands-size, stands-range}
 use Rattle.line.specs.declared.Standing.{Standing}
 use Rattle.line.specs.declared.Standing.the-variants as standing
-use Rattle.search.specs.Host.{Host, ask, done, bind, Played, played, Listed, listed, End, end, more, resetEvent, heard, play, pass, write, passes, goOn, upTo, capped, searchHost}
+use Rattle.search.specs.Host.{Host, ask, done, bind, Played, played, Listed, listed, End, end, more, resetEvent, heard, play, pass, write, passes, goOn, upTo, searchHost}
 use Rattle.search.specs.Counts.{more-more, more-none, andThen, play-bind}
 use Rattle.search.specs.Search.{Searched, complete, refused, completeOr4, Attached, attached, saysOf, leavesOf, wire, Search, outcome, fromPlayed, searchOf}
 use Rattle.search.specs.Pass.{playedPass, playedWrite}
@@ -144,15 +144,6 @@ module _ (places : ℕ) (l₀ l lp u le : Attached) (list₀ list : List ℕ) (w
       resets-count = let c = g .resets-count in omega arith;
       slots-count = let c = g .slots-count in omega arith;
     }
-
--- places, as the host counts them
-pub capped-few : (n : ℕ) → n < 16 → n ≡ capped n
-unfolding capped
-capped-few n h = sym (pick-true (ltb n 16) n 16 (lt-ltb n 16 h))
-
-pub capped-many : (n : ℕ) → 16 ≤ n → 16 ≡ capped n
-unfolding capped
-capped-many n h = sym (pick-false (ltb n 16) n 16 (le-ltb n 16 h))
 
 -- a list that was filled to its first n places is what the host listed, then what stood there
 pub found-list : (n : ℕ) (list list₀ : List ℕ) (l : Attached) (b : Bool) (r s : ℕ) (a : Searched) → n ≤ length list → drop n list ≡ drop n list₀ → a ≡ completeOr4 b

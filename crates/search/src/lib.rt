@@ -128,11 +128,8 @@ fn seek_all(t: Table, list: &mut [u64], ms: &mut [u8], ss: &mut [u8]) -> Sought
     ensures { λ r. ⌜ drop (r .listed) (now (list .exit)) ≡ drop (r .listed) (now (list .entry)) ⌝ }
     ensures { λ r. ⌜ r .listed ≤ length (now (list .exit)) ⌝ }
 {
-    let n = list.len();
-    if n < 16 {
-        return seek(t, list, n, ms, ss);
-    }
-    seek(t, list, 16, ms, ss)
+    let places = line::used_places(list.len());
+    seek(t, list, places, ms, ss)
 }
 
 // The answer of a search that was not refused before its first event.

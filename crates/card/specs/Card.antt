@@ -1,0 +1,101 @@
+-- Document 01, "Card and list program" and "Refusal numbers": reading a card, and set-up from it.
+use Prim.Native.Nat.{ℕ, zero, suc, _+_, _*_}
+use mathlib.Core.List.{List, [], _∷_, _++_}
+use lib.Dec.{eqb, ltb}
+use lib.ListN.{length, getD, drop}
+use Rattle.base.specs.Pick.{pick}
+use Rattle.chip.specs.Chip.{setUpChip}
+use Rattle.chip.specs.Range.{knownKind}
+use Rattle.chip.specs.declared.Chip.{Chip}
+use Rattle.line.specs.Layout.{capped}
+use Rattle.records.specs.Records.{headAt}
+use Rattle.records.specs.declared.Head.{Head}
+use Rattle.records.specs.declared.Head.the-variants.{End, Short, Cut, Whole}
+use Rattle.card.specs.declared.CardAnswer.{CardAnswer}
+use Rattle.card.specs.declared.CardAnswer.the-variants.{Chips, TooMany, UnknownKind, WrongLength}
+use Rattle.card.specs.declared.Entry.{Entry}
+use Rattle.card.specs.declared.Entry.the-variants as entry
+
+-- what set-up answers: the number of chips, or document 01's refusal number and "the offset of the record's first byte"
+pub data Carded : Type 0 where
+  chips : ℕ → Carded
+  refused : ℕ → ℕ → Carded
+
+abbrev pub carded : CardAnswer → Carded
+carded (Chips n) = chips n
+carded (TooMany at) = refused 1 at
+carded (UnknownKind at) = refused 2 at
+carded (WrongLength at) = refused 3 at
+
+-- "eight code bytes, family first", of the record at an offset: the 64 bits, least significant first
+unfoldable pub codeAt : List ℕ → ℕ → ℕ
+codeAt s at =
+    getD s (at + 4) 0 + 0x100 * getD s (at + 5) 0 + 0x10000 * getD s (at + 6) 0 + 0x1000000 * getD s (at + 7) 0
+    + 0x100000000 * getD s (at + 8) 0 + 0x10000000000 * getD s (at + 9) 0 + 0x1000000000000 * getD s (at + 10) 0
+    + 0x100000000000000 * getD s (at + 11) 0
+
+-- a record whose length runs past the end: "kind gives 2; wrong length or cut body gives 3"
+unfoldable pub cutEntry : ℕ → Entry
+cutEntry kind = pick (knownKind kind) entry.WrongLength entry.UnknownKind
+
+-- a whole record: "kind gives 2; wrong length .. gives 3; one too many gives 1."
+unfoldable pub wholeEntry : List ℕ → ℕ → ℕ → ℕ → ℕ → ℕ → Entry
+wholeEntry s at room size kind next =
+    pick (knownKind kind)
+    (pick (eqb size 10)
+    (pick (ltb 0 room) (entry.Taken (codeAt s at) kind next)
+    entry.TooMany)
+    entry.WrongLength)
+    entry.UnknownKind
+
+-- "For a record at its first byte: fewer than 4 bytes left gives 3"
+abbrev pub entryOf : List ℕ → ℕ → ℕ → Head → Entry
+entryOf s at room End = entry.Done
+entryOf s at room Short = entry.WrongLength
+entryOf s at room (Cut size kind) = cutEntry kind
+entryOf s at room (Whole size kind next) = wholeEntry s at room size kind next
+
+-- the record at an offset, where room more chips may come
+unfoldable pub entryAt : List ℕ → ℕ → ℕ → Entry
+entryAt s at room = entryOf s at room (headAt s at)
+
+-- what a card holds from an offset on: chips, or the first refusal
+pub data Read : Type 0 where
+  all : List Chip → Read
+  none : ℕ → ℕ → Read
+
+abbrev pub after : List Chip → Read → Read
+after cs (all ds) = all (cs ++ ds)
+after cs (none r at) = none r at
+
+-- how reading goes on after a record
+abbrev pub onward : ℕ → (ℕ → Read) → Entry → Read
+onward at go entry.Done = all []
+onward at go (entry.Taken code kind next) = after (setUpChip code kind ∷ []) (go next)
+onward at go entry.TooMany = none 1 at
+onward at go entry.UnknownKind = none 2 at
+onward at go entry.WrongLength = none 3 at
+
+-- a card from an offset on, where room more chips may come
+unfoldable pub readFrom : ℕ → List ℕ → ℕ → Read
+readFrom zero s at = onward at (λ next. none 1 at) (entryAt s at zero)
+readFrom (suc room) s at = onward at (λ next. readFrom room s next) (entryAt s at (suc room))
+
+-- what set-up answers, and the table that it leaves
+pub record SetUp : Type 0 where
+  pub answer : Carded
+  pub count : ℕ
+  pub table : List Chip
+
+abbrev pub setUp : Carded → ℕ → List Chip → SetUp
+setUp a n cs = record { answer = a; count = n; table = cs }
+
+-- "a card fills the first places with chips as after power on and answers their number, the other places stay"; a refusal
+-- leaves "table unchanged"
+abbrev pub fromRead : ℕ → List Chip → Read → SetUp
+fromRead n cs (all ds) = setUp (chips (length ds)) (length ds) (ds ++ drop (length ds) cs)
+fromRead n cs (none r at) = setUp (refused r at) n cs
+
+-- set-up from the card s with so many places
+unfoldable pub setUpOf : ℕ → List ℕ → ℕ → List Chip → SetUp
+setUpOf places s n cs = fromRead n cs (readFrom (capped places) s 0)
