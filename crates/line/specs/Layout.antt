@@ -2,7 +2,7 @@
 -- same order": the buffers as a layout of a list of whole chips, with sizes by kind.
 use Prim.Native.Nat.{ℕ, _+_}
 use mathlib.Core.List.{List, [], _∷_, _++_, map}
-use lib.Dec.{ltb}
+use lib.Dec.{ltb, leb}
 use lib.ListN.{take, drop}
 use Rattle.base.specs.Pick.{pick}
 use Rattle.chip.specs.Chip.{Whole, whole}
@@ -60,3 +60,10 @@ lentFrom n cs L = lent (chipsOf L ++ drop n cs) (imagesOf L) (padsOf L)
 -- a line has at most 16 chips, so more places than 16 are never used
 unfoldable pub capped : ℕ → ℕ
 capped places = pick (ltb places 16) places 16
+
+-- the sizes to lend with a table of n chips; one of over 16 is refused whatever is lent
+unfoldable pub imagesAsked : ℕ → List Chip → ℕ
+imagesAsked n cs = pick (leb n 16) (imagesSize (take n cs)) 0
+
+unfoldable pub padsAsked : ℕ → List Chip → ℕ
+padsAsked n cs = pick (leb n 16) (padsSize (take n cs)) 0

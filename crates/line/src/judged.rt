@@ -4,7 +4,7 @@ use crate::Table;
 ghost use mathlib.Core.Path.{_≡_};
 ghost use Prim.Native.Nat.{_≤_};
 ghost use lib.ListN.{take};
-ghost use Rattle.line.specs.Layout.{imagesSize, padsSize};
+ghost use Rattle.line.specs.Layout.{imagesSize, padsSize, imagesAsked, padsAsked};
 ghost use Rattle.line.specs.Event.{allInRange, tableInRange, sizesFit, levelsFit};
 
 // Every chip of the line is in range.
@@ -40,6 +40,7 @@ pub fn in_range(t: Table) -> bool
 pub fn images_size(t: Table) -> usize
     requires { ⌜ t .n ≤ 16 ⌝ }
     ensures { λ r. ⌜ r ≡ imagesSize (take (t .n) (t .chips)) ⌝ }
+    ensures most { λ r. ⌜ r ≤ 41984 ⌝ }
 {
     let n = t.n;
     let chips = t.chips;
@@ -58,6 +59,7 @@ pub fn images_size(t: Table) -> usize
 pub fn pads_size(t: Table) -> usize
     requires { ⌜ t .n ≤ 16 ⌝ }
     ensures { λ r. ⌜ r ≡ padsSize (take (t .n) (t .chips)) ⌝ }
+    ensures most { λ r. ⌜ r ≤ 512 ⌝ }
 {
     let n = t.n;
     let chips = t.chips;
@@ -70,6 +72,30 @@ pub fn pads_size(t: Table) -> usize
         i += 1;
     }
     sum
+}
+
+// The bytes of images that a table asks for, 0 where it has over 16 chips.
+pub fn images_asked(t: Table) -> usize
+    ensures { λ r. ⌜ r ≡ imagesAsked (t .n) (t .chips) ⌝ }
+    ensures most { λ r. ⌜ r ≤ 41984 ⌝ }
+{
+    let n = t.n;
+    if n <= 16 {
+        return images_size(t);
+    }
+    0
+}
+
+// The bytes of scratchpads that a table asks for, 0 where it has over 16 chips.
+pub fn pads_asked(t: Table) -> usize
+    ensures { λ r. ⌜ r ≡ padsAsked (t .n) (t .chips) ⌝ }
+    ensures most { λ r. ⌜ r ≤ 512 ⌝ }
+{
+    let n = t.n;
+    if n <= 16 {
+        return pads_size(t);
+    }
+    0
 }
 
 // Both buffers have the size that the table asks for.

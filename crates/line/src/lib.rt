@@ -1,5 +1,9 @@
 // Up to 16 chips on one line: the table by value, and the event with its refusals.
 mod judged;
+
+pub use judged::images_asked;
+pub use judged::pads_asked;
+
 mod loops;
 
 use chip::Chip;

@@ -53,7 +53,7 @@ loop-again c = let l = c .before .before .before .loop in (search needs, search 
 
 -- src/judged.rt:58:1
 returns : tie.Need-returns Inv-loop μ-loop
-returns c = let l = c .before .loop in sum-done padSize _ _ _ _ _ (c .loop-test .left) (l .inv .1) (l .inv .4)
+returns c = let l = c .before .loop in (sum-done padSize _ _ _ _ _ (c .loop-test .left) (l .inv .1) (l .inv .4), omega (arith, l .inv .2, l .inv .0, c .before .before .before .pre))
 
 pub pads-size-spec : {M : Type 1} → statement M
 pads-size-spec =
