@@ -1,0 +1,66 @@
+// What the programs share: a table without chips, and the line that says why a card was refused.
+use card::CardAnswer;
+use libc::STDOUT_FILENO;
+use line::Table;
+ghost use mathlib.Core.Path.{_≡_};
+ghost use lib.ListN.{length, replicate};
+ghost use Rattle.chip.specs.Chip.{setUpChip};
+ghost use Rattle.card.specs.Card.{carded};
+ghost use Rattle.terminal.specs.Card.{isRefused};
+
+// A table without chips.
+pub fn no_chips() -> Table
+    ensures { λ r. ⌜ (r .n ≡ 0) × (r .chips ≡ replicate 16 (setUpChip 0 0)) ⌝ }
+{
+    let place = chip::set_up(0, 0);
+    Table {
+        n: 0,
+        chips: [place; 16],
+    }
+}
+
+// Writes `refused R at P`.
+fn say_refused(number: u64, at: usize) {
+    io::write_all(STDOUT_FILENO, b"refused ");
+    io::print_decimal(STDOUT_FILENO, number);
+    io::write_all(STDOUT_FILENO, b" at ");
+    io::print_decimal(STDOUT_FILENO, at as u64);
+    io::write_all(STDOUT_FILENO, b"\n");
+}
+
+// Whether a card was refused; if so, the line that says so is written.
+pub fn refused_card(answer: CardAnswer) -> bool
+    ensures { λ r. ⌜ r ≡ isRefused (carded answer) ⌝ }
+{
+    match answer {
+        CardAnswer::Chips(_) => false,
+        CardAnswer::TooMany(at) => {
+            say_refused(1, at);
+            true
+        }
+        CardAnswer::UnknownKind(at) => {
+            say_refused(2, at);
+            true
+        }
+        CardAnswer::WrongLength(at) => {
+            say_refused(3, at);
+            true
+        }
+    }
+}
+
+// Room for the images of 16 chips, all FFh.
+pub fn image_room() -> [u8; 41984]
+    ensures { λ r. ⌜ r ≡ replicate 41984 0xFF ⌝ }
+    ensures { λ r. ⌜ 41984 ≡ length r ⌝ }
+{
+    [0xFF; 41984]
+}
+
+// Room for the scratchpads of 16 chips.
+pub fn pad_room() -> [u8; 512]
+    ensures { λ r. ⌜ r ≡ replicate 512 0xFF ⌝ }
+    ensures { λ r. ⌜ 512 ≡ length r ⌝ }
+{
+    [0xFF; 512]
+}

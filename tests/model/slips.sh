@@ -1,0 +1,35 @@
+#!/usr/bin/env bash
+# Serves the model with one deliberate slip after another and shows what catches each.
+# Further flags are passed on to the tester, for example --seed 7.
+set -u
+here=$(cd "$(dirname "${BASH_SOURCE[0]}")" && pwd)
+root=$(cd "$here/../.." && pwd)
+export CARGO_TARGET_DIR="$root/target/model"
+cargo build --quiet --offline --release --jobs 1 --manifest-path "$here/Cargo.toml" || exit 1
+model="$CARGO_TARGET_DIR/release/wire-model"
+served=$(printf '%q' "$model")
+
+clean=$("$model" --list "$served --serve-list" --wire "$served --serve-wire" "$@" | tail -n 1)
+echo "without a slip: $clean"
+[[ $clean == *" 0 failed" ]] || exit 1
+
+total=0
+caught=0
+while read -r name text; do
+    total=$((total + 1))
+    if ! output=$("$model" --list "$served --slip $name --serve-list" \
+        --wire "$served --slip $name --serve-wire" --stop 1 --wait 2 "$@" 2>&1); then
+        by=$(grep -m 1 '^DIFFERENCE' <<<"$output")
+    elif ! output=$("$model" --cases --slip "$name"); then
+        by=$(grep -m 1 '^case fails' <<<"$output")
+    else
+        by=""
+    fi
+    if [[ -n $by ]]; then
+        caught=$((caught + 1))
+    fi
+    printf '%-20s %-58s %s\n' "$name" "$text" "${by:-NOT CAUGHT}"
+done < <("$model" --slips)
+
+echo "$caught of $total slips caught"
+[[ $caught == "$total" ]]

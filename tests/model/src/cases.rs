@@ -1,0 +1,382 @@
+//! The paper's bench cases, its worked list output, and cases that only a lent table can
+//! show, all held against the model itself.
+
+use std::collections::VecDeque;
+
+use crate::model::book::Book;
+use crate::model::card::read_card;
+use crate::model::chip::{Chip, Step, AA, DS2413, DS28EC20};
+use crate::model::crc::{crc16, crc8};
+use crate::model::line::Line;
+use crate::model::memory::{IMAGE, PAD};
+use crate::model::programs::list;
+use crate::model::search::{search_line, Found};
+
+/// A case: whether the model keeps to it.
+pub type Case = fn(&mut Book) -> bool;
+
+/// Every case with its name.
+pub const CASES: &[(&str, Case)] = &[
+    ("worked list output", worked_output),
+    ("bench case 1", case_1),
+    ("bench case 2", case_2),
+    ("bench case 3", case_3),
+    ("bench case 4", case_4),
+    ("bench case 5", case_5),
+    ("bench case 6", case_6),
+    ("bench case 7", case_7),
+    ("bench case 8", case_8),
+    ("bench case 9", case_9),
+    ("the DS2413 sheet's write example", sheet_example),
+    ("a receiving chip takes the slot's value", takes_value),
+    ("the last address is read", last_address),
+    ("E below T mod 32 copies nothing", copy_below),
+    ("refusals of an event", event_refusals),
+    ("refusals of a search", search_refusals),
+    ("a card with few places", few_places),
+    ("fields of the other kind stay", other_fields),
+];
+
+/// A host at a line of the model.
+struct Desk<'a> {
+    line: Line,
+    book: &'a mut Book,
+}
+
+impl Desk<'_> {
+    /// A line of chips of these kinds, codes from 1 on, after power on.
+    fn with<'a>(kinds: &[u32], book: &'a mut Book) -> Desk<'a> {
+        let chips = kinds.iter().zip(1..);
+        let table = chips.map(|(kind, code)| Chip::at_set_up(*kind, code));
+        let line = Line::set_up(table.collect(), book);
+        Desk { line, book }
+    }
+
+    fn event(&mut self, number: u64) -> u8 {
+        let answer = self.line.event(number, 0, 0, self.book);
+        answer.expect("a line in range")
+    }
+
+    fn bits(&mut self, byte: u8) -> u8 {
+        let bit = |place: u8| self.event(u64::from(byte >> place & 1)) << place;
+        (0..8).map(bit).sum()
+    }
+
+    fn read(&mut self) -> u8 {
+        self.bits(0xFF)
+    }
+
+    /// Reset, Skip ROM and bytes.
+    fn skip(&mut self, bytes: &[u8]) {
+        self.event(2);
+        for byte in [0xCC].iter().chain(bytes) {
+            self.bits(*byte);
+        }
+    }
+
+    /// E/S of the only memory chip, by Read Scratchpad.
+    fn es(&mut self) -> u8 {
+        self.skip(&[0xAA]);
+        self.read();
+        self.read();
+        self.read()
+    }
+}
+
+fn record(kind: u8, code: u64) -> Vec<u8> {
+    let mut record = vec![10, 0, kind, 0];
+    record.extend(code.to_le_bytes());
+    record
+}
+
+fn worked_output(book: &mut Book) -> bool {
+    let card: Vec<u8> = [3, 2, 0, 1].map(|code| record(1, code)).concat();
+    list(&card, book)
+        == "0000000000000000 ok\n0000000000000002 no\n0000000000000001 no\n\
+            0000000000000003 no\n4 codes 800 slots\n"
+        && list(&record(1, 0x5E00_0000_0000_0000), book)
+            == "5E00000000000000 no\n1 codes 200 slots\n"
+        && list(&[], book) == "0 codes 0 slots\n"
+}
+
+fn case_1(book: &mut Book) -> bool {
+    let mut desk = Desk::with(&[DS28EC20], book);
+    desk.line.table[0].t = 0x001F;
+    desk.skip(&[0xAA]);
+    let sent: Vec<u8> = (0..6).map(|_| desk.read()).collect();
+    let crc = !crc16(&[0xAA, 0x1F, 0x00, 0x20, 0xFF]);
+    crc8(&[0x01]) == 0x5E
+        && crc16(&[0x01]) == 0xC0C1
+        && (!crc16(&[0x01])).to_le_bytes() == [0x3E, 0x3F]
+        && sent[..4] == [0x1F, 0x00, 0x20, 0xFF]
+        && sent[4..] == crc.to_le_bytes()
+}
+
+/// The four codes of bench case 2.
+fn four(book: &mut Book) -> Line {
+    let table = [0xAC, 0x55, 0xAF, 0x88].map(|code| Chip::at_set_up(DS28EC20, code));
+    Line::set_up(table.to_vec(), book)
+}
+
+fn case_2(book: &mut Book) -> bool {
+    let found = search_line(&mut four(book), 16, book);
+    found
+        == Found {
+            refusal: None,
+            list: vec![0x88, 0xAC, 0x55, 0xAF],
+            resets: 4,
+            slots: 800,
+        }
+}
+
+fn case_3(book: &mut Book) -> bool {
+    let mut empty = Line::set_up(Vec::new(), book);
+    let none = |found: Found| (found.refusal, found.list.len(), found.resets, found.slots);
+    let mut line = four(book);
+    let two = search_line(&mut line, 2, book);
+    none(search_line(&mut empty, 16, book)) == (None, 0, 1, 0)
+        && none(search_line(&mut empty, 0, book)) == (None, 0, 1, 0)
+        && none(search_line(&mut line, 0, book)) == (Some(4), 0, 1, 0)
+        && two
+            == Found {
+                refusal: Some(4),
+                list: vec![0x88, 0xAC],
+                resets: 2,
+                slots: 400,
+            }
+}
+
+fn case_4(book: &mut Book) -> bool {
+    let mut desk = Desk::with(&[DS28EC20], book);
+    desk.skip(&[0x55, 0x00, 0x00, 0x20]);
+    desk.read() == 0xFF && desk.es() == 0x20 && desk.line.images == [0xFF; IMAGE]
+}
+
+fn case_5(book: &mut Book) -> bool {
+    let mut desk = Desk::with(&[DS28EC20], book);
+    desk.skip(&[0x0F, 0x06, 0x00, 0x12, 0x34]);
+    let written = desk.es() == 0x07;
+    desk.skip(&[0x55, 0x06, 0x00, 0x06]);
+    let wrong = desk.read() == 0xFF && desk.es() == 0x07 && desk.line.images[6] == 0xFF;
+    desk.skip(&[0x55, 0x06, 0x00, 0x07]);
+    let right = desk.read() == 0xAA && desk.es() == 0x87;
+    written && wrong && right && desk.line.images[5..9] == [0xFF, 0x12, 0x34, 0xFF]
+}
+
+fn case_6(book: &mut Book) -> bool {
+    let mut desk = Desk::with(&[DS28EC20], book);
+    desk.line.images[0x0A00] = 0x55;
+    desk.skip(&[0x0F, 0x06, 0x00, 0x12, 0x34]);
+    desk.skip(&[0x55, 0x06, 0x00, 0x07]);
+    let held = desk.read() == 0xAA && desk.es() == 0x87 && desk.line.images[6..8] == [0xFF; 2];
+    desk.line.images[0x0A1E] = 0xAA;
+    desk.skip(&[0x0F, 0x06, 0x00, 0x12, 0x34]);
+    desk.skip(&[0x55, 0x06, 0x00, 0x07]);
+    held && desk.read() == 0xFF && desk.es() == 0x07
+}
+
+fn case_7(book: &mut Book) -> bool {
+    let mut desk = Desk::with(&[DS28EC20], book);
+    desk.line.images[0x0A00] = 0xAA;
+    desk.line.images[6] = 0xF0;
+    desk.skip(&[0x0F, 0x06, 0x00, 0x3C]);
+    let falls = desk.line.pads[6] == 0x30;
+    desk.skip(&[0x55, 0x06, 0x00, 0x06]);
+    falls && desk.line.images[6] == 0x30
+}
+
+fn case_8(book: &mut Book) -> bool {
+    let mut desk = Desk::with(&[DS2413, DS2413], book);
+    desk.skip(&[0xF5]);
+    let open = desk.read() == 0x0F;
+    desk.event(2);
+    for byte in [0x55, 1, 0, 0, 0, 0, 0, 0, 0, 0x5A, 0xFE, 0x01] {
+        desk.bits(byte);
+    }
+    let written = desk.read() == 0xAA && desk.read() == 0x3C;
+    desk.skip(&[0xF5]);
+    let both = desk.read() == 0x0C;
+    let mut desk = Desk::with(&[DS2413], desk.book);
+    let low = desk.line.event(4, 0, 2, desk.book) == Ok(1);
+    desk.skip(&[0xF5]);
+    open && written && both && low && desk.read() == 0x1E
+}
+
+fn case_9(book: &mut Book) -> bool {
+    let mut desk = Desk::with(&[DS28EC20], book);
+    desk.skip(&[0x0F, 0x00, 0x00, 0x12]);
+    desk.skip(&[0x0F, 0x20, 0x01]);
+    let es = desk.es() == 0x00;
+    let mut held = desk.line.clone();
+    desk.skip(&[0x55, 0x20, 0x01, 0x00]);
+    let open = desk.read() == 0xAA && desk.line.images[0x0120..0x0122] == [0x12, 0xFF];
+    held.images[0x0A01] = 0x55;
+    desk.line = held;
+    desk.skip(&[0x55, 0x20, 0x01, 0x00]);
+    es && open && desk.read() == 0xAA && desk.line.images[0x0120] == 0xFF
+}
+
+/// Both pins to 0, then A to 1 in the next pair.
+fn sheet_example(book: &mut Book) -> bool {
+    let mut desk = Desk::with(&[DS2413], book);
+    desk.skip(&[0x5A, 0xFC, 0x03]);
+    let first = desk.read() == 0xAA && desk.read() == 0xF0;
+    desk.bits(0xFD);
+    desk.bits(0x02);
+    first && desk.read() == 0xAA && desk.read() == 0xC3
+}
+
+/// A DS28EC20 sends F5h while a DS2413 takes a function command from a host that writes
+/// ones: it has taken F5h.
+fn takes_value(book: &mut Book) -> bool {
+    let mut desk = Desk::with(&[DS28EC20, DS2413], book);
+    desk.line.images[0] = 0xF5;
+    desk.line.table[0].step = Step::ReadData(0);
+    desk.line.table[0].bits = VecDeque::from([1, 0, 1, 0, 1, 1, 1, 1]);
+    desk.line.table[1].step = Step::FunctionCommand;
+    desk.read() == 0xF5 && desk.line.table[1].step == Step::PioRead && desk.read() == 0x0F
+}
+
+/// The programs' images hold FFh up there, so only a lent image shows it.
+fn last_address(book: &mut Book) -> bool {
+    let mut desk = Desk::with(&[DS28EC20], book);
+    desk.line.images[0x0A3E] = 0x12;
+    desk.line.images[0x0A3F] = 0x34;
+    desk.skip(&[0xF0, 0x3E, 0x0A]);
+    let read = [desk.read(), desk.read(), desk.read()];
+    desk.skip(&[0xF0, 0x40, 0x0A]);
+    read == [0x12, 0x34, 0xFF] && desk.read() == 0xFF
+}
+
+fn copy_below(book: &mut Book) -> bool {
+    let mut desk = Desk::with(&[DS28EC20], book);
+    desk.line.table[0].t = 0x0006;
+    desk.line.table[0].es = 0x05;
+    desk.line.pads.fill(0x00);
+    desk.skip(&[0x55, 0x06, 0x00, 0x05]);
+    desk.read() == 0xAA && desk.es() == 0x85 && desk.line.images == [0xFF; IMAGE]
+}
+
+fn event_refusals(book: &mut Book) -> bool {
+    let mut line = Desk::with(&[DS28EC20, DS2413], book).line;
+    let six = line.event(260, 0, 0, book) == Err(6) && line.event(5, 9, 9, book) == Err(6);
+    let seven = line.event(4, 0, 0, book) == Err(7)
+        && line.event(4, 2, 0, book) == Err(7)
+        && line.event(4, 1, 4, book) == Err(7)
+        && line.event(4, 1, 3, book) == Ok(1);
+    let mut small = line.clone();
+    small.pads.truncate(PAD - 1);
+    let five = small.event(9, 0, 0, book) == Err(5);
+    small.table[1].levels = 4;
+    let eight = small.event(9, 0, 0, book) == Err(8);
+    let spoils: [fn(&mut Chip); 7] = [
+        |chip| chip.kind = 3,
+        |chip| chip.es |= 0x40,
+        |chip| chip.latches = 4,
+        |chip| chip.step = Step::PioPair,
+        |chip| chip.step = Step::SearchTake(64),
+        |chip| chip.step = Step::WriteData(32),
+        |chip| chip.step = Step::SendCode,
+    ];
+    let spoiled = |spoil: &fn(&mut Chip)| {
+        let mut line = line.clone();
+        spoil(&mut line.table[0]);
+        line.refusal() == Some(8)
+    };
+    let all = spoils.iter().all(spoiled);
+    let mut long = Desk::with(&[DS2413; 16], book).line;
+    let fits = long.event(2, 0, 0, book) == Ok(0);
+    long.table.push(Chip::at_set_up(DS2413, 99));
+    six && seven && five && eight && all && fits && long.event(2, 0, 0, book) == Err(8)
+}
+
+fn search_refusals(book: &mut Book) -> bool {
+    let mut line = four(book);
+    line.images.push(0);
+    let nothing = |refusal| Found {
+        refusal: Some(refusal),
+        list: Vec::new(),
+        resets: 0,
+        slots: 0,
+    };
+    let five = search_line(&mut line, 16, book) == nothing(5);
+    line.table[0].latches = 9;
+    five && search_line(&mut line, 16, book) == nothing(8)
+}
+
+fn few_places(book: &mut Book) -> bool {
+    let card = [record(1, 1), record(2, 2), record(1, 3)].concat();
+    let refusal = |places, book: &mut Book| read_card(&card, places, book).err();
+    refusal(3, book).is_none()
+        && refusal(2, book) == Some((1, 24))
+        && refusal(1, book) == Some((1, 12))
+}
+
+/// Power on leaves the latches of a DS28EC20 and the registers of a DS2413.
+fn other_fields(book: &mut Book) -> bool {
+    let mut desk = Desk::with(&[DS28EC20, DS2413], book);
+    desk.line.table[0].latches = 1;
+    desk.line.table[0].levels = 2;
+    desk.line.table[1].t = 0x1234;
+    desk.line.table[1].es = AA;
+    desk.event(3);
+    let [memory, pio] = &desk.line.table[..] else {
+        return false;
+    };
+    (memory.latches, memory.levels, memory.t, memory.es) == (1, 2, 0, 0x20)
+        && (pio.t, pio.es, pio.latches, pio.levels) == (0x1234, AA, 3, 3)
+}
+
+#[cfg(test)]
+mod tests {
+    use super::CASES;
+    use crate::model::book::{Book, Place, RULES};
+
+    fn holds(name: &str) {
+        let found = CASES.iter().find(|(known, _)| *known == name);
+        let (_, case) = found.expect("a known case");
+        assert!(case(&mut Book::new(None)), "{name}");
+    }
+
+    macro_rules! tests {
+        ($($test:ident $name:literal,)*) => {
+            $(#[test]
+            fn $test() {
+                holds($name);
+            })*
+        };
+    }
+
+    tests! {
+        worked_output "worked list output",
+        case_1 "bench case 1",
+        case_2 "bench case 2",
+        case_3 "bench case 3",
+        case_4 "bench case 4",
+        case_5 "bench case 5",
+        case_6 "bench case 6",
+        case_7 "bench case 7",
+        case_8 "bench case 8",
+        case_9 "bench case 9",
+        sheet_example "the DS2413 sheet's write example",
+        takes_value "a receiving chip takes the slot's value",
+        last_address "the last address is read",
+        copy_below "E below T mod 32 copies nothing",
+        event_refusals "refusals of an event",
+        search_refusals "refusals of a search",
+        few_places "a card with few places",
+        other_fields "fields of the other kind stay",
+    }
+
+    /// The cases reach every rule that no program can show.
+    #[test]
+    fn lent_rules() {
+        let mut book = Book::new(None);
+        for (_, case) in CASES {
+            case(&mut book);
+        }
+        for (rule, place, text) in RULES {
+            assert!(*place != Place::Lent || book.count(*rule) > 0, "{text}");
+        }
+    }
+}

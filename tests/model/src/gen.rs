@@ -1,0 +1,6 @@
+//! Seeded cards and event scripts.
+
+pub mod bench;
+pub mod cards;
+pub mod rng;
+pub mod stories;

@@ -1,0 +1,174 @@
+//! Tries the list and wire programs against an independent model, or serves the model
+//! in their place.
+
+mod cases;
+mod gen;
+mod model;
+mod program;
+mod report;
+mod tester;
+
+use std::io::{self, Read, Write};
+use std::process::ExitCode;
+use std::time::{Duration, SystemTime, UNIX_EPOCH};
+
+use cases::{Case, CASES};
+use model::book::{slip_named, Book, Slip, SLIPS};
+use model::programs::{list, Wire};
+use tester::{run, Options};
+
+const USAGE: &str = "\
+wire-model [--list PROGRAM] [--wire PROGRAM] [--seed N|time] [--cards N] [--scripts N]
+           [--long] [--seconds N] [--stop N] [--wait SECONDS] [--rules]
+wire-model --serve-list [--slip NAME]
+wire-model --serve-wire CARDFILE [--slip NAME]
+wire-model --cases [--slip NAME]
+wire-model --slips";
+
+/// What is asked for.
+enum Mode {
+    Test,
+    ServeList,
+    ServeWire(String),
+    Cases,
+    Slips,
+}
+
+fn main() -> ExitCode {
+    let (mode, options, slip) = match read_flags() {
+        Ok(read) => read,
+        Err(message) => {
+            eprintln!("{message}\n{USAGE}");
+            return ExitCode::from(2);
+        }
+    };
+    let done = match mode {
+        Mode::Test => run_cases(None, false) && run(options),
+        Mode::ServeList => serve_list(slip).is_ok(),
+        Mode::ServeWire(path) => serve_wire(&path, slip).is_ok(),
+        Mode::Cases => run_cases(slip, true),
+        Mode::Slips => {
+            for (_, name, text) in SLIPS {
+                println!("{name:<20} {text}");
+            }
+            true
+        }
+    };
+    ExitCode::from(u8::from(!done))
+}
+
+/// Reads the command line.
+fn read_flags() -> Result<(Mode, Options, Option<Slip>), String> {
+    let mut mode = Mode::Test;
+    let mut slip = None;
+    let mut options = Options {
+        list: None,
+        wire: None,
+        seed: 1,
+        cards: 150,
+        scripts: 600,
+        stop: 10,
+        wait: Duration::from_secs(20),
+        seconds: None,
+        rules: false,
+    };
+    let mut flags = std::env::args().skip(1);
+    while let Some(flag) = flags.next() {
+        let mut value = || flags.next().ok_or(format!("{flag} asks for a value"));
+        match flag.as_str() {
+            "--list" => options.list = Some(value()?),
+            "--wire" => options.wire = Some(value()?),
+            "--seed" => options.seed = seed(&value()?)?,
+            "--cards" => options.cards = number(&value()?)?,
+            "--scripts" => options.scripts = number(&value()?)?,
+            "--stop" => options.stop = number(&value()?)?.max(1),
+            "--wait" => options.wait = Duration::from_secs(number(&value()?)? as u64),
+            "--seconds" => options.seconds = Some(number(&value()?)? as u64),
+            "--rules" => options.rules = true,
+            "--long" => {
+                options.cards = 3000;
+                options.scripts = 20000;
+                options.seconds = None;
+            }
+            "--slip" => {
+                let name = value()?;
+                slip = Some(slip_named(&name).ok_or(format!("no slip is named {name}"))?);
+            }
+            "--serve-list" => mode = Mode::ServeList,
+            "--serve-wire" => mode = Mode::ServeWire(value()?),
+            "--cases" => mode = Mode::Cases,
+            "--slips" => mode = Mode::Slips,
+            _ => return Err(format!("unknown flag {flag}")),
+        }
+    }
+    if matches!(mode, Mode::Test) && options.list.is_none() && options.wire.is_none() {
+        return Err("nothing to test".into());
+    }
+    Ok((mode, options, slip))
+}
+
+fn number(text: &str) -> Result<usize, String> {
+    text.parse().map_err(|_| format!("{text} is no number"))
+}
+
+/// A seed given as a number, or taken from the clock.
+fn seed(text: &str) -> Result<u64, String> {
+    if text == "time" {
+        let since = SystemTime::now().duration_since(UNIX_EPOCH);
+        return Ok(since.map_or(0, |since| since.as_nanos() as u64 % 1_000_000_000));
+    }
+    number(text).map(|seed| seed as u64)
+}
+
+/// The model as the list program.
+fn serve_list(slip: Option<Slip>) -> io::Result<()> {
+    let mut card = Vec::new();
+    io::stdin().lock().read_to_end(&mut card)?;
+    let text = list(&card, &mut Book::new(slip));
+    io::stdout().lock().write_all(text.as_bytes())
+}
+
+/// The model as the wire program.
+fn serve_wire(path: &str, slip: Option<Slip>) -> io::Result<()> {
+    let mut book = Book::new(slip);
+    let card = std::fs::read(path).inspect_err(|error| eprintln!("cannot read {path}: {error}"))?;
+    let mut output = io::stdout().lock();
+    let mut wire = match Wire::open(&card, &mut book) {
+        Ok(wire) => wire,
+        Err(line) => return output.write_all(line.as_bytes()),
+    };
+    let mut input = io::stdin().lock();
+    let mut buffer = [0; 4096];
+    let mut answers = Vec::new();
+    loop {
+        let count = input.read(&mut buffer)?;
+        for character in &buffer[..count] {
+            answers.extend(wire.take(*character, &mut book));
+        }
+        if count == 0 {
+            answers.extend(wire.end(&mut book));
+        }
+        if count == 0 || !book.slips(Slip::HeldBack) {
+            output.write_all(&answers)?;
+            output.flush()?;
+            answers.clear();
+        }
+        if count == 0 {
+            return Ok(());
+        }
+    }
+}
+
+/// The model's own cases; told in full, or only if one fails.
+fn run_cases(slip: Option<Slip>, told: bool) -> bool {
+    let fails = |(_, case): &&(&str, Case)| !case(&mut Book::new(slip));
+    let failing: Vec<_> = CASES.iter().filter(fails).collect();
+    for (name, _) in &failing {
+        println!("case fails: {name}");
+    }
+    let failed = failing.len();
+    if told || failed > 0 {
+        println!("{} passed, {failed} failed", CASES.len() - failed);
+    }
+    failed == 0
+}

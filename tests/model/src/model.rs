@@ -1,0 +1,11 @@
+//! An independent model of the line, its chips, the card, the search and the two
+//! programs, written from the paper's words.
+
+pub mod book;
+pub mod card;
+pub mod chip;
+pub mod crc;
+pub mod line;
+pub mod memory;
+pub mod programs;
+pub mod search;

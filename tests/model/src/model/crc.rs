@@ -1,0 +1,37 @@
+//! The two check sums.
+
+/// CRC-8: X^8+X^5+X^4+1, start 0, least significant bit first.
+pub fn crc8(bytes: &[u8]) -> u8 {
+    let mut register = 0u8;
+    for byte in bytes {
+        for place in 0..8 {
+            let carry = (register & 1) ^ (byte >> place & 1);
+            register >>= 1;
+            if carry == 1 {
+                register ^= 0x8C;
+            }
+        }
+    }
+    register
+}
+
+/// CRC-16: X^16+X^15+X^2+1, start 0, least significant bit first, not yet inverted.
+pub fn crc16(bytes: &[u8]) -> u16 {
+    let mut register = 0u16;
+    for byte in bytes {
+        for place in 0..8 {
+            let carry = (register & 1) ^ u16::from(byte >> place & 1);
+            register >>= 1;
+            if carry == 1 {
+                register ^= 0xA001;
+            }
+        }
+    }
+    register
+}
+
+/// Whether a code's eighth byte is the CRC-8 of the first seven.
+pub fn code_is_ok(code: u64) -> bool {
+    let bytes = code.to_le_bytes();
+    crc8(&bytes[..7]) == bytes[7]
+}

@@ -1,0 +1,524 @@
+//! Runs the programs on generated inputs and holds every answer against the model.
+
+use std::fs;
+use std::path::PathBuf;
+use std::time::{Duration, Instant};
+
+use crate::gen::bench::{Bench, Script};
+use crate::gen::cards::{card_of, damaged_card, good_card, Style, DAMAGES};
+use crate::gen::rng::Rng;
+use crate::gen::stories::{walk, Story, STORIES};
+use crate::model::book::{Book, Place, RULES};
+use crate::model::programs::{list, Wire};
+use crate::program::Program;
+use crate::report::{first_difference, hex, rows, split_events};
+
+/// What to run.
+pub struct Options {
+    /// Command line of the list program.
+    pub list: Option<String>,
+    /// Command line of the wire program, up to the card file.
+    pub wire: Option<String>,
+    pub seed: u64,
+    /// Random cards for the list program.
+    pub cards: usize,
+    /// Random scripts for the wire program.
+    pub scripts: usize,
+    /// Failures after which the run stops.
+    pub stop: usize,
+    /// How long to wait for an answer.
+    pub wait: Duration,
+    /// Time after which no further random input is begun, if there is a bound.
+    pub seconds: Option<u64>,
+    /// Whether each rule is shown with its count.
+    pub rules: bool,
+}
+
+/// Scripts given to one process on a random card.
+const SCRIPTS_PER_CARD: usize = 12;
+/// Damaged cards given to the wire program.
+const WIRE_DAMAGES: usize = 2 * DAMAGES;
+/// Bounds on the search for a shorter script.
+const SHRINK_RUNS: usize = 400;
+const SHRINK_TIME: Duration = Duration::from_secs(15);
+
+/// A test run.
+struct Tester {
+    options: Options,
+    start: Instant,
+    /// Where card files are kept during the run.
+    folder: PathBuf,
+    passed: usize,
+    failed: usize,
+    cards: usize,
+    scripts: usize,
+    events: usize,
+}
+
+/// One script to be written: its name, how, and whether it is cut and disturbed.
+#[derive(Clone, Copy)]
+struct Plan {
+    name: &'static str,
+    tell: fn(&mut Bench<'_>),
+    wild: bool,
+}
+
+impl Plan {
+    fn of(story: &Story, wild: bool) -> Plan {
+        Plan {
+            name: story.name,
+            tell: story.tell,
+            wild,
+        }
+    }
+}
+
+/// A seed of its own for part of a run.
+fn seed_for(seed: u64, part: u64, number: usize) -> Rng {
+    let mixed = Rng::new(seed ^ part << 56).bits();
+    Rng::new(mixed.wrapping_add(number as u64))
+}
+
+/// Runs everything asked for; whether nothing failed.
+pub fn run(options: Options) -> bool {
+    let start = Instant::now();
+    println!("seed {}", options.seed);
+    let name = format!("wire-model-{}", std::process::id());
+    let folder = std::env::temp_dir().join(name);
+    if let Err(error) = fs::create_dir_all(&folder) {
+        println!("cannot make {}: {error}", folder.display());
+        println!("0 passed, 1 failed");
+        return false;
+    }
+    let mut tester = Tester {
+        options,
+        start,
+        folder,
+        passed: 0,
+        failed: 0,
+        cards: 0,
+        scripts: 0,
+        events: 0,
+    };
+    let mut book = Book::new(None);
+    if let Some(command) = tester.options.list.clone() {
+        tester.run_list(&command, &mut book);
+    }
+    if let Some(command) = tester.options.wire.clone() {
+        tester.run_wire(&command, &mut book);
+    }
+    tester.judge_rules(&book);
+    // The folder holds card files alone; a leftover does no harm.
+    let _ = fs::remove_dir_all(&tester.folder);
+    println!(
+        "{} cards, {} scripts, {} events, {:.1} s",
+        tester.cards,
+        tester.scripts,
+        tester.events,
+        start.elapsed().as_secs_f64()
+    );
+    println!("{} passed, {} failed", tester.passed, tester.failed);
+    tester.failed == 0
+}
+
+impl Tester {
+    /// Whether enough has failed.
+    fn is_over(&self) -> bool {
+        self.failed >= self.options.stop
+    }
+
+    /// Whether so many percent of the time allowed are used up.
+    fn is_late(&self, percent: u64) -> bool {
+        let used = self.start.elapsed().as_millis() as u64;
+        let bound = self.options.seconds;
+        bound.is_some_and(|seconds| used > seconds * 10 * percent)
+    }
+
+    /// Names the rules that the run should have reached and has not.
+    fn judge_rules(&mut self, book: &Book) {
+        if self.is_over() {
+            println!("stopped early: what was not run counts as failed, rules are not judged");
+            return;
+        }
+        if self.options.rules {
+            for (rule, place, text) in RULES {
+                println!("{:>9} {place:?}: {text}", book.count(*rule));
+            }
+        }
+        let asked = |place: Place| match place {
+            Place::List => self.options.list.is_some(),
+            Place::Wire => self.options.wire.is_some(),
+            Place::Lent => false,
+        };
+        let rules = RULES.iter().filter(|(_, place, _)| asked(*place));
+        let (met, missed): (Vec<_>, Vec<_>) = rules.partition(|(rule, ..)| book.count(*rule) > 0);
+        println!(
+            "{} of {} rules reached",
+            met.len(),
+            met.len() + missed.len()
+        );
+        for (_, _, text) in &missed {
+            println!("rule not reached: {text}");
+        }
+        self.failed += missed.len();
+    }
+
+    /// Counts one comparison.
+    fn count(&mut self, agrees: bool) {
+        if agrees {
+            self.passed += 1;
+        } else {
+            self.failed += 1;
+        }
+    }
+
+    /// The list program on good and damaged cards.
+    fn run_list(&mut self, command: &str, book: &mut Book) {
+        let seed = self.options.seed;
+        let styles = [Style::Full, Style::Deep, Style::Twins, Style::Mixed];
+        let fixed = 17 + styles.len() + 2 * DAMAGES;
+        let total = fixed + self.options.cards;
+        for number in 0..total {
+            if self.is_over() {
+                self.failed += total - number;
+                return;
+            }
+            if number >= fixed && self.is_late(40) {
+                println!("time is up: {} random cards left out", total - number);
+                return;
+            }
+            let mut rng = seed_for(seed, 1, number);
+            let card = match number {
+                0..=16 => card_of(&mut rng, number),
+                17..=20 => good_card(&mut rng, styles[number - 17]),
+                _ if number < fixed => damaged_card(&mut rng, (number - 21) % DAMAGES),
+                _ if rng.chance(60) => good_card(&mut rng, Style::Any),
+                _ => {
+                    let damage = rng.below(DAMAGES);
+                    damaged_card(&mut rng, damage)
+                }
+            };
+            self.cards += 1;
+            let want = list(&card, book);
+            let got = self.list_output(command, &card);
+            self.count(got == want);
+            if got != want {
+                self.report_list(command, number, card);
+            }
+        }
+    }
+
+    /// What the list program writes for a card.
+    fn list_output(&self, command: &str, card: &[u8]) -> String {
+        let mut program = Program::start(command, None, self.options.wait);
+        program.send(card);
+        String::from_utf8_lossy(&program.end().0).into_owned()
+    }
+
+    /// Shows a difference of the list program on a card made as short as can be.
+    fn report_list(&self, command: &str, number: usize, mut card: Vec<u8>) {
+        let wanted = |card: &[u8]| list(card, &mut Book::new(None));
+        println!(
+            "\nDIFFERENCE: list, card {number} of seed {}",
+            self.options.seed
+        );
+        println!("card: {}", hex(&card));
+        let start = Instant::now();
+        let mut at = 0;
+        while at < card.len() && start.elapsed() < SHRINK_TIME {
+            let mut shorter = card.clone();
+            shorter.drain(at..(at + 12).min(card.len()));
+            if self.list_output(command, &shorter) == wanted(&shorter) {
+                at += 12;
+            } else {
+                card = shorter;
+            }
+        }
+        println!("shorter card: {}", hex(&card));
+        println!("model:\n{}", wanted(&card));
+        println!("program:\n{}", self.list_output(command, &card));
+    }
+
+    /// The wire program on scripts, refused cards and missing ones.
+    fn run_wire(&mut self, command: &str, book: &mut Book) {
+        let seed = self.options.seed;
+        let random = Plan {
+            name: "walk",
+            tell: walk,
+            wild: true,
+        };
+        // Each story on its own line, first as it stands, then disturbed.
+        for (number, story) in STORIES.iter().enumerate() {
+            let mut rng = seed_for(seed, 2, number);
+            let card = good_card(&mut rng, story.style);
+            let plans = [Plan::of(story, false), Plan::of(story, true), random];
+            self.run_card(command, &card, rng, &plans, false, book);
+        }
+        // One event at a time.
+        for number in 0..2 {
+            let mut rng = seed_for(seed, 3, number);
+            let card = good_card(&mut rng, Style::Mixed);
+            let plans = ["copy", "pio write"].map(|name| {
+                let story = STORIES.iter().find(|story| story.name == name);
+                Plan::of(story.expect("a known story"), false)
+            });
+            self.run_card(command, &card, rng, &plans, true, book);
+        }
+        self.run_refused(command, book);
+        // Random stories on random lines.
+        let mut number = 0;
+        while number < self.options.scripts {
+            if self.is_late(100) {
+                let left = self.options.scripts - number;
+                println!("time is up: {left} random scripts left out");
+                return;
+            }
+            let mut rng = seed_for(seed, 4, number);
+            let style = rng.pick(&[
+                Style::OneMemory,
+                Style::OneMemory,
+                Style::OnePio,
+                Style::Mixed,
+                Style::Mixed,
+                Style::Twins,
+                Style::Any,
+                Style::Any,
+                Style::Full,
+                Style::Deep,
+            ]);
+            let card = good_card(&mut rng, style);
+            let count = SCRIPTS_PER_CARD.min(self.options.scripts - number);
+            let plans: Vec<Plan> = (0..count)
+                .map(|_| match rng.below(3) {
+                    0 => Plan::of(&STORIES[rng.below(STORIES.len())], true),
+                    _ => random,
+                })
+                .collect();
+            self.run_card(command, &card, rng, &plans, false, book);
+            number += count;
+        }
+    }
+
+    /// Writes the card file.
+    fn card_file(&self, card: &[u8]) -> PathBuf {
+        let path = self.folder.join("card");
+        fs::write(&path, card).expect("a card file in the temporary folder");
+        path
+    }
+
+    /// Scripts for one card, in one process as long as it agrees.
+    fn run_card(
+        &mut self,
+        command: &str,
+        card: &[u8],
+        mut rng: Rng,
+        plans: &[Plan],
+        singly: bool,
+        book: &mut Book,
+    ) {
+        let path = self.card_file(card);
+        let mut plans = plans.iter();
+        while plans.len() > 0 {
+            if self.is_over() {
+                self.failed += plans.len();
+                return;
+            }
+            let mut program = Program::start(command, Some(&path), self.options.wait);
+            let mut bench = Bench::new(card, Rng::new(rng.bits()), book);
+            let mut sent = Vec::new();
+            let mut agrees = true;
+            for plan in plans.by_ref() {
+                bench.wild = plan.wild;
+                (plan.tell)(&mut bench);
+                let script = bench.take_script();
+                sent.extend(&script.text);
+                self.scripts += 1;
+                self.events += script.answers.len();
+                let got = ask(&mut program, &script, singly);
+                agrees = got == script.answers;
+                self.count(agrees);
+                if !agrees {
+                    self.report_wire(command, card, plan.name, &sent, &script, &got);
+                    break;
+                }
+            }
+            let tail = bench.end();
+            if agrees {
+                program.send(&tail.text);
+                let (rest, ended) = program.end();
+                self.count(rest == tail.answers && ended);
+                if rest != tail.answers || !ended {
+                    println!("\nDIFFERENCE: wire, end of input");
+                    println!("card: {}", hex(card));
+                    println!("last characters: {:?}", String::from_utf8_lossy(&tail.text));
+                    println!(
+                        "output after the last answer: {:?}",
+                        String::from_utf8_lossy(&rest)
+                    );
+                    println!("the program has ended by itself: {ended}");
+                }
+            }
+        }
+    }
+
+    /// Shows a difference of the wire program on a script made as short as can be.
+    fn report_wire(
+        &self,
+        command: &str,
+        card: &[u8],
+        name: &str,
+        sent: &[u8],
+        script: &Script,
+        got: &[u8],
+    ) {
+        println!(
+            "\nDIFFERENCE: wire, script {name:?} of seed {}",
+            self.options.seed
+        );
+        println!("card: {}", hex(card));
+        let at = first_difference(&script.answers, got);
+        let before = split_events(sent).len() - split_events(&script.text).len();
+        println!(
+            "event {at} of the script, {} since set-up: model {}, program {}",
+            before + at,
+            shown(&script.answers, at),
+            shown(got, at)
+        );
+        let Some(events) = self.shrink(command, card, sent) else {
+            println!("not seen again in one go: answers may come late or not at all");
+            println!("{}", rows(&script.text, &script.answers, got));
+            return;
+        };
+        let text = events.concat();
+        let want = model_answers(card, &text);
+        let got = self.wire_output(command, card, &text);
+        println!("shortest script found, {} events:", events.len());
+        println!("{}", rows(&text, &want, &got));
+    }
+
+    /// What the wire program answers to a whole script.
+    fn wire_output(&self, command: &str, card: &[u8], text: &[u8]) -> Vec<u8> {
+        let path = self.card_file(card);
+        let mut program = Program::start(command, Some(&path), self.options.wait);
+        program.send(text);
+        program.end().0
+    }
+
+    /// The events of a script that still shows a difference, or none if it shows none.
+    fn shrink(&self, command: &str, card: &[u8], text: &[u8]) -> Option<Vec<Vec<u8>>> {
+        let start = Instant::now();
+        let mut runs = 0;
+        // The events up to the first difference.
+        let mut differing = |events: &[Vec<u8>]| {
+            runs += 1;
+            let text = events.concat();
+            let want = model_answers(card, &text);
+            let got = self.wire_output(command, card, &text);
+            let at = first_difference(&want, &got);
+            let over = runs > SHRINK_RUNS || start.elapsed() > SHRINK_TIME;
+            let shows = got != want;
+            (
+                over,
+                shows.then(|| events[..(at + 1).min(events.len())].to_vec()),
+            )
+        };
+        let (_, found) = differing(&split_events(text));
+        let mut events = found?;
+        let mut part = events.len() / 2;
+        while part > 0 {
+            let mut at = 0;
+            while at < events.len() {
+                let mut shorter = events.clone();
+                shorter.drain(at..(at + part).min(events.len()));
+                let (over, found) = differing(&shorter);
+                match found {
+                    Some(found) => events = found,
+                    None => at += part,
+                }
+                if over {
+                    return Some(events);
+                }
+            }
+            part /= 2;
+        }
+        Some(events)
+    }
+
+    /// Refused cards, a missing file and a missing argument.
+    fn run_refused(&mut self, command: &str, book: &mut Book) {
+        for number in 0..WIRE_DAMAGES {
+            let mut rng = seed_for(self.options.seed, 5, number);
+            let card = damaged_card(&mut rng, number % DAMAGES);
+            let text = b"2 1013";
+            let want = match Wire::open(&card, book) {
+                Ok(_) => model_answers(&card, text),
+                Err(line) => line.into_bytes(),
+            };
+            if self.is_over() {
+                self.failed += 1;
+                continue;
+            }
+            self.cards += 1;
+            let got = self.wire_output(command, &card, text);
+            self.count(got == want);
+            if got != want {
+                println!(
+                    "\nDIFFERENCE: wire, damaged card of seed {}",
+                    self.options.seed
+                );
+                println!("card: {}", hex(&card));
+                println!("model: {:?}", String::from_utf8_lossy(&want));
+                println!("program: {:?}", String::from_utf8_lossy(&got));
+            }
+        }
+        let missing = self.folder.join("missing");
+        let errors = self.folder.join("errors");
+        for path in [Some(missing.as_path()), None] {
+            if self.is_over() {
+                self.failed += 1;
+                continue;
+            }
+            let program = Program::start_noting(command, path, self.options.wait, &errors);
+            let (mut said, ended) = program.end();
+            said.extend(fs::read(&errors).unwrap_or_default());
+            let clear = said.iter().any(u8::is_ascii_graphic) && ended;
+            self.count(clear);
+            if !clear {
+                println!("\nDIFFERENCE: wire, no clear line for a missing file or argument");
+            }
+        }
+    }
+}
+
+/// Puts a script to a program, at once or event by event, and gives its answers.
+fn ask(program: &mut Program, script: &Script, singly: bool) -> Vec<u8> {
+    if !singly {
+        program.send(&script.text);
+        return program.receive(script.answers.len());
+    }
+    let mut got = Vec::new();
+    for (event, want) in split_events(&script.text).iter().zip(&script.answers) {
+        program.send(event);
+        let answer = program.receive(1);
+        got.extend(&answer);
+        if answer != [*want] {
+            break;
+        }
+    }
+    got
+}
+
+/// The model's answers to a script on a fresh line.
+fn model_answers(card: &[u8], text: &[u8]) -> Vec<u8> {
+    let mut book = Book::new(None);
+    let mut wire = Wire::open(card, &mut book).expect("a good card");
+    let taken = text.iter().filter_map(|at| wire.take(*at, &mut book));
+    taken.collect()
+}
+
+/// An answer as it is shown.
+fn shown(answers: &[u8], at: usize) -> String {
+    answers.get(at).map_or("nothing".into(), |answer| {
+        format!("{:?}", char::from(*answer))
+    })
+}
