@@ -1,0 +1,155 @@
+-- Laws: a chip keeps its code and kind, the sizes of its memory and scratchpad, and its ranges, whatever happens to it.
+use Prim.Native.Nat.{ℕ, zero, suc, _+_, _≤_}
+use mathlib.Core.Bool.{Bool, true, false}
+use mathlib.Core.List.{List, [], _∷_, map}
+use mathlib.Core.Path.{_≡_, refl, _∙_, ap, sym}
+use lib.Dec.{eqb, ltb, leb}
+use lib.ListN.{length}
+use borrow.Author.Tests.{eqb-true, le-leb}
+use Rattle.base.specs.Pick.{pick}
+use Rattle.base.specs.Bits.{both}
+use Rattle.base.specs.Both.{both-holds}
+use Rattle.rom.specs.Rom.{romTakes}
+use Rattle.rom.specs.declared.RomNext.{RomNext}
+use Rattle.rom.specs.declared.RomNext.the-variants as next
+use Rattle.scratchpad.specs.Scratchpad.{memoryFunction, memoryInRange, registersInRange}
+use Rattle.scratchpad.specs.Registers.{powerOnRegisters}
+use Rattle.scratchpad.specs.declared.Registers.{Registers}
+use Rattle.ds28ec20.specs.Map.{lastAddress}
+use Rattle.ds28ec20.specs.Image.{sightOf}
+use Rattle.ds2413.specs.Switch.{switchInRange, phaseInRange, switchPowerOn, switch}
+use Rattle.ds2413.specs.declared.Switch.{Switch}
+use Rattle.chip.specs.Chip.{Whole, chipWith, levelOf, romSlot, functionLevel, functionSlot, memoryStep, memorySlot, switchSlot, levelTakes, takesOf, levelReset, resetChip, resetOf, powerOnChip, powerOnOf, levelsChip, levelsOf}
+use Rattle.chip.specs.Range.{knownKind, levelInRange, inRange, imageSize, padSize}
+use Rattle.chip.specs.declared.Chip.{Chip}
+use Rattle.chip.specs.declared.Level.{Level}
+use Rattle.chip.specs.declared.Level.the-variants.{Waiting, Rom, FunctionCommand, Memory, Pio}
+use Rattle.line.specs.Line.{actOf}
+use Rattle.line.specs.Sizes.{act-sized}
+use Rattle.line.specs.declared.Act.{Act}
+use Rattle.line.specs.declared.Act.the-variants.{Take, Reset, PowerOn}
+use Rattle.runs.specs.Range.{pick-if, pick-both, both-true′, more-below, Clear, clear-of, of-clear, NextInRange, rom-leads, function-in-range, memory-in-range, reset-clear, pio-function, switch-in-range}
+
+-- a record in range, part by part
+pub record InRange (c : Chip) : Type 0 where
+  pub known : knownKind (c .kind) ≡ true
+  pub clear : Clear (c .registers .es)
+  pub pins : switchInRange (c .switch) ≡ true
+  pub place : levelInRange (c .kind) (c .level) ≡ true
+
+pub in-range : (c : Chip) → inRange c ≡ true → InRange c
+unfolding inRange registersInRange
+in-range c h =
+    let p = both-holds (both (knownKind (c .kind)) _) (both (switchInRange (c .switch)) _) h in
+    let q = both-holds (knownKind (c .kind)) _ (p .0) in
+    let r = both-holds (switchInRange (c .switch)) _ (p .1) in
+    record { known = q .0; clear = clear-of (c .registers .es) (q .1); pins = r .0; place = r .1 }
+
+pub range-in : (c : Chip) → InRange c → inRange c ≡ true
+unfolding inRange registersInRange
+range-in c h =
+    both-true′ _ _ (both-true′ _ _ (h .known) (of-clear (c .registers .es) (h .clear))) (both-true′ _ _ (h .pins) (h .place))
+
+next-level : (kind : ℕ) (n : RomNext) → NextInRange n → levelInRange kind (levelOf n) ≡ true
+next-level kind next.Wait h = refl
+next-level kind (next.Step s) h = h
+next-level kind next.Function h = refl
+
+-- the same chip at another level in range
+at-level : (c : Chip) (l : Level) (rc : Bool) → InRange c → levelInRange (c .kind) l ≡ true → InRange (chipWith c l rc (c .registers) (c .switch))
+at-level c l rc h k = record { known = h .known; clear = h .clear; pins = h .pins; place = k }
+
+function-in : (c : Chip) (b : ℕ) → levelInRange (c .kind) (functionLevel c b) ≡ true
+unfolding functionLevel
+function-in c b =
+    pick-if P _ _ _ (λ e. both-true′ _ _ e (function-in-range lastAddress b))
+    (λ e. pick-if P _ _ _ (λ f. both-true′ _ _ f (pio-function (c .switch) b)) (λ f. refl))
+  where
+    P : Level → Type 0
+    P l = levelInRange (c .kind) l ≡ true
+
+level-in : (w : Whole) (v : Bool) (l : Level) → InRange (w .chip) → levelInRange (w .chip .kind) l ≡ true → InRange (levelTakes w v l .chip)
+unfolding romSlot functionSlot memorySlot memoryStep switchSlot sightOf
+level-in w v Waiting h k = h
+level-in w v (Rom s) h k = at-level (w .chip) _ _ h (next-level (w .chip .kind) (romTakes (w .chip .code) (w .chip .rc) v s .next) (rom-leads (w .chip .code) (w .chip .rc) v s k))
+level-in w v (FunctionCommand count bits) h k =
+    pick-if InRange _ _ _ (λ e. at-level (w .chip) _ _ h (more-below count 7 e)) (λ e. at-level (w .chip) _ _ h (function-in (w .chip) _))
+level-in w v (Memory p) h k =
+    let q = both-holds (eqb (w .chip .kind) 1) (memoryInRange lastAddress p) k in
+    let m = memory-in-range lastAddress (sightOf (w .chip .registers) p (w .memory) (w .pad)) refl (w .chip .registers) v p (h .clear) (q .1) in
+    record { known = h .known; clear = m .0; pins = h .pins; place = both-true′ _ _ (q .0) (m .1) }
+level-in w v (Pio p) h k =
+    let q = both-holds (eqb (w .chip .kind) 2) (phaseInRange p) k in
+    let m = switch-in-range (w .chip .switch) v p (h .pins) (q .1) in
+    record { known = h .known; clear = h .clear; pins = m .0; place = both-true′ _ _ (q .0) (m .1) }
+
+level-clear : (r : Registers) (l : Level) → Clear (r .es) → Clear (levelReset r l .es)
+level-clear r Waiting h = h
+level-clear r (Rom s) h = h
+level-clear r (FunctionCommand count bits) h = h
+level-clear r (Memory p) h = reset-clear r p h
+level-clear r (Pio p) h = h
+
+-- every act keeps the ranges
+pub act-in-range : (a : Act) (w : Whole) → InRange (w .chip) → InRange (actOf a w .chip)
+unfolding takesOf resetOf resetChip powerOnOf powerOnChip switchInRange
+act-in-range (Take v) w h = level-in w v (w .chip .level) h (h .place)
+act-in-range Reset w h = record { known = h .known; clear = level-clear (w .chip .registers) (w .chip .level) (h .clear); pins = h .pins; place = refl }
+act-in-range PowerOn w h =
+    record {
+      known = h .known;
+      clear = pick-both (λ (r : Registers). Clear (r .es)) _ _ _ refl (h .clear);
+      pins = pick-both (λ (s : Switch). switchInRange s ≡ true) _ _ _ (powered (w .chip .switch) (h .pins)) (h .pins);
+      place = refl;
+    }
+  where
+    powered : (s : Switch) → switchInRange s ≡ true → switchInRange (switchPowerOn s) ≡ true
+    powered s k = both-true′ _ _ refl (both-holds (leb (s .latches) 3) (leb (s .levels) 3) k .1)
+
+-- so do levels of two bits
+pub levels-in-range : (l : ℕ) (w : Whole) → l ≤ 3 → InRange (w .chip) → InRange (levelsOf l w .chip)
+unfolding levelsOf levelsChip switchInRange
+levels-in-range l w k h =
+    record { known = h .known; clear = h .clear; pins = both-true′ _ _ (both-holds (leb (w .chip .switch .latches) 3) (leb (w .chip .switch .levels) 3) (h .pins) .0) (le-leb l 3 k); place = h .place }
+
+-- code and kind stay
+abbrev pub Named : Whole → Whole → Type 0
+Named w u = (u .chip .code ≡ w .chip .code) × (u .chip .kind ≡ w .chip .kind)
+
+level-named : (w : Whole) (v : Bool) (l : Level) → Named w (levelTakes w v l)
+unfolding romSlot functionSlot memorySlot switchSlot
+level-named w v Waiting = (refl, refl)
+level-named w v (Rom s) = (refl, refl)
+level-named w v (FunctionCommand count bits) = pick-both (λ (c : Chip). (c .code ≡ w .chip .code) × (c .kind ≡ w .chip .kind)) _ _ _ (refl, refl) (refl, refl)
+level-named w v (Memory p) = (refl, refl)
+level-named w v (Pio p) = (refl, refl)
+
+pub act-named : (a : Act) (w : Whole) → Named w (actOf a w)
+unfolding takesOf resetOf resetChip powerOnOf powerOnChip switchInRange
+act-named (Take v) w = level-named w v (w .chip .level)
+act-named Reset w = (refl, refl)
+act-named PowerOn w = (refl, refl)
+
+pub levels-named : (l : ℕ) (w : Whole) → Named w (levelsOf l w)
+unfolding levelsOf levelsChip
+levels-named l w = (refl, refl)
+
+-- a chip that is in range and has the memory and scratchpad that its kind asks for
+pub record Good (w : Whole) : Type 0 where
+  pub range : InRange (w .chip)
+  pub memory : length (w .memory) ≡ imageSize (w .chip .kind)
+  pub pad : length (w .pad) ≡ padSize (w .chip .kind)
+
+pub act-good : (a : Act) (w : Whole) → Good w → Good (actOf a w)
+act-good a w g =
+    let n = act-named a w in
+    let s = act-sized a w in
+    record {
+      range = act-in-range a w (g .range);
+      memory = s .0 ∙ g .memory ∙ ap imageSize (sym (n .1));
+      pad = s .1 ∙ g .pad ∙ ap padSize (sym (n .1));
+    }
+
+pub levels-good : (l : ℕ) (w : Whole) → l ≤ 3 → Good w → Good (levelsOf l w)
+unfolding levelsOf levelsChip
+levels-good l w k g = record { range = levels-in-range l w k (g .range); memory = g .memory; pad = g .pad }

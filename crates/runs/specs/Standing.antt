@@ -1,0 +1,264 @@
+-- A line that stands well goes on standing well: refusals 8 and 5 never come up in a run from a good line, and what the public
+-- event does to a table and its buffers is what happens to the line of whole chips.
+use Prim.Native.Nat.{ℕ, zero, suc, _+_, _<_, _≤_}
+use native.Mathlib.Omega.{arith}
+use native.Mathlib.Nat.{not-suc-le-zero, le-of-suc-le-suc}
+use mathlib.Core.Bool.{Bool, true, false, true≢false}
+use mathlib.Core.List.{List, [], _∷_, _++_, map}
+use mathlib.Core.Path.{_≡_, refl, _∙_, ap, sym}
+use lib.Dec.{eqb, ltb, leb}
+use lib.ListN.{length, take, drop, getD, length-append, length-drop, take-append-drop}
+use lib.Seq.{length-take-le, take-at, drop-at, getD-take}
+use borrow.Author.Tests.{ltb-true, leb-true, le-leb, eq-eqb, eqb-true}
+use Rattle.base.specs.Pick.{pick, pick-true, pick-false}
+use Rattle.base.specs.Bits.{both}
+use Rattle.base.specs.Both.{both-holds}
+use Rattle.chip.specs.Chip.{Whole, whole, levelsOf}
+use Rattle.chip.specs.Range.{inRange, imageSize, padSize}
+use Rattle.chip.specs.declared.Chip.{Chip}
+use Rattle.line.specs.Line.{actOf, levelsAt, busBit, lineAfter, slotValue}
+use Rattle.line.specs.Layout.{imagesSize, padsSize, split, chipsOf, imagesOf, padsOf, Lent, lent, lineOf, lentFrom}
+use Rattle.line.specs.Event.{Answered, bit, refused, noChip, allInRange, tableInRange, sizesFit, levelsFit, Outcome, outcome, happens, acceptedOf, eventOf}
+use Rattle.line.specs.Refusals.{chips-split, images-split, pads-split, fit, in-range-few}
+use Rattle.line.specs.declared.Event.{Event}
+use Rattle.line.specs.declared.Act.{Act}
+use Rattle.line.specs.declared.Act.the-variants.{Take, Reset, PowerOn}
+use Rattle.search.specs.Search.{Attached, attached, eventOn, saysOf, leavesOf, leftBy}
+use Rattle.runs.specs.Runs.{at, noWhole, levelsTaken, answerOf, afterOf}
+use Rattle.runs.specs.Range.{pick-if, both-true′}
+use Rattle.runs.specs.Keeps.{InRange, in-range, range-in, Good, act-good, act-named, levels-good, levels-named}
+
+-- every chip of a line is good
+abbrev pub AllGood : List Whole → Type 0
+AllGood [] = Unit
+AllGood (w ∷ L) = Good w × AllGood L
+
+-- a table with its buffers that is refused by neither 8 nor 5, and has its chips in its places
+pub record Stands (l : Attached) : Type 0 where
+  pub range : tableInRange (l .count) (l .lent .chips) ≡ true
+  pub sizes : sizesFit (l .count) (l .lent .chips) (l .lent .images) (l .lent .pads) ≡ true
+  pub places : l .count ≤ length (l .lent .chips)
+
+-- the line of a table
+abbrev pub lineFrom : Attached → List Whole
+lineFrom l = lineOf (l .count) (l .lent .chips) (l .lent .images) (l .lent .pads)
+
+-- a table with another line in its first places
+abbrev pub withLine : Attached → List Whole → Attached
+withLine l L = record { count = l .count; lent = lentFrom (l .count) (l .lent .chips) L }
+
+-- what any event keeps of a line
+map-good : (a : Act) (L : List Whole) → AllGood L → AllGood (map (actOf a) L)
+map-good a [] g = tt
+map-good a (w ∷ L) (g, h) = (act-good a w g, map-good a L h)
+
+levels-all : (i l : ℕ) (L : List Whole) → l ≤ 3 → AllGood L → AllGood (levelsAt i l L)
+levels-all i l [] k g = tt
+levels-all zero l (w ∷ L) k (g, h) = (levels-good l w k g, h)
+levels-all (suc i) l (w ∷ L) k (g, h) = (g, levels-all i l L k h)
+
+length-map′ : (f : Whole → Whole) (L : List Whole) → length (map f L) ≡ length L
+length-map′ f [] = refl
+length-map′ f (w ∷ L) = ap suc (length-map′ f L)
+
+length-levels : (i l : ℕ) (L : List Whole) → length (levelsAt i l L) ≡ length L
+length-levels i l [] = refl
+length-levels zero l (w ∷ L) = refl
+length-levels (suc i) l (w ∷ L) = ap suc (length-levels i l L)
+
+-- event 4 that is taken has levels of two bits
+taken-levels : (e : Event) (L : List Whole) → levelsTaken e L ≡ true → e .number ≡ 4 → e .levels ≤ 3
+unfolding levelsTaken
+taken-levels e L h p =
+    let a = eqb (at (e .chip) L .chip .kind) 2 in
+    let k = sym (pick-true (eqb (e .number) 4) (pick (ltb (e .chip) (length L)) (both a (leb (e .levels) 3)) false) true (eq-eqb (e .number) 4 p)) ∙ h in
+    leb-true (e .levels) 3 (both-holds a (leb (e .levels) 3) (inner (ltb (e .chip) (length L)) (both a (leb (e .levels) 3)) k) .1)
+  where
+    inner : (s t : Bool) → pick s t false ≡ true → t ≡ true
+    inner s t q = pick-if (λ (b : Bool). b ≡ true → t ≡ true) s t false (λ u r. r) (λ u r. absurd (true≢false (sym r))) q
+
+after-good : (e : Event) (L : List Whole) → AllGood L → AllGood (afterOf e L)
+unfolding afterOf lineAfter
+after-good e L g =
+    pick-if AllGood _ _ _
+    (λ p. pick-if AllGood _ _ _
+    (λ q. pick-if AllGood _ _ _ (λ a. map-good (Take (slotValue e L)) L g)
+    (λ a. pick-if AllGood _ _ _ (λ b. map-good Reset L g)
+    (λ b. pick-if AllGood _ _ _ (λ c. map-good PowerOn L g)
+    (λ c. levels-all (e .chip) (e .levels) L (taken-levels e L q (four e p a b c)) g))))
+    (λ q. g))
+    (λ p. g)
+  where
+    four : (e : Event) → leb (e .number) 4 ≡ true → ltb (e .number) 2 ≡ false → eqb (e .number) 2 ≡ false → eqb (e .number) 3 ≡ false → e .number ≡ 4
+    four e p a b c = go (e .number) (leb-true (e .number) 4 p) a b c
+      where
+        go : (n : ℕ) → n ≤ 4 → ltb n 2 ≡ false → eqb n 2 ≡ false → eqb n 3 ≡ false → n ≡ 4
+        go zero h a b c = absurd (true≢false a)
+        go (suc zero) h a b c = absurd (true≢false a)
+        go (suc (suc zero)) h a b c = absurd (true≢false b)
+        go (suc (suc (suc zero))) h a b c = absurd (true≢false c)
+        go (suc (suc (suc (suc zero)))) h a b c = refl
+        go (suc (suc (suc (suc (suc n))))) h a b c = absurd (omega arith)
+
+after-length : (e : Event) (L : List Whole) → length (afterOf e L) ≡ length L
+unfolding afterOf lineAfter
+after-length e L =
+    pick-if P _ _ _
+    (λ p. pick-if P _ _ _
+    (λ q. pick-if P _ _ _ (λ a. length-map′ _ L) (λ a. pick-if P _ _ _ (λ b. length-map′ _ L) (λ b. pick-if P _ _ _ (λ c. length-map′ _ L) (λ c. length-levels _ _ L))))
+    (λ q. refl))
+    (λ p. refl)
+  where
+    P : List Whole → Type 0
+    P K = length K ≡ length L
+
+-- the line of a table that stands well is good
+split-good : (cs : List Chip) (ms ss : List ℕ) → allInRange cs ≡ true → length ms ≡ imagesSize cs → length ss ≡ padsSize cs → AllGood (split cs ms ss)
+split-good [] ms ss h b t = tt
+split-good (c ∷ cs) ms ss h b t =
+    let p = both-holds (inRange c) (allInRange cs) h in (
+      record {
+        range = in-range c (p .0);
+        memory = length-take-le (imageSize (c .kind)) ms (omega arith);
+        pad = length-take-le (padSize (c .kind)) ss (omega arith);
+      },
+      split-good cs (drop (imageSize (c .kind)) ms) (drop (padSize (c .kind)) ss) (p .1) (simp length-drop (omega arith)) (simp length-drop (omega arith)),
+    )
+
+in-line : (s t : Bool) → pick s t false ≡ true → t ≡ true
+in-line s t q = pick-if (λ (b : Bool). b ≡ true → t ≡ true) s t false (λ u r. r) (λ u r. absurd (true≢false (sym r))) q
+
+all-in-range : (n : ℕ) (cs : List Chip) → tableInRange n cs ≡ true → allInRange (take n cs) ≡ true
+unfolding tableInRange
+all-in-range n cs h = in-line (leb n 16) (allInRange (take n cs)) h
+
+length-split : (cs : List Chip) (ms ss : List ℕ) → length (split cs ms ss) ≡ length cs
+length-split [] ms ss = refl
+length-split (c ∷ cs) ms ss = ap suc (length-split cs _ _)
+
+at-split : (i : ℕ) (cs : List Chip) (ms ss : List ℕ) → i < length cs → at i (split cs ms ss) .chip ≡ getD cs i noChip
+at-split i [] ms ss h = absurd (not-suc-le-zero h)
+at-split zero (c ∷ cs) ms ss h = refl
+at-split (suc i) (c ∷ cs) ms ss h = at-split i cs _ _ (le-of-suc-le-suc h)
+
+-- a choice, by what its first way comes to where the test holds
+pick-ways {ℓ} : {A : Type ℓ} (t : Bool) (a a′ b : A) → (t ≡ true → a ≡ a′) → pick t a b ≡ pick t a′ b
+unfolding pick
+pick-ways true a a′ b f = f refl
+pick-ways false a a′ b f = refl
+
+pick-of {ℓ ℓ′} : {A : Type ℓ} {B : Type ℓ′} (f : A → B) (t : Bool) (a b : A) → f (pick t a b) ≡ pick t (f a) (f b)
+unfolding pick
+pick-of f true a b = refl
+pick-of f false a b = refl
+
+module _ (l : Attached) (s : Stands l) where
+  first : length (take (l .count) (l .lent .chips)) ≡ l .count
+  first = length-take-le (l .count) (l .lent .chips) (s .places)
+
+  pub line-good : AllGood (lineFrom l)
+  line-good =
+      let f = fit (l .count) (l .lent .chips) (l .lent .images) (l .lent .pads) (s .range) (s .sizes) in
+      split-good (take (l .count) (l .lent .chips)) (l .lent .images) (l .lent .pads) (all-in-range (l .count) (l .lent .chips) (s .range)) (f .images) (f .pads)
+
+  pub line-length : length (lineFrom l) ≡ l .count
+  line-length = length-split (take (l .count) (l .lent .chips)) (l .lent .images) (l .lent .pads) ∙ first
+
+  put-back : withLine l (lineFrom l) ≡ l
+  put-back =
+      let f = fit (l .count) (l .lent .chips) (l .lent .images) (l .lent .pads) (s .range) (s .sizes) in
+      let t = take (l .count) (l .lent .chips) in
+      let a = ap (λ (k : List Chip). k ++ drop (l .count) (l .lent .chips)) (chips-split t (l .lent .images) (l .lent .pads)) ∙ take-append-drop (l .count) (l .lent .chips) in
+      λ j. record { count = l .count; lent = lent (a j) (images-split t (l .lent .images) (l .lent .pads) (f .images) j) (pads-split t (l .lent .images) (l .lent .pads) (f .pads) j) }
+
+  levels-same : (e : Event) → levelsFit e (l .count) (l .lent .chips) ≡ levelsTaken e (lineFrom l)
+  unfolding levelsFit levelsTaken
+  levels-same e =
+      pick-ways (eqb (e .number) 4) _ _ true
+      (λ p. pick-ways (ltb (e .chip) (l .count)) _ _ false
+      (λ q. let i = ltb-true (e .chip) (l .count) q in
+      ap (λ (c : Chip). both (eqb (c .kind) 2) (leb (e .levels) 3))
+      (sym (at-split (e .chip) (take (l .count) (l .lent .chips)) (l .lent .images) (l .lent .pads) (rw first i) ∙ getD-take (l .count) (l .lent .chips) (e .chip) noChip i)))
+      ∙ ap (λ (k : ℕ). pick (ltb (e .chip) k) (both (eqb (at (e .chip) (lineFrom l) .chip .kind) 2) (leb (e .levels) 3)) false) (sym line-length))
+
+  accepted : (e : Event) → eventOn e l ≡ acceptedOf (l .count) (l .lent .chips) e (l .lent .images) (l .lent .pads)
+  unfolding eventOf
+  accepted e = simp (s .range, s .sizes, pick-true)
+
+  -- the public event answers what happens on the line of whole chips ..
+  pub says-is : (e : Event) → saysOf e l ≡ answerOf e (lineFrom l)
+  unfolding saysOf acceptedOf happens answerOf
+  says-is e =
+      ap (λ (o : Outcome). o .answer) (accepted e)
+      ∙ pick-of (λ (o : Outcome). o .answer) _ _ _
+      ∙ pick-ways (leb (e .number) 4) _ _ (refused 6)
+      (λ p. pick-of (λ (o : Outcome). o .answer) _ _ _
+      ∙ ap (λ (b : Bool). pick b (bit (busBit e (lineFrom l))) (refused 7)) (levels-same e))
+
+  -- .. and leaves it in the table and the buffers
+  pub leaves-is : (e : Event) → leavesOf e l ≡ withLine l (afterOf e (lineFrom l))
+  unfolding leavesOf acceptedOf happens afterOf
+  leaves-is e =
+      ap leftBy (accepted e)
+      ∙ pick-of leftBy _ _ _
+      ∙ pick-ways (leb (e .number) 4) _ _ l (λ p. pick-of leftBy _ _ _ ∙ ap (λ (b : Bool). pick b (withLine l (lineAfter e (lineFrom l))) l) (levels-same e))
+      ∙ sym (pick-of (withLine l) _ _ _
+      ∙ pick-ways (leb (e .number) 4) _ _ (withLine l (lineFrom l)) (λ p. pick-of (withLine l) _ _ _ ∙ ap (λ (k : Attached). pick (levelsTaken e (lineFrom l)) (withLine l (lineAfter e (lineFrom l))) k) put-back)
+      ∙ ap (λ (k : Attached). pick (leb (e .number) 4) (pick (levelsTaken e (lineFrom l)) (withLine l (lineAfter e (lineFrom l))) l) k) put-back)
+
+-- what a good line asks for
+length-chips : (L : List Whole) → length (chipsOf L) ≡ length L
+length-chips [] = refl
+length-chips (w ∷ L) = ap suc (length-chips L)
+
+images-length : (L : List Whole) → AllGood L → length (imagesOf L) ≡ imagesSize (chipsOf L)
+images-length [] g = refl
+images-length (w ∷ L) (g, h) = let a = images-length L h in let b = g .memory in simp length-append (omega arith)
+
+pads-length : (L : List Whole) → AllGood L → length (padsOf L) ≡ padsSize (chipsOf L)
+pads-length [] g = refl
+pads-length (w ∷ L) (g, h) = let a = pads-length L h in let b = g .pad in simp length-append (omega arith)
+
+chips-in-range : (L : List Whole) → AllGood L → allInRange (chipsOf L) ≡ true
+chips-in-range [] g = refl
+chips-in-range (w ∷ L) (g, h) = both-true′ _ _ (range-in (w .chip) (g .range)) (chips-in-range L h)
+
+split-joined : (L : List Whole) → AllGood L → split (chipsOf L) (imagesOf L) (padsOf L) ≡ L
+split-joined [] g = refl
+split-joined (w ∷ L) (g, h) =
+    (simp (
+      take-at (w .memory) (imagesOf L) (imageSize (w .chip .kind)) (g .memory),
+      take-at (w .pad) (padsOf L) (padSize (w .chip .kind)) (g .pad),
+      drop-at (w .memory) (imagesOf L) (imageSize (w .chip .kind)) (g .memory),
+      drop-at (w .pad) (padsOf L) (padSize (w .chip .kind)) (g .pad),
+    ))
+    ∙ ap (λ (k : List Whole). w ∷ k) (split-joined L h)
+
+module _ (l : Attached) (s : Stands l) (L : List Whole) (g : AllGood L) (k : length L ≡ l .count) where
+  chips-first : take (l .count) (chipsOf L ++ drop (l .count) (l .lent .chips)) ≡ chipsOf L
+  chips-first = take-at (chipsOf L) (drop (l .count) (l .lent .chips)) (l .count) (length-chips L ∙ k)
+
+  pub line-with : lineFrom (withLine l L) ≡ L
+  line-with = ap (λ (c : List Chip). split c (imagesOf L) (padsOf L)) chips-first ∙ split-joined L g
+
+  pub stands-with : Stands (withLine l L)
+  unfolding tableInRange sizesFit
+  stands-with =
+      record {
+        range = pick-true (leb (l .count) 16) _ false (le-leb (l .count) 16 (in-range-few (l .count) (l .lent .chips) (s .range))) ∙ ap allInRange chips-first ∙ chips-in-range L g;
+        sizes = both-true′ _ _
+            (eq-eqb (length (imagesOf L)) (imagesSize (take (l .count) (chipsOf L ++ drop (l .count) (l .lent .chips)))) (images-length L g ∙ ap imagesSize (sym chips-first)))
+            (eq-eqb (length (padsOf L)) (padsSize (take (l .count) (chipsOf L ++ drop (l .count) (l .lent .chips)))) (pads-length L g ∙ ap padsSize (sym chips-first)));
+        places = let a = length-chips L in simp length-append (omega arith);
+      }
+
+-- a table that stands well stands well after every event, refused ones counted in
+pub stands-after : (l : Attached) (e : Event) → Stands l → Stands (leavesOf e l)
+stands-after l e s =
+    rw (leaves-is l s e) (stands-with l s (afterOf e (lineFrom l)) (after-good e (lineFrom l) (line-good l s)) (after-length e (lineFrom l) ∙ line-length l s))
+
+-- the line of the table after an event is the line after the event
+pub line-after : (l : Attached) (e : Event) → Stands l → lineFrom (leavesOf e l) ≡ afterOf e (lineFrom l)
+line-after l e s =
+    ap lineFrom (leaves-is l s e)
+    ∙ line-with l s (afterOf e (lineFrom l)) (after-good e (lineFrom l) (line-good l s)) (after-length e (lineFrom l) ∙ line-length l s)
