@@ -100,7 +100,7 @@ after-good e L g =
         go (suc (suc (suc (suc zero)))) h a b c = refl
         go (suc (suc (suc (suc (suc n))))) h a b c = absurd (omega arith)
 
-after-length : (e : Event) (L : List Whole) → length (afterOf e L) ≡ length L
+pub after-length : (e : Event) (L : List Whole) → length (afterOf e L) ≡ length L
 unfolding afterOf lineAfter
 after-length e L =
     pick-if P _ _ _
@@ -164,7 +164,7 @@ module _ (l : Attached) (s : Stands l) where
   pub line-length : length (lineFrom l) ≡ l .count
   line-length = length-split (take (l .count) (l .lent .chips)) (l .lent .images) (l .lent .pads) ∙ first
 
-  put-back : withLine l (lineFrom l) ≡ l
+  pub put-back : withLine l (lineFrom l) ≡ l
   put-back =
       let f = fit (l .count) (l .lent .chips) (l .lent .images) (l .lent .pads) (s .range) (s .sizes) in
       let t = take (l .count) (l .lent .chips) in
@@ -207,7 +207,7 @@ module _ (l : Attached) (s : Stands l) where
       ∙ ap (λ (k : Attached). pick (leb (e .number) 4) (pick (levelsTaken e (lineFrom l)) (withLine l (lineAfter e (lineFrom l))) l) k) put-back)
 
 -- what a good line asks for
-length-chips : (L : List Whole) → length (chipsOf L) ≡ length L
+pub length-chips : (L : List Whole) → length (chipsOf L) ≡ length L
 length-chips [] = refl
 length-chips (w ∷ L) = ap suc (length-chips L)
 

@@ -1,0 +1,81 @@
+-- What a bench does: a line set up from a card, sessions put on it, and bytes read.
+use Prim.Native.Nat.{ℕ, zero, suc, _+_, _*_}
+use mathlib.Core.Bool.{Bool, true, false}
+use mathlib.Core.List.{List, [], _∷_, _++_, map}
+use lib.ListN.{replicate, take, drop, getD, set}
+use Rattle.base.specs.Pick.{pick}
+use Rattle.base.specs.Bits.{bitOf}
+use Rattle.scratchpad.specs.declared.MemoryPhase.{MemoryPhase}
+use Rattle.chip.specs.Chip.{Whole, whole, chipWith}
+use Rattle.chip.specs.declared.Level.the-variants.{Memory}
+use Rattle.chip.specs.Range.{imageSize, padSize}
+use Rattle.line.specs.Event.{Answered, bit, refused, noChip}
+use Rattle.line.specs.Layout.{lineOf, imagesSize, padsSize}
+use Rattle.line.specs.declared.Event.{Event}
+use Rattle.card.specs.Card.{SetUp, setUpOf}
+use Rattle.search.specs.Host.{heard, eventNumber, slotEvent, resetEvent}
+use Rattle.runs.specs.Runs.{at, run, answers}
+
+-- a table of 16 places without chips
+abbrev emptySetUp : List ℕ → SetUp
+emptySetUp card = setUpOf 16 card 0 (replicate 16 noChip)
+
+-- the line that a card sets up, with every image FFh, then powered on
+abbrev pub lineOfCard : List ℕ → List Whole
+lineOfCard card =
+    let u = emptySetUp card in
+    let cs = take (u .count) (u .table) in
+    run (eventNumber 3 ∷ []) (lineOf (u .count) (u .table) (replicate (imagesSize cs) 0xFF) (replicate (padsSize cs) 0xFF))
+
+-- a record of a card: its kind and its code, first byte first
+abbrev pub record12 : ℕ → ℕ → List ℕ
+record12 kind family = 10 ∷ 0 ∷ kind ∷ 0 ∷ family ∷ 0 ∷ 0 ∷ 0 ∷ 0 ∷ 0 ∷ 0 ∷ 0 ∷ []
+
+-- eight slots that write a byte, least significant bit first
+abbrev pub byteSlots : ℕ → List Event
+byteSlots b =
+    slotEvent (bitOf b 0) ∷ slotEvent (bitOf b 1) ∷ slotEvent (bitOf b 2) ∷ slotEvent (bitOf b 3)
+    ∷ slotEvent (bitOf b 4) ∷ slotEvent (bitOf b 5) ∷ slotEvent (bitOf b 6) ∷ slotEvent (bitOf b 7) ∷ []
+
+-- the slots that write some bytes
+abbrev pub written : List ℕ → List Event
+written [] = []
+written (b ∷ bs) = byteSlots b ++ written bs
+
+-- a session to every chip: a reset, Skip ROM, and bytes
+abbrev pub session : List ℕ → List Event
+session bs = resetEvent ∷ written (0xCC ∷ bs)
+
+-- read slots
+abbrev pub readSlots : ℕ → List Event
+readSlots n = replicate n (slotEvent true)
+
+-- answer k as a number
+abbrev number : List Answered → ℕ → ℕ
+number xs k = pick (heard (getD xs k (bit true))) 1 0
+
+-- bytes of answers, least significant bit first
+abbrev pub bytesOf : ℕ → List Answered → List ℕ
+bytesOf zero xs = []
+bytesOf (suc n) xs =
+    (number xs 0 + 2 * (number xs 1 + 2 * (number xs 2 + 2 * (number xs 3
+    + 2 * (number xs 4 + 2 * (number xs 5 + 2 * (number xs 6 + 2 * number xs 7)))))))
+    ∷ bytesOf n (drop 8 xs)
+
+-- the n bytes that are read after some events
+abbrev pub bytesRead : List Event → ℕ → List Whole → List ℕ
+bytesRead es n L = bytesOf n (answers (readSlots (8 * n)) (run es L))
+
+-- the n bits that are read after some events
+abbrev pub bitsRead : List Event → ℕ → List Whole → List Answered
+bitsRead es n L = answers (readSlots n) (run es L)
+
+-- the line with bytes put into the memory of chip 0, as a caller may lend them
+abbrev pub withByte : ℕ → ℕ → List Whole → List Whole
+withByte a b [] = []
+withByte a b (w ∷ L) = whole (w .chip) (set (w .memory) a b) (w .pad) ∷ L
+
+-- the line with chip 0, a DS28EC20, at a phase
+abbrev pub atPhase : MemoryPhase → List Whole → List Whole
+atPhase p [] = []
+atPhase p (w ∷ L) = whole (chipWith (w .chip) (Memory p) (w .chip .rc) (w .chip .registers) (w .chip .switch)) (w .memory) (w .pad) ∷ L

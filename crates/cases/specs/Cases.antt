@@ -1,0 +1,112 @@
+-- Document 01, "Bench cases": the starred cases, stated together. Each is the run of events that a host puts on the line that a
+-- card sets up.
+use Prim.Native.Nat.{ℕ}
+use mathlib.Core.Bool.{Bool, true, false}
+use mathlib.Core.List.{List, [], _∷_, _++_}
+use mathlib.Core.Path.{_≡_, refl}
+use Rattle.crc.specs.Crc.{poly8, poly16, crcOf}
+use Rattle.chip.specs.Chip.{Whole}
+use Rattle.line.specs.Event.{Answered, bit}
+use Rattle.line.specs.declared.Event.{Event}
+use Rattle.scratchpad.specs.declared.MemoryPhase.the-variants.{SendCrc}
+use Rattle.runs.specs.Runs.{at, run, lineWire}
+use Rattle.search.specs.Host.{Listed, listed, play, searchHost, resetEvent}
+use Rattle.cases.specs.Bench.{lineOfCard, record12, session, written, bytesRead, bitsRead, withByte, atPhase}
+
+-- one DS28EC20, and one DS2413
+abbrev pub memoryLine : List Whole
+memoryLine = lineOfCard (record12 1 0x43)
+
+abbrev pub switchLine : List Whole
+switchLine = lineOfCard (record12 2 0x3A)
+
+-- Write Scratchpad of 12h 34h at 0006h
+abbrev pub write1234 : List Event
+write1234 = session (0x0F ∷ 0x06 ∷ 0x00 ∷ 0x12 ∷ 0x34 ∷ [])
+
+-- TA1, TA2 and E/S, by Read Scratchpad
+abbrev pub registersOf : List Whole → List ℕ
+registersOf L = bytesRead (session (0xAA ∷ [])) 3 L
+
+-- so many bytes from 0006h, by Read Memory
+abbrev pub memoryOf : ℕ → List Whole → List ℕ
+memoryOf n L = bytesRead (session (0xF0 ∷ 0x06 ∷ 0x00 ∷ [])) n L
+
+-- Copy with three bytes
+abbrev pub copyOf : ℕ → ℕ → ℕ → List Event
+copyOf ta1 ta2 es = session (0x55 ∷ ta1 ∷ ta2 ∷ es ∷ [])
+
+-- a DS28EC20 that is about to send C0C1h as its CRC-16
+abbrev pub crcLine : List Whole
+crcLine = atPhase (SendCrc 0 0xC0C1) memoryLine
+
+-- 0A00h = 55h, as case 6 has it, and 0A1Eh = AAh besides
+abbrev pub protectedLine : List Whole
+protectedLine = withByte 0x0A00 0x55 memoryLine
+
+abbrev pub lockedLine : List Whole
+lockedLine = withByte 0x0A1E 0xAA protectedLine
+
+-- block 0 in EPROM mode, with F0h at 0006h
+abbrev pub epromLine : List Whole
+epromLine = withByte 0x0A00 0xAA (withByte 0x0006 0xF0 memoryLine)
+
+-- a status by PIO Access Read
+abbrev pub statusOn : List Event → List Whole → List ℕ
+statusOn es L = bytesRead (es ++ session (0xF5 ∷ [])) 1 L
+
+-- outside levels of chip 0
+abbrev pub levelsEvent : ℕ → Event
+levelsEvent l = record { number = 4; chip = 0; levels = l }
+
+-- "The four first bytes of 002 (bit 0 first: 00110101, 10101010, 11110101, 00010001), other bits 0"
+abbrev pub fourLine : List Whole
+fourLine = lineOfCard (record12 1 0xAC ++ (record12 1 0x55 ++ (record12 1 0xAF ++ record12 1 0x88)))
+
+-- two DS2413, of which the first was matched and sent FEh, 01h
+abbrev pub twoLine : List Whole
+twoLine = lineOfCard (record12 2 0x01 ++ record12 2 0x02)
+
+abbrev pub switchOne : List Event
+switchOne = resetEvent ∷ written (0x55 ∷ 0x01 ∷ 0 ∷ 0 ∷ 0 ∷ 0 ∷ 0 ∷ 0 ∷ 0 ∷ 0x5A ∷ 0xFE ∷ 0x01 ∷ [])
+
+pub record Cases : Type 0 where
+  -- 1: "CRC-8 of 01h is 5Eh. CRC-16 of 01h is C0C1h, sent 3Eh 3Fh."
+  pub crc-8 : crcOf poly8 0 (0x01 ∷ []) ≡ 0x5E
+  pub crc-16 : crcOf poly16 0 (0x01 ∷ []) ≡ 0xC0C1
+  pub crc-sent : bytesRead [] 2 crcLine ≡ 0x3E ∷ 0x3F ∷ []
+  -- 2: "are listed 88h, ACh, 55h, AFh."
+  pub four-listed : play lineWire (searchHost 16) fourLine .result ≡ listed (0x88 ∷ 0xAC ∷ 0x55 ∷ 0xAF ∷ []) true
+  pub four-resets : play lineWire (searchHost 16) fourLine .resets ≡ 4
+  pub four-slots : play lineWire (searchHost 16) fourLine .slots ≡ 800
+  -- 3: "No chips: 0 codes, 0 slots. Two places for case 2: refusal 4, 88h and ACh, 400 slots."
+  pub none-listed : play lineWire (searchHost 16) (lineOfCard []) .result ≡ listed [] true
+  pub none-slots : play lineWire (searchHost 16) (lineOfCard []) .slots ≡ 0
+  pub two-listed : play lineWire (searchHost 2) fourLine .result ≡ listed (0x88 ∷ 0xAC ∷ []) false
+  pub two-slots : play lineWire (searchHost 2) fourLine .slots ≡ 400
+  -- 4: "After power on, copy with 00 00 20: nothing copied."
+  pub fresh-copy : bytesRead (copyOf 0x00 0x00 0x20) 2 memoryLine ≡ 0xFF ∷ 0xFF ∷ []
+  pub fresh-memory : at 0 (run (copyOf 0x00 0x00 0x20) memoryLine) .memory ≡ at 0 memoryLine .memory
+  -- 5: "Write 12h 34h at 0006h: E/S 07h. Copy 06 00 07 writes both; then 0, 1; E/S 87h."
+  pub write-registers : registersOf (run write1234 memoryLine) ≡ 0x06 ∷ 0x00 ∷ 0x07 ∷ []
+  pub copy-answers : bitsRead (write1234 ++ copyOf 0x06 0x00 0x07) 4 memoryLine ≡ bit false ∷ bit true ∷ bit false ∷ bit true ∷ []
+  pub copy-memory : memoryOf 3 (run (write1234 ++ copyOf 0x06 0x00 0x07) memoryLine) ≡ 0x12 ∷ 0x34 ∷ 0xFF ∷ []
+  pub copy-registers : registersOf (run (write1234 ++ copyOf 0x06 0x00 0x07) memoryLine) ≡ 0x06 ∷ 0x00 ∷ 0x87 ∷ []
+  -- 5: "Copy 06 00 06 instead: ones."
+  pub wrong-answers : bytesRead (write1234 ++ copyOf 0x06 0x00 0x06) 2 memoryLine ≡ 0xFF ∷ 0xFF ∷ []
+  pub wrong-memory : memoryOf 3 (run (write1234 ++ copyOf 0x06 0x00 0x06) memoryLine) ≡ 0xFF ∷ 0xFF ∷ 0xFF ∷ []
+  pub wrong-registers : registersOf (run (write1234 ++ copyOf 0x06 0x00 0x06) memoryLine) ≡ 0x06 ∷ 0x00 ∷ 0x07 ∷ []
+  -- 6: "0A00h = 55h, memory FFh at 0006h: case 5 leaves FFh and sets AA."
+  pub held-memory : memoryOf 3 (run (write1234 ++ copyOf 0x06 0x00 0x07) protectedLine) ≡ 0xFF ∷ 0xFF ∷ 0xFF ∷ []
+  pub held-registers : registersOf (run (write1234 ++ copyOf 0x06 0x00 0x07) protectedLine) ≡ 0x06 ∷ 0x00 ∷ 0x87 ∷ []
+  -- 6: "With 0A1Eh = AAh too: no copy, E/S 07h."
+  pub locked-answers : bytesRead (write1234 ++ copyOf 0x06 0x00 0x07) 2 lockedLine ≡ 0xFF ∷ 0xFF ∷ []
+  pub locked-registers : registersOf (run (write1234 ++ copyOf 0x06 0x00 0x07) lockedLine) ≡ 0x06 ∷ 0x00 ∷ 0x07 ∷ []
+  -- 7: "Block in EPROM mode, memory F0h, sent 3Ch: 30h."
+  pub eprom-memory : memoryOf 1 (run (session (0x0F ∷ 0x06 ∷ 0x00 ∷ 0x3C ∷ []) ++ copyOf 0x06 0x00 0x06) epromLine) ≡ 0x30 ∷ []
+  -- 8: "DS2413, all open: 0Fh. Write FEh, 01h: AAh, 3Ch."
+  pub open-status : statusOn [] switchLine ≡ 0x0F ∷ []
+  pub switched : bytesRead (session (0x5A ∷ 0xFE ∷ 0x01 ∷ [])) 2 switchLine ≡ 0xAA ∷ 0x3C ∷ []
+  -- 8: "Latches open, A held low outside: 1Eh. Two chips at 0Fh and 3Ch read together: 0Ch."
+  pub held-low : statusOn (levelsEvent 2 ∷ []) switchLine ≡ 0x1E ∷ []
+  pub together : statusOn switchOne twoLine ≡ 0x0C ∷ []

@@ -1,0 +1,55 @@
+-- The starred bench cases hold: each comes out by computing the run.
+use mathlib.Core.Path.{refl}
+use Rattle.base.specs.Bits.{bitOf, same, both, filled}
+use Rattle.base.specs.Pick.{pick}
+use Rattle.card.specs.Card.{codeAt, cutEntry, wholeEntry, entryAt, readFrom, setUpOf}
+use Rattle.chip.specs.Chip.{romSlot, functionLevel, functionSlot, memoryStep, memorySlot, switchSlot, takesOf, sendsOf, resetChip, resetOf, powerOnChip, powerOnPad, powerOnOf, levelsChip, levelsOf, setUpChip}
+use Rattle.chip.specs.Range.{knownKind, imageSize, padSize}
+use Rattle.crc.specs.Crc.{crcBit, crcByte, crcOf}
+use Rattle.ds2413.specs.Switch.{pinOf, flag, statusOf, switchFunction, statusSent, pairIn, pairBit, confirmed, shown}
+use Rattle.ds28ec20.specs.Image.{heldIn, fallsIn, closedIn, sightOf, ruleAt, spanOf, copied}
+use Rattle.ds28ec20.specs.Map.{isData, controlAddress, isControlOrLock, isReadOnly, mark, held, onlyFalls, closedToCopying}
+use Rattle.line.specs.Layout.{capped}
+use Rattle.line.specs.Line.{busBit, lineAfter}
+use Rattle.records.specs.Records.{pairAt, headAt}
+use Rattle.rom.specs.Rom.{commandOf, commandBit, readBit, matchBit, searchBit, searchSends}
+use Rattle.runs.specs.Runs.{levelsTaken, answerOf, afterOf}
+use Rattle.scratchpad.specs.Registers.{pf, withE, withPF, withAA, targetOf, ruleOfByte}
+use Rattle.scratchpad.specs.Scratchpad.{memoryFunction, crcOfAddress, addressIn, writeAddress, afterByte, byteIn, writeData, crcSent, padBegins, registerSent, padByteSent, padSent, copyAddress, carriedOut, authorized, copyEnd, readAddress, memorySent, cutOf, inPage}
+use Rattle.search.specs.Host.{bind, play, pass, write, upTo, passes}
+use Rattle.scratchpad.specs.Scratchpad.{readFrom as readMemoryFrom}
+use Rattle.cases.specs.Cases.{Cases}
+
+pub cases : Cases
+unfolding bitOf same both filled pick codeAt cutEntry wholeEntry entryAt readFrom setUpOf romSlot functionLevel functionSlot memoryStep memorySlot switchSlot takesOf sendsOf resetChip resetOf powerOnChip powerOnPad powerOnOf levelsChip levelsOf setUpChip knownKind imageSize padSize crcBit crcByte crcOf pinOf flag statusOf switchFunction statusSent pairIn pairBit confirmed shown heldIn fallsIn closedIn sightOf ruleAt spanOf copied isData controlAddress isControlOrLock isReadOnly mark held onlyFalls closedToCopying capped busBit lineAfter pairAt headAt commandOf commandBit readBit matchBit searchBit searchSends levelsTaken answerOf afterOf pf withE withPF withAA targetOf ruleOfByte memoryFunction crcOfAddress addressIn writeAddress afterByte byteIn writeData crcSent padBegins registerSent padByteSent padSent copyAddress carriedOut authorized copyEnd readAddress memorySent cutOf inPage bind play pass write upTo passes readMemoryFrom
+cases =
+    record {
+      crc-8 = refl;
+      crc-16 = refl;
+      crc-sent = refl;
+      four-listed = refl;
+      four-resets = refl;
+      four-slots = refl;
+      none-listed = refl;
+      none-slots = refl;
+      two-listed = refl;
+      two-slots = refl;
+      fresh-copy = refl;
+      fresh-memory = refl;
+      write-registers = refl;
+      copy-answers = refl;
+      copy-memory = refl;
+      copy-registers = refl;
+      wrong-answers = refl;
+      wrong-memory = refl;
+      wrong-registers = refl;
+      held-memory = refl;
+      held-registers = refl;
+      locked-answers = refl;
+      locked-registers = refl;
+      eprom-memory = refl;
+      open-status = refl;
+      switched = refl;
+      held-low = refl;
+      together = refl;
+    }

@@ -1,0 +1,45 @@
+-- One host on a table with its buffers, and on the line of whole chips: what it comes to is the same.
+use Prim.Native.Nat.{ℕ}
+use mathlib.Core.List.{List, _++_}
+use mathlib.Core.Path.{_≡_, refl, _∙_, ap, sym}
+use lib.ListN.{length, drop}
+use lib.Seq.{drop-at}
+use Rattle.chip.specs.Chip.{Whole}
+use Rattle.chip.specs.declared.Chip.{Chip}
+use Rattle.line.specs.Layout.{chipsOf, imagesOf, padsOf, lent}
+use Rattle.line.specs.Event.{Answered}
+use Rattle.line.specs.declared.Event.{Event}
+use Rattle.search.specs.Host.{Host, done, ask, Played, played, more, resetsOf, slotsOf, play, searchHost}
+use Rattle.search.specs.Search.{Attached, saysOf, leavesOf, wire, Search, fromPlayed, searchOf}
+use Rattle.base.specs.Pick.{pick-true}
+use Rattle.runs.specs.Runs.{answerOf, afterOf, lineWire}
+use Rattle.runs.specs.Standing.{Stands, lineFrom, withLine, line-good, line-length, put-back, says-is, leaves-is, stands-after, line-after, after-length, length-chips}
+
+-- a table in which a line was replaced twice holds the second
+again : (l : Attached) (L K : List Whole) → length L ≡ l .count → withLine (withLine l L) K ≡ withLine l K
+again l L K k =
+    ap (λ (c : List Chip). record { count = l .count; lent = lent (chipsOf K ++ c) (imagesOf K) (padsOf K) })
+    (drop-at (chipsOf L) (drop (l .count) (l .lent .chips)) (l .count) (length-chips L ∙ k))
+
+-- what was played on the line of a table, with that line put back
+abbrev pub inTable : {A : Type 0} → Attached → Played A (List Whole) → Played A Attached
+inTable l p = played (p .result) (withLine l (p .line)) (p .resets) (p .slots)
+
+pub play-joined : {A : Type 0} (h : Host A) (l : Attached) → Stands l → play wire h l ≡ inTable l (play lineWire h (lineFrom l))
+unfolding play
+play-joined (done a) l s = ap (λ (k : Attached). played a k 0 0) (sym (put-back l s))
+play-joined (ask e f) l s =
+    let L = lineFrom l in
+    let p = play lineWire (f (answerOf e L)) (afterOf e L) in
+    ap (more (resetsOf e) (slotsOf e))
+    (ap (λ (x : Answered). play wire (f x) (leavesOf e l)) (says-is l s e)
+    ∙ play-joined (f (answerOf e L)) (leavesOf e l) (stands-after l e s)
+    ∙ ap (λ (K : List Whole). inTable (leavesOf e l) (play lineWire (f (answerOf e L)) K)) (line-after l e s)
+    ∙ ap (λ (k : Attached). inTable k p) (leaves-is l s e)
+    ∙ ap (λ (k : Attached). played (p .result) k (p .resets) (p .slots)) (again l (afterOf e L) (p .line) (after-length e L ∙ line-length l s)))
+
+-- the public search, on a table that stands well, is the search of its line of whole chips
+pub search-joined : (list : List ℕ) (l : Attached) → Stands l
+    → searchOf list l ≡ fromPlayed list (inTable l (play lineWire (searchHost (length list)) (lineFrom l)))
+unfolding searchOf
+search-joined list l s = (simp (s .range, s .sizes, pick-true)) ∙ ap (fromPlayed list) (play-joined (searchHost (length list)) l s)
