@@ -1,5 +1,4 @@
 // Reads a card from standard input, searches the line that it sets up, and writes the codes found, as document 01 says.
-use crc::CodeCheck;
 use libc::STDIN_FILENO;
 use libc::STDOUT_FILENO;
 use line::Event;
@@ -29,24 +28,14 @@ fn code_digits(code: u64) -> [u8; 16] {
     text
 }
 
-// The word for the check of a code, with the end of its line.
-fn write_check(code: u64) {
-    let check = crc::check_code(code);
-    match check {
-        CodeCheck::Good => {
-            io::write_all(STDOUT_FILENO, b" ok\n");
-        }
-        CodeCheck::Bad => {
-            io::write_all(STDOUT_FILENO, b" no\n");
-        }
-    }
-}
-
 // The line of a code.
 fn write_code(code: u64) {
     let text = code_digits(code);
+    let word = terminal::word(crc::check_code(code));
     io::write_all(STDOUT_FILENO, &text);
-    write_check(code);
+    io::write_all(STDOUT_FILENO, b" ");
+    io::write_all(STDOUT_FILENO, &word);
+    io::write_all(STDOUT_FILENO, b"\n");
 }
 
 // The lines of the first n codes of a list.

@@ -1,1 +1,1 @@
-pub mod Card
+pub mod Words

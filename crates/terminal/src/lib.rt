@@ -1,12 +1,14 @@
-// What the programs share: a table without chips, and the line that says why a card was refused.
+// What the programs share: a table without chips, the room that it needs, the line that says why a card was
+// refused, and the word for the check of a code.
 use card::CardAnswer;
+use crc::CodeCheck;
 use libc::STDOUT_FILENO;
 use line::Table;
 ghost use mathlib.Core.Path.{_≡_};
 ghost use lib.ListN.{length, replicate};
 ghost use Rattle.chip.specs.Chip.{setUpChip};
 ghost use Rattle.card.specs.Card.{carded};
-ghost use Rattle.terminal.specs.Card.{isRefused};
+ghost use Rattle.terminal.specs.Words.{isRefused, wordOf};
 
 // A table without chips.
 pub fn no_chips() -> Table
@@ -46,6 +48,16 @@ pub fn refused_card(answer: CardAnswer) -> bool
             say_refused(3, at);
             true
         }
+    }
+}
+
+// The word for the check of a code.
+pub fn word(check: CodeCheck) -> [u8; 2]
+    ensures { λ r. ⌜ r ≡ wordOf check ⌝ }
+{
+    match check {
+        CodeCheck::Good => [b'o', b'k'],
+        CodeCheck::Bad => [b'n', b'o'],
     }
 }
 
