@@ -13,6 +13,7 @@ use Rattle.line.specs.Event.{Answered, bit, refused, noChip}
 use Rattle.line.specs.Layout.{lineOf, imagesSize, padsSize}
 use Rattle.line.specs.declared.Event.{Event}
 use Rattle.card.specs.Card.{SetUp, setUpOf}
+use Rattle.search.specs.Search.{Attached, attached}
 use Rattle.search.specs.Host.{heard, eventNumber, slotEvent, resetEvent}
 use Rattle.runs.specs.Runs.{at, run, answers}
 
@@ -26,6 +27,13 @@ lineOfCard card =
     let u = emptySetUp card in
     let cs = take (u .count) (u .table) in
     run (eventNumber 3 ∷ []) (lineOf (u .count) (u .table) (replicate (imagesSize cs) 0xFF) (replicate (padsSize cs) 0xFF))
+
+-- the table that a card sets up, with its buffers
+abbrev pub tableOfCard : List ℕ → Attached
+tableOfCard card =
+    let u = emptySetUp card in
+    let cs = take (u .count) (u .table) in
+    attached (u .count) (u .table) (replicate (imagesSize cs) 0xFF) (replicate (padsSize cs) 0xFF)
 
 -- a record of a card: its kind and its code, first byte first
 abbrev pub record12 : ℕ → ℕ → List ℕ

@@ -3,15 +3,17 @@
 use Prim.Native.Nat.{ℕ}
 use mathlib.Core.Bool.{Bool, true, false}
 use mathlib.Core.List.{List, [], _∷_, _++_}
-use mathlib.Core.Path.{_≡_, refl}
+use mathlib.Core.Path.{_≡_}
+use lib.ListN.{replicate}
 use Rattle.crc.specs.Crc.{poly8, poly16, crcOf}
 use Rattle.chip.specs.Chip.{Whole}
 use Rattle.line.specs.Event.{Answered, bit}
 use Rattle.line.specs.declared.Event.{Event}
 use Rattle.scratchpad.specs.declared.MemoryPhase.the-variants.{SendCrc}
+use Rattle.search.specs.Search.{Attached, searchOf, complete, refused}
 use Rattle.runs.specs.Runs.{at, run, lineWire}
 use Rattle.search.specs.Host.{Listed, listed, play, searchHost, resetEvent}
-use Rattle.cases.specs.Bench.{lineOfCard, record12, session, written, bytesRead, bitsRead, withByte, atPhase}
+use Rattle.cases.specs.Bench.{lineOfCard, tableOfCard, record12, session, written, bytesRead, bitsRead, withByte, atPhase}
 
 -- one DS28EC20, and one DS2413
 abbrev pub memoryLine : List Whole
@@ -63,6 +65,9 @@ levelsEvent l = record { number = 4; chip = 0; levels = l }
 abbrev pub fourLine : List Whole
 fourLine = lineOfCard (record12 1 0xAC ++ (record12 1 0x55 ++ (record12 1 0xAF ++ record12 1 0x88)))
 
+abbrev pub fourTable : Attached
+fourTable = tableOfCard (record12 1 0xAC ++ (record12 1 0x55 ++ (record12 1 0xAF ++ record12 1 0x88)))
+
 -- two DS2413, of which the first was matched and sent FEh, 01h
 abbrev pub twoLine : List Whole
 twoLine = lineOfCard (record12 2 0x01 ++ record12 2 0x02)
@@ -84,6 +89,13 @@ pub record Cases : Type 0 where
   pub none-slots : play lineWire (searchHost 16) (lineOfCard []) .slots ≡ 0
   pub two-listed : play lineWire (searchHost 2) fourLine .result ≡ listed (0x88 ∷ 0xAC ∷ []) false
   pub two-slots : play lineWire (searchHost 2) fourLine .slots ≡ 400
+  -- 2 and 3 by the public search, over a table, its buffers and a list of 16 places, and of two
+  pub four-found : searchOf (replicate 16 0) fourTable .list ≡ 0x88 ∷ 0xAC ∷ 0x55 ∷ 0xAF ∷ replicate 12 0
+  pub four-answer : searchOf (replicate 16 0) fourTable .answer ≡ complete
+  pub four-counted : searchOf (replicate 16 0) fourTable .slots ≡ 800
+  pub two-found : searchOf (replicate 2 0) fourTable .list ≡ 0x88 ∷ 0xAC ∷ []
+  pub two-refused : searchOf (replicate 2 0) fourTable .answer ≡ refused 4
+  pub two-counted : searchOf (replicate 2 0) fourTable .slots ≡ 400
   -- 4: "After power on, copy with 00 00 20: nothing copied."
   pub fresh-copy : bytesRead (copyOf 0x00 0x00 0x20) 2 memoryLine ≡ 0xFF ∷ 0xFF ∷ []
   pub fresh-memory : at 0 (run (copyOf 0x00 0x00 0x20) memoryLine) .memory ≡ at 0 memoryLine .memory

@@ -1,5 +1,7 @@
 -- The starred bench cases hold: each comes out by computing the run.
-use mathlib.Core.Path.{refl}
+use mathlib.Core.Path.{refl, ap}
+use lib.ListN.{replicate}
+use lib.Dec.{lit≤}
 use Rattle.base.specs.Bits.{bitOf, same, both, filled}
 use Rattle.base.specs.Pick.{pick}
 use Rattle.card.specs.Card.{codeAt, cutEntry, wholeEntry, entryAt, readFrom, setUpOf}
@@ -18,7 +20,18 @@ use Rattle.scratchpad.specs.Registers.{pf, withE, withPF, withAA, targetOf, rul
 use Rattle.scratchpad.specs.Scratchpad.{memoryFunction, crcOfAddress, addressIn, writeAddress, afterByte, byteIn, writeData, crcSent, padBegins, registerSent, padByteSent, padSent, copyAddress, carriedOut, authorized, copyEnd, readAddress, memorySent, cutOf, inPage}
 use Rattle.search.specs.Host.{bind, play, pass, write, upTo, passes}
 use Rattle.scratchpad.specs.Scratchpad.{readFrom as readMemoryFrom}
-use Rattle.cases.specs.Cases.{Cases}
+use Rattle.chip.specs.Range.{inRange}
+use Rattle.scratchpad.specs.Scratchpad.{registersInRange}
+use Rattle.ds2413.specs.Switch.{switchInRange}
+use Rattle.line.specs.Event.{tableInRange, sizesFit}
+use Rattle.search.specs.Search.{Search}
+use Rattle.runs.specs.Standing.{Stands}
+use Rattle.runs.specs.Joined.{search-joined}
+use Rattle.cases.specs.Cases.{Cases, fourTable}
+
+four-stands : Stands fourTable
+unfolding bitOf same both filled pick codeAt cutEntry wholeEntry entryAt readFrom setUpOf romSlot functionLevel functionSlot memoryStep memorySlot switchSlot takesOf sendsOf resetChip resetOf powerOnChip powerOnPad powerOnOf levelsChip levelsOf setUpChip knownKind imageSize padSize crcBit crcByte crcOf pinOf flag statusOf switchFunction statusSent pairIn pairBit confirmed shown heldIn fallsIn closedIn sightOf ruleAt spanOf copied isData controlAddress isControlOrLock isReadOnly mark held onlyFalls closedToCopying capped busBit lineAfter pairAt headAt commandOf commandBit readBit matchBit searchBit searchSends levelsTaken answerOf afterOf pf withE withPF withAA targetOf ruleOfByte memoryFunction crcOfAddress addressIn writeAddress afterByte byteIn writeData crcSent padBegins registerSent padByteSent padSent copyAddress carriedOut authorized copyEnd readAddress memorySent cutOf inPage bind play pass write upTo passes readMemoryFrom inRange registersInRange switchInRange tableInRange sizesFit
+four-stands = record { range = refl; sizes = refl; places = lit≤ tt }
 
 pub cases : Cases
 unfolding bitOf same both filled pick codeAt cutEntry wholeEntry entryAt readFrom setUpOf romSlot functionLevel functionSlot memoryStep memorySlot switchSlot takesOf sendsOf resetChip resetOf powerOnChip powerOnPad powerOnOf levelsChip levelsOf setUpChip knownKind imageSize padSize crcBit crcByte crcOf pinOf flag statusOf switchFunction statusSent pairIn pairBit confirmed shown heldIn fallsIn closedIn sightOf ruleAt spanOf copied isData controlAddress isControlOrLock isReadOnly mark held onlyFalls closedToCopying capped busBit lineAfter pairAt headAt commandOf commandBit readBit matchBit searchBit searchSends levelsTaken answerOf afterOf pf withE withPF withAA targetOf ruleOfByte memoryFunction crcOfAddress addressIn writeAddress afterByte byteIn writeData crcSent padBegins registerSent padByteSent padSent copyAddress carriedOut authorized copyEnd readAddress memorySent cutOf inPage bind play pass write upTo passes readMemoryFrom
@@ -34,6 +47,12 @@ cases =
       none-slots = refl;
       two-listed = refl;
       two-slots = refl;
+      four-found = ap (λ (s : Search). s .list) (search-joined (replicate 16 0) fourTable four-stands);
+      four-answer = ap (λ (s : Search). s .answer) (search-joined (replicate 16 0) fourTable four-stands);
+      four-counted = ap (λ (s : Search). s .slots) (search-joined (replicate 16 0) fourTable four-stands);
+      two-found = ap (λ (s : Search). s .list) (search-joined (replicate 2 0) fourTable four-stands);
+      two-refused = ap (λ (s : Search). s .answer) (search-joined (replicate 2 0) fourTable four-stands);
+      two-counted = ap (λ (s : Search). s .slots) (search-joined (replicate 2 0) fourTable four-stands);
       fresh-copy = refl;
       fresh-memory = refl;
       write-registers = refl;
