@@ -53,6 +53,17 @@ lockedLine = withByte 0x0A1E 0xAA protectedLine
 abbrev pub epromLine : List Whole
 epromLine = withByte 0x0A00 0xAA (withByte 0x0006 0xF0 memoryLine)
 
+-- Match ROM of the DS28EC20
+abbrev pub matchMemory : List Event
+matchMemory = resetEvent ∷ written (0x55 ∷ 0x43 ∷ 0 ∷ 0 ∷ 0 ∷ 0 ∷ 0 ∷ 0 ∷ 0 ∷ [])
+
+-- 12h in the scratchpad from a write to block 0, then block 1 protected: 0A01h = 55h
+abbrev pub staleLine : List Whole
+staleLine = withByte 0x0A01 0x55 (run (session (0x0F ∷ 0x00 ∷ 0x00 ∷ 0x12 ∷ [])) memoryLine)
+
+abbrev pub staleCopy : List Event
+staleCopy = session (0x0F ∷ 0x20 ∷ 0x01 ∷ []) ++ copyOf 0x20 0x01 0x00
+
 -- a status by PIO Access Read
 abbrev pub statusOn : List Event → List Whole → List ℕ
 statusOn es L = bytesRead (es ++ session (0xF5 ∷ [])) 1 L
@@ -108,6 +119,11 @@ pub record Cases : Type 0 where
   pub wrong-answers : bytesRead (write1234 ++ copyOf 0x06 0x00 0x06) 2 memoryLine ≡ 0xFF ∷ 0xFF ∷ []
   pub wrong-memory : memoryOf 3 (run (write1234 ++ copyOf 0x06 0x00 0x06) memoryLine) ≡ 0xFF ∷ 0xFF ∷ 0xFF ∷ []
   pub wrong-registers : registersOf (run (write1234 ++ copyOf 0x06 0x00 0x06) memoryLine) ≡ 0x06 ∷ 0x00 ∷ 0x07 ∷ []
+  -- "Reset alone leaves RC": Match, a reset, and Resume finds the same chip at the function level
+  pub resumed : bytesRead (matchMemory ++ (resetEvent ∷ written (0xA5 ∷ 0xAA ∷ []))) 3 memoryLine ≡ 0x00 ∷ 0x00 ∷ 0x20 ∷ []
+  -- 9, into a held block: "Address only, 0120h", then a copy with 20 01 00 of an old scratchpad byte leaves the memory byte
+  pub stale-held : at 0 (run staleCopy staleLine) .memory ≡ at 0 staleLine .memory
+  pub stale-answers : bitsRead staleCopy 4 staleLine ≡ bit false ∷ bit true ∷ bit false ∷ bit true ∷ []
   -- 6: "0A00h = 55h, memory FFh at 0006h: case 5 leaves FFh and sets AA."
   pub held-memory : memoryOf 3 (run (write1234 ++ copyOf 0x06 0x00 0x07) protectedLine) ≡ 0xFF ∷ 0xFF ∷ 0xFF ∷ []
   pub held-registers : registersOf (run (write1234 ++ copyOf 0x06 0x00 0x07) protectedLine) ≡ 0x06 ∷ 0x00 ∷ 0x87 ∷ []
