@@ -147,7 +147,7 @@ unfolding pick
 pick-ways true a a′ b f = f refl
 pick-ways false a a′ b f = refl
 
-pick-of {ℓ ℓ′} : {A : Type ℓ} {B : Type ℓ′} (f : A → B) (t : Bool) (a b : A) → f (pick t a b) ≡ pick t (f a) (f b)
+pub pick-of {ℓ ℓ′} : {A : Type ℓ} {B : Type ℓ′} (f : A → B) (t : Bool) (a b : A) → f (pick t a b) ≡ pick t (f a) (f b)
 unfolding pick
 pick-of f true a b = refl
 pick-of f false a b = refl

@@ -33,7 +33,7 @@ same-length-3 c = search needs
 
 -- src/lib.rt:149:1
 returns : tie.Need-returns
-returns c = let a = c .before .before .before .before .before .before .before .before .before .before .before .before .before .before .before .before .before .args in let s = c .before .before .before .before .before .before .before .before .before .before .seek-all in found-list _ _ (now (a .list)) _ _ _ _ _ (s .ensures .1 .1) (s .ensures .1 .0) (c .answer-of .ensures) ∙ ap (λ (p : Played Listed Attached). fromPlayed (now (a .list)) p) (s .ensures .0)
+returns c = let a = c .before .before .before .before .before .before .before .before .before .before .before .before .before .before .before .before .before .args in let s = c .before .before .before .before .before .before .before .before .before .before .seek-all in found-list _ _ (now (a .list)) _ _ _ (s .result .slots .0) _ (s .ensures .1 .1) (s .ensures .1 .0) (c .answer-of .ensures) ∙ ap (λ (p : Played Listed Attached). fromPlayed (now (a .list)) p) (s .ensures .0)
 
 pub find-spec : {M : Type 1} → statement M
 find-spec =

@@ -1,0 +1,79 @@
+-- Laws of the bits of a number, and of the path below a parting.
+use Prim.Native.Nat.{ℕ, _+_, _*_, _-_, _/_, _%_, _^_, _<_}
+use native.Mathlib.Omega.{arith}
+use native.Mathlib.Nat.{add-comm, div-eq-of-lt, mod-lt, two-pow-succ}
+use native.Mathlib.Numerals.{add-one}
+use mathlib.Core.Bool.{true, false}
+use mathlib.Core.Path.{_≡_, _∙_, ap, sym}
+use lib.Dec.{eqb}
+use lib.Pow.{pow-pos, field, mod-pow-add, mod-mod-pow, low, high}
+use borrow.Author.Tests.{eqb-true, eqb-false}
+use Rattle.base.specs.Bits.{bitOf}
+use Rattle.search.specs.Host.{upTo}
+
+-- the worth of the next place
+pub pow-next : (k : ℕ) → 2 ^ (k + 1) ≡ 2 ^ k + 2 ^ k
+pow-next k = ap (λ (n : ℕ). 2 ^ n) (add-one k) ∙ two-pow-succ k
+
+-- a number has no bit past its highest
+pub bit-none : (n k : ℕ) → n < 2 ^ k → bitOf n k ≡ false
+unfolding bitOf
+bit-none n k h = let z : n / 2 ^ k ≡ 0 = div-eq-of-lt h in rw z
+
+-- the low k + 1 bits of a number are bit k and the low k bits
+mod-next : (x k : ℕ) → x % 2 ^ (k + 1) ≡ x / 2 ^ k % 2 * 2 ^ k + x % 2 ^ k
+mod-next x k = ap (λ (n : ℕ). x % 2 ^ n) (add-comm k 1) ∙ mod-pow-add x 1 k
+
+-- where bit k is 1
+pub mod-next-one : (x k : ℕ) → bitOf x k ≡ true → x % 2 ^ (k + 1) ≡ x % 2 ^ k + 2 ^ k
+unfolding bitOf
+mod-next-one x k h =
+    let e : x / 2 ^ k % 2 ≡ 1 = eqb-true _ _ h in
+    mod-next x k ∙ rw e (omega arith)
+
+-- where bit k is 0
+pub mod-next-zero : (x k : ℕ) → bitOf x k ≡ false → x % 2 ^ (k + 1) ≡ x % 2 ^ k
+unfolding bitOf
+mod-next-zero x k h =
+    let n : x / 2 ^ k % 2 ≡ 1 → ⊥ = eqb-false _ _ h in
+    let e : x / 2 ^ k % 2 ≡ 0 = omega arith in
+    mod-next x k ∙ rw e (omega arith)
+
+-- the path below a parting and a 1 there have no bit past the parting
+pub up-lt : (l c : ℕ) → upTo l c < 2 ^ (l + 1)
+unfolding upTo
+up-lt l c =
+    let h : c % 2 ^ l < 2 ^ l = mod-lt c (pow-pos l) in
+    omega (arith, pow-next l)
+
+-- at the parting they have a 1
+pub up-own : (l c : ℕ) → bitOf (upTo l c) l ≡ true
+unfolding upTo bitOf
+up-own l c =
+    let h : c % 2 ^ l < 2 ^ l = mod-lt c (pow-pos l) in
+    let e : c % 2 ^ l + 2 ^ l ≡ 1 * 2 ^ l + c % 2 ^ l = omega arith in
+    let d : (c % 2 ^ l + 2 ^ l) / 2 ^ l ≡ 1 = ap (λ (n : ℕ). n / 2 ^ l) e ∙ high 1 l h in
+    rw d
+
+-- below it they have the low bits of the path
+up-low : (l c : ℕ) → upTo l c % 2 ^ l ≡ c % 2 ^ l
+unfolding upTo
+up-low l c =
+    let h : c % 2 ^ l < 2 ^ l = mod-lt c (pow-pos l) in
+    let e : c % 2 ^ l + 2 ^ l ≡ 1 * 2 ^ l + c % 2 ^ l = omega arith in
+    ap (λ (n : ℕ). n % 2 ^ l) e ∙ low 1 l h
+
+-- and as many of the low bits as are asked for
+up-mod : (j k c : ℕ) → upTo (j + k) c % 2 ^ k ≡ c % 2 ^ k
+up-mod j k c = sym (mod-mod-pow (upTo (j + k) c) j k) ∙ ap (λ (x : ℕ). x % 2 ^ k) (up-low (j + k) c) ∙ mod-mod-pow c j k
+
+-- numbers whose low bits are the same have the same bit there
+bit-mod : (n m k : ℕ) → n % 2 ^ (1 + k) ≡ m % 2 ^ (1 + k) → bitOf n k ≡ bitOf m k
+unfolding bitOf
+bit-mod n m k e = ap (λ (x : ℕ). eqb x 1) (sym (field n 1 k) ∙ ap (λ (x : ℕ). x / 2 ^ k) e ∙ field m 1 k)
+
+-- so at a place below the parting they have the path's bit
+pub up-below : (l c k : ℕ) → k < l → bitOf (upTo l c) k ≡ bitOf c k
+up-below l c k h =
+    let e : (l - (1 + k)) + (1 + k) ≡ l = omega arith in
+    rw (← e) (bit-mod _ _ k (up-mod (l - (1 + k)) (1 + k) c))

@@ -1,0 +1,156 @@
+-- Laws of one chip in a search: it keeps its code, hears the command, and goes through the places or drops out.
+use Prim.Native.Nat.{ℕ, zero, suc, _+_, _<_}
+use native.Mathlib.Omega.{arith}
+use mathlib.Core.Bool.{Bool, true, false, not}
+use mathlib.Core.Path.{_≡_, refl, _∙_, ap}
+use lib.Dec.{ltb}
+use borrow.Author.Tests.{lt-ltb, ltb-true, ltb-false}
+use Rattle.base.specs.Pick.{pick, pick-true}
+use Rattle.base.specs.Bits.{bitOf, same, filled}
+use Rattle.rom.specs.Rom.{rom, commandOf, commandBit, searchBit, searchSends}
+use Rattle.rom.specs.declared.RomNext.the-variants as next
+use Rattle.rom.specs.declared.RomStep.the-variants.{Search}
+use Rattle.chip.specs.Chip.{Whole, levelOf, romSlot, functionSlot, memorySlot, switchSlot, levelTakes, takesOf, levelSends, sendsOf, resetChip, resetOf}
+use Rattle.chip.specs.declared.Chip.{Chip}
+use Rattle.chip.specs.declared.Level.{Level}
+use Rattle.chip.specs.declared.Level.the-variants.{Waiting, Rom, FunctionCommand, Memory, Pio}
+
+-- the code ------------------------------------------------------------------------------------
+
+-- a choice of two chips with this code
+pick-code : (t : Bool) (x : ℕ) (a b : Chip) → a .code ≡ x → b .code ≡ x → pick t a b .code ≡ x
+unfolding pick
+pick-code true x a b e f = e
+pick-code false x a b e f = f
+
+-- at every level a slot keeps the code
+level-code : (w : Whole) (v : Bool) (l : Level) → levelTakes w v l .chip .code ≡ w .chip .code
+unfolding romSlot functionSlot memorySlot switchSlot
+level-code w v Waiting = refl
+level-code w v (Rom s) = refl
+level-code w v (FunctionCommand count bits) = pick-code _ _ _ _ refl refl
+level-code w v (Memory p) = refl
+level-code w v (Pio p) = refl
+
+-- a slot keeps a chip's code
+pub code-takes : (v : Bool) (w : Whole) → takesOf v w .chip .code ≡ w .chip .code
+unfolding takesOf
+code-takes v w = level-code w v (w .chip .level)
+
+-- so does a reset
+pub code-resets : (w : Whole) → resetOf w .chip .code ≡ w .chip .code
+unfolding resetOf resetChip
+code-resets w = refl
+
+-- the command -----------------------------------------------------------------------------------
+
+-- a chip that sends nothing while n bits of a byte come, from bit i on
+abbrev pub Hears : ℕ → ℕ → ℕ → Whole → Type 0
+Hears zero i byte w = Unit {0}
+Hears (suc n) i byte w = (sendsOf w ≡ true) × Hears n (i + 1) byte (takesOf (bitOf byte i) w)
+
+-- the chip when they have come
+abbrev pub hasHeard : ℕ → ℕ → ℕ → Whole → Whole
+hasHeard zero i byte w = w
+hasHeard (suc n) i byte w = hasHeard n (i + 1) byte (takesOf (bitOf byte i) w)
+
+-- that keeps its code
+pub code-heard : (n i byte : ℕ) (w : Whole) → hasHeard n i byte w .chip .code ≡ w .chip .code
+code-heard zero i byte w = refl
+code-heard (suc n) i byte w = code-heard n (i + 1) byte (takesOf (bitOf byte i) w) ∙ code-takes (bitOf byte i) w
+
+-- after a reset every chip hears the command of the search
+pub hears : (w : Whole) → Hears 8 0 0xF0 (resetOf w)
+unfolding resetOf resetChip sendsOf takesOf romSlot commandBit filled bitOf pick
+hears w = (refl, (refl, (refl, (refl, (refl, (refl, (refl, (refl, tt))))))))
+
+-- the places ------------------------------------------------------------------------------------
+
+-- the level at a step of a place; past the last place, the function level
+levelAt : ℕ → ℕ → Level
+levelAt k s = pick (ltb k 64) (Rom (Search k s)) (FunctionCommand 0 0)
+
+-- a chip that takes part in a search, and is at step s of place k
+pub Part : ℕ → ℕ → Whole → Type 0
+Part k s w = w .chip .level ≡ levelAt k s
+
+-- a chip that dropped out, and waits for a reset
+pub Out : Whole → Type 0
+Out w = w .chip .level ≡ Waiting
+
+-- a chip that heard the command is at the first place
+pub begun : (w : Whole) → Part 0 0 (hasHeard 8 0 0xF0 (resetOf w))
+unfolding Part levelAt resetOf resetChip takesOf romSlot commandBit commandOf filled bitOf pick
+begun w = refl
+
+-- which level that is, at a place of the code
+level-in : (k s : ℕ) (w : Whole) → k < 64 → Part k s w → w .chip .level ≡ Rom (Search k s)
+unfolding Part levelAt
+level-in k s w h e = e ∙ pick-true (ltb k 64) _ _ (lt-ltb k 64 h)
+
+-- what a chip at a known level sends
+sends-in : (w : Whole) (l : Level) → w .chip .level ≡ l → sendsOf w ≡ levelSends w l
+unfolding sendsOf
+sends-in w l e = ap (levelSends w) e
+
+-- where a slot leads a chip at a known level
+takes-in : (w : Whole) (v : Bool) (l : Level) → w .chip .level ≡ l → takesOf v w .chip .level ≡ levelTakes w v l .chip .level
+unfolding takesOf
+takes-in w v l e = ap (λ (k : Level). levelTakes w v k .chip .level) e
+
+-- at step 0 a chip sends its bit
+pub bit-sent : (k : ℕ) (w : Whole) → k < 64 → Part k 0 w → sendsOf w ≡ bitOf (w .chip .code) k
+unfolding searchSends pick
+bit-sent k w h p = sends-in w (Rom (Search k 0)) (level-in k 0 w h p)
+
+-- at step 1 it sends the complement
+pub not-sent : (k : ℕ) (w : Whole) → k < 64 → Part k 1 w → sendsOf w ≡ not (bitOf (w .chip .code) k)
+unfolding searchSends pick
+not-sent k w h p = sends-in w (Rom (Search k 1)) (level-in k 1 w h p)
+
+-- at step 2 it sends nothing
+pub quiet : (k : ℕ) (w : Whole) → k < 64 → Part k 2 w → sendsOf w ≡ true
+unfolding searchSends pick
+quiet k w h p = sends-in w (Rom (Search k 2)) (level-in k 2 w h p)
+
+-- a chip that dropped out sends nothing
+pub out-quiet : (w : Whole) → Out w → sendsOf w ≡ true
+unfolding Out
+out-quiet w p = sends-in w Waiting p
+
+-- a slot after which the next step comes
+step-next : (k s : ℕ) (w : Whole) (v : Bool) → k < 64 → s < 2 → Part k s w → Part k (s + 1) (takesOf v w)
+unfolding Part romSlot searchBit levelAt pick
+step-next k s w v h l p = takes-in w v (Rom (Search k s)) (level-in k s w h p) ∙ rw (lt-ltb s 2 l, lt-ltb k 64 h)
+
+-- after its bit a chip is at step 1
+pub bit-taken : (k : ℕ) (v : Bool) (w : Whole) → k < 64 → Part k 0 w → Part k 1 (takesOf v w)
+bit-taken k v w h p = step-next k 0 w v h (omega arith) p
+
+-- after the complement it is at step 2
+pub not-taken : (k : ℕ) (v : Bool) (w : Whole) → k < 64 → Part k 1 w → Part k 2 (takesOf v w)
+not-taken k v w h p = step-next k 1 w v h (omega arith) p
+
+-- the level after a place at which the chip's bit came
+place-next : (k : ℕ) (rc s t : Bool) → ltb k 63 ≡ s → ltb (k + 1) 64 ≡ t
+    → levelOf (pick s (rom (next.Step (Search (k + 1) 0)) rc) (rom next.Function true) .next) ≡ pick t (Rom (Search (k + 1) 0)) (FunctionCommand 0 0)
+unfolding pick
+place-next k rc true true p q = refl
+place-next k rc true false p q = let z : ⊥ = omega (arith, ltb-true k 63 p, ltb-false (k + 1) 64 q) in absurd z
+place-next k rc false true p q = let z : ⊥ = omega (arith, ltb-false k 63 p, ltb-true (k + 1) 64 q) in absurd z
+place-next k rc false false p q = refl
+
+-- a chip whose bit is written goes on to the next place
+pub goes-on : (k : ℕ) (v : Bool) (w : Whole) → k < 64 → Part k 2 w → same (bitOf (w .chip .code) k) v ≡ true → Part (k + 1) 0 (takesOf v w)
+unfolding Part romSlot searchBit levelAt pick
+goes-on k v w h p e = takes-in w v (Rom (Search k 2)) (level-in k 2 w h p) ∙ rw e (place-next k (w .chip .rc) (ltb k 63) (ltb (k + 1) 64) refl refl)
+
+-- another drops out
+pub drops-out : (k : ℕ) (v : Bool) (w : Whole) → k < 64 → Part k 2 w → same (bitOf (w .chip .code) k) v ≡ false → Out (takesOf v w)
+unfolding Out romSlot searchBit pick
+drops-out k v w h p e = takes-in w v (Rom (Search k 2)) (level-in k 2 w h p) ∙ rw e
+
+-- a chip that dropped out stays out
+pub out-stays : (v : Bool) (w : Whole) → Out w → Out (takesOf v w)
+unfolding Out
+out-stays v w p = takes-in w v Waiting p ∙ p

@@ -1,0 +1,12 @@
+pub mod Order
+pub mod Bits
+pub mod Branch
+pub mod Sorted
+pub mod Rest
+pub mod Chip
+pub mod Slots
+pub mod Line
+pub mod Pass
+pub mod Passes
+pub mod Listing
+pub mod Public

@@ -1,0 +1,28 @@
+-- Laws: a chain of choices, and when it comes to each of its ends.
+use Prim.Native.Nat.{ℕ}
+use native.Mathlib.Omega.{arith}
+use mathlib.Core.Bool.{Bool, true, false, true≢false}
+use mathlib.Core.Path.{_≡_, refl, _∙_, sym}
+use Rattle.base.specs.Pick.{pick}
+
+-- each exactly when the other
+abbrev pub Iff : Type 0 → Type 0 → Type 0
+Iff A B = (A → B) × (B → A)
+
+-- a choice comes to an end that its first way never comes to, exactly when the test fails
+pub by-else : {A : Type 0} (t : Bool) (a b : A) → (a ≡ b → ⊥) → Iff (pick t a b ≡ b) (t ≡ false)
+unfolding pick
+by-else true a b n = ((λ e. absurd (n e)), (λ e. absurd (true≢false e)))
+by-else false a b n = ((λ e. refl), (λ e. refl))
+
+-- a choice comes to an end that its second way is not, exactly when the test holds and the first way comes to it
+pub by-then : {A : Type 0} (B : Type 0) (t : Bool) (a b c : A) → (b ≡ c → ⊥) → Iff (a ≡ c) B → Iff (pick t a b ≡ c) ((t ≡ true) × B)
+unfolding pick
+by-then B true a b c n i = ((λ e. (refl, i .0 e)), (λ p. i .1 (p .1)))
+by-then B false a b c n i = ((λ e. absurd (n e)), (λ p. absurd (true≢false (sym (p .0)))))
+
+-- a choice whose ways both differ from something differs from it
+pub by-neither : {A : Type 0} (t : Bool) (a b c : A) → (a ≡ c → ⊥) → (b ≡ c → ⊥) → pick t a b ≡ c → ⊥
+unfolding pick
+by-neither true a b c f g = f
+by-neither false a b c f g = g

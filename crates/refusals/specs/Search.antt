@@ -1,0 +1,72 @@
+-- Demand 1 for the search: 8 and 5 "both without an event, counts 0".
+use Prim.Native.Nat.{ℕ}
+use native.Mathlib.Omega.{arith}
+use mathlib.Core.Bool.{Bool, true, false}
+use mathlib.Core.List.{List}
+use mathlib.Core.Path.{_≡_, refl, _∙_, ap, sym}
+use lib.ListN.{length}
+use Rattle.base.specs.Pick.{pick}
+use Rattle.line.specs.Event.{tableInRange, sizesFit}
+use Rattle.search.specs.Host.{Played, Listed, play, searchHost}
+use Rattle.search.specs.Search.{Searched, complete, refused, completeOr4, Attached, wire, Search, outcome, fromPlayed, searchOf}
+use Rattle.runs.specs.Range.{pick-if}
+use Rattle.runs.specs.Standing.{pick-of}
+use Rattle.refusals.specs.Exactly.{Iff, by-else, by-then, by-neither}
+
+numbered : (r s : ℕ) → (r ≡ s → ⊥) → refused r ≡ refused s → ⊥
+numbered r s n e = n (number e)
+  where
+    number : refused r ≡ refused s → r ≡ s
+    number p = cc
+
+not-complete : (s : ℕ) → complete ≡ refused s → ⊥
+not-complete s e = let z : _≡_ {A = ℕ} 0 1 = cc in omega arith
+
+module _ (list : List ℕ) (l : Attached) where
+  abbrev ranged : Bool
+  ranged = tableInRange (l .count) (l .lent .chips)
+
+  abbrev sized : Bool
+  sized = sizesFit (l .count) (l .lent .chips) (l .lent .images) (l .lent .pads)
+
+  -- whether the host found no code more than its places
+  abbrev whole : Bool
+  whole = play wire (searchHost (length list)) l .result .complete
+
+  answer-is : searchOf list l .answer ≡ pick ranged (pick sized (completeOr4 whole) (refused 5)) (refused 8)
+  unfolding searchOf
+  answer-is =
+      pick-of (λ (o : Search). o .answer) _ _ _
+      ∙ ap (λ (x : Searched). pick ranged x (refused 8)) (pick-of (λ (o : Search). o .answer) _ _ _)
+
+  answers : (s : ℕ) {B : Type 0} → Iff (pick ranged (pick sized (completeOr4 whole) (refused 5)) (refused 8) ≡ refused s) B → Iff (searchOf list l .answer ≡ refused s) B
+  answers s i = ((λ p. i .0 (sym answer-is ∙ p)), (λ p. answer-is ∙ i .1 p))
+
+  past-4 : (s : ℕ) → (4 ≡ s → ⊥) → completeOr4 whole ≡ refused s → ⊥
+  past-4 s k = by-neither whole _ _ _ (not-complete s) (numbered 4 s k)
+
+  pub refused-8 : Iff (searchOf list l .answer ≡ refused 8) (ranged ≡ false)
+  refused-8 = answers 8 (by-else ranged _ _ (by-neither sized _ _ _ (past-4 8 (λ p. omega arith)) (numbered 5 8 (λ p. omega arith))))
+
+  pub refused-5 : Iff (searchOf list l .answer ≡ refused 5) ((ranged ≡ true) × (sized ≡ false))
+  refused-5 = answers 5 (by-then _ ranged _ _ _ (numbered 8 5 (λ p. omega arith)) (by-else sized _ _ (past-4 5 (λ p. omega arith))))
+
+  -- 4, where neither 8 nor 5: the host had to stop for want of places
+  pub refused-4 : Iff (searchOf list l .answer ≡ refused 4) ((ranged ≡ true) × ((sized ≡ true) × (whole ≡ false)))
+  refused-4 =
+      answers 4 (by-then _ ranged _ _ _ (numbered 8 4 (λ p. omega arith))
+      (by-then _ sized _ _ _ (numbered 5 4 (λ p. omega arith)) (by-else whole _ _ (not-complete 4))))
+
+  -- under 8 and 5 no event was put on the line, and list and line are as they were
+  abbrev Eventless : Search → Type 0
+  Eventless o = (r : ℕ) → (r ≡ 4 → ⊥) → o .answer ≡ refused r → o ≡ outcome (refused r) 0 list 0 0 l
+
+  plainly : (s : ℕ) → Eventless (outcome (refused s) 0 list 0 0 l)
+  plainly s r k p = ap (λ (x : Searched). outcome x 0 list 0 0 l) p
+
+  pub refused-eventless : (r : ℕ) → (r ≡ 4 → ⊥) → searchOf list l .answer ≡ refused r → searchOf list l ≡ outcome (refused r) 0 list 0 0 l
+  unfolding searchOf
+  refused-eventless =
+      pick-if Eventless _ _ _
+      (λ a. pick-if Eventless _ _ _ (λ b r k p. absurd (past-4 r (λ q. k (sym q)) p)) (λ b. plainly 5))
+      (λ a. plainly 8)
