@@ -21,12 +21,12 @@ abbrev pub orderOf : Attached → List ℕ
 orderOf l = branchOrder 64 0 (codesOf (lineFrom l))
 
 -- what a search on a table that stands well answers, lists and counts, by the codes and the places alone
-pub record Found (list : List ℕ) (l : Attached) (s : Search) : Type 0 where
-  pub answer : s .answer ≡ pick (leb (length (orderOf l)) (length list)) complete (refused 4)
-  pub number : s .number ≡ length (take (length list) (orderOf l))
-  pub list : s .list ≡ take (length list) (orderOf l) ++ drop (length (take (length list) (orderOf l))) list
-  pub resets : s .resets ≡ max 1 (length (take (length list) (orderOf l)))
-  pub slots : s .slots ≡ 200 * length (take (length list) (orderOf l))
+pub record Found (places : List ℕ) (l : Attached) (s : Search) : Type 0 where
+  pub answer : s .answer ≡ pick (leb (length (orderOf l)) (length places)) complete (refused 4)
+  pub number : s .number ≡ length (take (length places) (orderOf l))
+  pub list : s .list ≡ take (length places) (orderOf l) ++ drop (length (take (length places) (orderOf l))) places
+  pub resets : s .resets ≡ max 1 (length (take (length places) (orderOf l)))
+  pub slots : s .slots ≡ 200 * length (take (length places) (orderOf l))
 
 pub search-finds : (list : List ℕ) (l : Attached) → Stands l → Codes (codesOf (lineFrom l)) → Found list l (searchOf list l)
 search-finds list l s c =
