@@ -1,6 +1,6 @@
 -- One host on a table with its buffers, and on the line of whole chips: what it comes to is the same.
 use Prim.Native.Nat.{ℕ}
-use mathlib.Core.List.{List, _++_}
+use mathlib.Core.List.{List, [], _∷_, _++_}
 use mathlib.Core.Path.{_≡_, refl, _∙_, ap, sym}
 use lib.ListN.{length, drop}
 use lib.Seq.{drop-at}
@@ -12,7 +12,7 @@ use Rattle.line.specs.declared.Event.{Event}
 use Rattle.search.specs.Host.{Host, done, ask, Played, played, more, resetsOf, slotsOf, play, searchHost}
 use Rattle.search.specs.Search.{Attached, saysOf, leavesOf, wire, Search, fromPlayed, searchOf}
 use Rattle.base.specs.Pick.{pick-true}
-use Rattle.runs.specs.Runs.{answerOf, afterOf, lineWire}
+use Rattle.runs.specs.Runs.{answerOf, afterOf, run, answers, lineWire}
 use Rattle.runs.specs.Standing.{Stands, lineFrom, withLine, line-good, line-length, put-back, says-is, leaves-is, stands-after, line-after, after-length, length-chips}
 
 -- a table in which a line was replaced twice holds the second
@@ -43,3 +43,27 @@ pub search-joined : (list : List ℕ) (l : Attached) → Stands l
     → searchOf list l ≡ fromPlayed list (inTable l (play lineWire (searchHost (length list)) (lineFrom l)))
 unfolding searchOf
 search-joined list l s = (simp (s .range, s .sizes, pick-true)) ∙ ap (fromPlayed list) (play-joined (searchHost (length list)) l s)
+
+-- a history of the public event on a table with its buffers: what it leaves, and what it answers
+abbrev pub runOn : List Event → Attached → Attached
+runOn [] l = l
+runOn (e ∷ es) l = runOn es (leavesOf e l)
+
+abbrev pub answersOn : List Event → Attached → List Answered
+answersOn [] l = []
+answersOn (e ∷ es) l = saysOf e l ∷ answersOn es (leavesOf e l)
+
+-- it is the history of the line of whole chips: so each theorem about lines speaks of tables, images and scratchpads
+pub run-joined : (es : List Event) (l : Attached) → Stands l → lineFrom (runOn es l) ≡ run es (lineFrom l)
+run-joined [] l s = refl
+run-joined (e ∷ es) l s = run-joined es (leavesOf e l) (stands-after l e s) ∙ ap (run es) (line-after l e s)
+
+pub answers-joined : (es : List Event) (l : Attached) → Stands l → answersOn es l ≡ answers es (lineFrom l)
+answers-joined [] l s = refl
+answers-joined (e ∷ es) l s =
+    (λ j. says-is l s e j ∷ (answers-joined es (leavesOf e l) (stands-after l e s) ∙ ap (answers es) (line-after l e s)) j)
+
+-- refusals 8 and 5 never come up in a run from a table that stands well
+pub stands-on : (es : List Event) (l : Attached) → Stands l → Stands (runOn es l)
+stands-on [] l s = s
+stands-on (e ∷ es) l s = stands-on es (leavesOf e l) (stands-after l e s)

@@ -1,0 +1,100 @@
+-- The theorem is about something: two histories of one line after which chip 0 stands differently, and the same after the write.
+use Prim.Native.Nat.{ℕ, zero, suc, _<_}
+use native.Mathlib.Omega.{arith}
+use mathlib.Core.Bool.{true}
+use mathlib.Core.List.{List, [], _∷_, _++_}
+use mathlib.Core.Path.{_≡_, refl}
+use lib.ListN.{replicate, length-replicate}
+use Rattle.base.specs.Pick.{pick}
+use Rattle.base.specs.Bits.{bitOf, both, filled}
+use Rattle.rom.specs.Rom.{commandOf, commandBit}
+use Rattle.scratchpad.specs.Registers.{registers, targetOf}
+use Rattle.scratchpad.specs.Scratchpad.{memoryFunction, addressIn, writeAddress}
+use Rattle.ds2413.specs.Switch.{switchFunction, switchInRange}
+use Rattle.chip.specs.Chip.{Whole, whole, romSlot, functionLevel, functionSlot, memoryStep, memorySlot, switchSlot, takesOf, sendsOf, resetChip, resetOf, powerOnChip, powerOnOf, levelsChip, levelsOf, setUpChip}
+use Rattle.chip.specs.Range.{knownKind, imageSize, padSize}
+use Rattle.line.specs.Line.{lineAfter}
+use Rattle.line.specs.declared.Event.{Event}
+use Rattle.search.specs.Host.{eventNumber, resetEvent}
+use Rattle.runs.specs.Runs.{at, levelsTaken, afterOf, run, answers}
+use Rattle.runs.specs.Keeps.{InRange, Good}
+use Rattle.runs.specs.Sorts.{sortOf}
+use Rattle.recovery.specs.Sessions.{bitsFrom, opening, Addressed, slots, write, Bytes, Page}
+use Rattle.recovery.specs.CarriedOut.{carriesOut, NoCopy}
+use Rattle.recovery.specs.SetUp.{SetUp}
+use Rattle.recovery.specs.Rewritten.{addressed-slots}
+use Rattle.recovery.specs.Recovery.{Recovered}
+use Rattle.recovery.specs.Demand3.{demand-3}
+
+-- a DS28EC20 of code 5 and a DS2413 of code 6, as set up, with a memory all FFh
+abbrev line : List Whole
+line = whole (setUpChip 5 1) (replicate 2624 0xFF) (replicate 32 0xFF) ∷ whole (setUpChip 6 2) [] [] ∷ []
+
+-- chip 0 is in range
+fresh-range : InRange (setUpChip 5 1)
+unfolding setUpChip knownKind switchInRange both pick
+fresh-range = record { known = refl; clear = refl; pins = refl; place = refl }
+
+-- its memory and its scratchpad have their sizes
+fresh : Good (at 0 line)
+unfolding setUpChip imageSize padSize pick
+fresh = record { range = fresh-range; memory = length-replicate {A = ℕ} 2624 0xFF; pad = length-replicate {A = ℕ} 32 0xFF }
+
+-- the codes differ
+line-set-up : SetUp 0 line
+unfolding setUpChip
+line-set-up = record { attached = omega arith; differ = (((λ e. omega arith), tt), (tt, tt)); codes = (omega arith, (omega arith, tt)); kind = refl; good = fresh }
+
+-- power on, an event that is refused, and outside levels of chip 1
+abbrev quiet : List Event
+quiet = eventNumber 3 ∷ eventNumber 5 ∷ record { number = 4; chip = 1; levels = 2 } ∷ []
+
+-- a reset, CCh, 0Fh and the address 0120h
+abbrev noise : List Event
+noise = resetEvent ∷ slots (bitsFrom 8 0 0xCC ++ (bitsFrom 8 0 0x0F ++ bitsFrom 16 0 0x0120))
+
+-- the registers of chip 0 after the first
+pub quiet-registers : at 0 (run quiet line) .chip .registers ≡ registers 0x0000 0x20
+unfolding setUpChip afterOf lineAfter levelsTaken powerOnOf powerOnChip levelsOf levelsChip both pick
+quiet-registers = refl
+
+-- they are others after the second
+pub noise-registers : at 0 (run noise line) .chip .registers ≡ registers 0x0120 0x00
+unfolding setUpChip afterOf lineAfter levelsTaken takesOf sendsOf resetOf resetChip romSlot commandBit commandOf functionSlot functionLevel memoryFunction switchFunction switchSlot memorySlot memoryStep writeAddress addressIn targetOf filled bitOf both pick
+noise-registers = refl
+
+-- chip 0 carries out no copy in the first
+quiet-no-copy : NoCopy 0 quiet line
+quiet-no-copy = ((λ h. absurd (omega arith)), ((λ h. absurd (omega arith)), ((λ h. absurd (omega arith)), tt)))
+
+-- nor in the second
+noise-no-copy : NoCopy 0 noise line
+unfolding carriesOut setUpChip afterOf lineAfter levelsTaken takesOf sendsOf resetOf resetChip romSlot commandBit commandOf functionSlot functionLevel memoryFunction switchFunction switchSlot memorySlot memoryStep writeAddress addressIn targetOf filled bitOf both pick
+noise-no-copy = ((λ h. absurd (omega arith)), ((λ h. refl), ((λ h. refl), ((λ h. refl), ((λ h. refl), ((λ h. refl), ((λ h. refl), ((λ h. refl), ((λ h. refl), ((λ h. refl), ((λ h. refl), ((λ h. refl), ((λ h. refl), ((λ h. refl), ((λ h. refl), ((λ h. refl), ((λ h. refl), ((λ h. refl), ((λ h. refl), ((λ h. refl), ((λ h. refl), ((λ h. refl), ((λ h. refl), ((λ h. refl), ((λ h. refl), ((λ h. refl), ((λ h. refl), ((λ h. refl), ((λ h. refl), ((λ h. refl), ((λ h. refl), ((λ h. refl), ((λ h. refl), tt)))))))))))))))))))))))))))))))))
+
+-- a run of one byte
+small : (n b : ℕ) → b < 256 → Bytes (replicate n b)
+small zero b h = tt
+small (suc n) b h = (h, small n b h)
+
+-- 32 bytes A5h for 0120h
+page : Page 0x0120 (replicate 32 0xA5)
+page = record { address = omega arith; offset = refl; full = length-replicate {A = ℕ} 32 0xA5; small = small 32 0xA5 (omega arith) }
+
+-- so after the write of them at 0120h chip 0 stands the same
+pub recovered : Recovered 0 5 (write 5 0x0120 (replicate 32 0xA5)) (run quiet line) (run noise line)
+unfolding setUpChip
+recovered = demand-3 0 line line-set-up [] quiet noise quiet-no-copy noise-no-copy 0x0120 (replicate 32 0xA5) page
+
+-- a session that matches the code and reads the scratchpad
+abbrev reading : List Event
+reading = resetEvent ∷ slots (opening 5 ++ (bitsFrom 8 0 0xAA ++ replicate 296 true))
+
+-- it opens by matching the code
+reading-addressed : Addressed 5 [] reading
+unfolding sortOf pick
+reading-addressed = (tt, addressed-slots 5 (opening 5) (bitsFrom 8 0 0xAA ++ replicate 296 true))
+
+-- and what it reads is the same
+pub read-alike : answers reading (run (write 5 0x0120 (replicate 32 0xA5)) (run quiet line)) ≡ answers reading (run (write 5 0x0120 (replicate 32 0xA5)) (run noise line))
+read-alike = recovered .answers-on reading reading-addressed

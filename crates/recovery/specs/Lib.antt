@@ -1,0 +1,13 @@
+pub mod Sessions
+pub mod CarriedOut
+pub mod Stays
+pub mod Opening
+pub mod Among
+pub mod Filled
+pub mod Written
+pub mod SetUp
+pub mod Rewritten
+pub mod Recovery
+pub mod Demand3
+pub mod Case
+pub mod Public

@@ -1,0 +1,157 @@
+-- Laws of an opening: every chip is silent in it, and after it all but those of its code wait.
+use Prim.Native.Nat.{ℕ, zero, suc, _+_, _*_, _/_, _%_, _^_, _<_, _≤_}
+use native.Mathlib.Omega.{arith}
+use native.Mathlib.Nat.{mod-eq-of-lt}
+use mathlib.Core.Bool.{Bool, true, false, true≢false}
+use mathlib.Core.List.{List, [], _∷_}
+use mathlib.Core.Path.{_≡_, refl, _∙_, ap, sym}
+use lib.Dec.{eqb}
+use lib.Pow.{mod-pow-add}
+use borrow.Author.Tests.{ltb-false}
+use Rattle.base.specs.Pick.{pick}
+use Rattle.base.specs.Bits.{bitOf, same, filled}
+use Rattle.rom.specs.Rom.{commandOf, commandBit, matchBit}
+use Rattle.rom.specs.declared.RomResult.{RomResult}
+use Rattle.rom.specs.declared.RomStep.the-variants.{Match}
+use Rattle.chip.specs.Chip.{Whole, whole, chipWith, levelOf, levelReset, romSlot, levelTakes, takesOf, levelSends, sendsOf, resetChip, resetOf, levelsChip, levelsOf}
+use Rattle.chip.specs.declared.Level.{Level}
+use Rattle.chip.specs.declared.Level.the-variants.{Waiting, Rom}
+use Rattle.runs.specs.Range.{pick-if}
+use Rattle.recovery.specs.Sessions.{bitsFrom, opening}
+
+-- fed these bits, and outside levels at any time, a chip sends 1 all along and comes to P
+abbrev pub Silent : (Whole → Type 0) → List Bool → Whole → Type 0
+Silent P [] w = P w
+Silent P (v ∷ vs) w = (l : ℕ) → (sendsOf (levelsOf l w) ≡ true) × Silent P vs (takesOf v (levelsOf l w))
+
+-- a chip of another code waits
+abbrev pub Waits : ℕ → Whole → Type 0
+Waits code w = (w .chip .code ≡ code → ⊥) → w .chip .level ≡ Waiting
+
+-- what a chip sends at a level
+pub sends-at : (w : Whole) (l : Level) → w .chip .level ≡ l → sendsOf w ≡ levelSends w l
+unfolding sendsOf
+sends-at w l e = ap (levelSends w) e
+
+-- what a slot does to a chip at a level
+takes-at : (w : Whole) (v : Bool) (l : Level) → w .chip .level ≡ l → takesOf v w ≡ levelTakes w v l
+unfolding takesOf
+takes-at w v l e = ap (levelTakes w v) e
+
+-- a slot does nothing to a chip that waits
+pub waiting-takes : (w : Whole) (v : Bool) → w .chip .level ≡ Waiting → takesOf v w ≡ w
+waiting-takes w v e = takes-at w v Waiting e
+
+-- two numbers that have the same bit at a place
+bit-value : (a b p : ℕ) → bitOf a p ≡ bitOf b p → a / 2 ^ p % 2 ≡ b / 2 ^ p % 2
+unfolding bitOf
+bit-value a b p = go (a / 2 ^ p % 2) (b / 2 ^ p % 2) (omega arith) (omega arith)
+  where
+    go : (x y : ℕ) → x < 2 → y < 2 → eqb x 1 ≡ eqb y 1 → x ≡ y
+    go zero zero h k e = refl
+    go zero (suc zero) h k e = absurd (true≢false (sym e))
+    go (suc zero) zero h k e = absurd (true≢false e)
+    go (suc zero) (suc zero) h k e = refl
+    go zero (suc (suc y)) h k e = absurd (omega arith)
+    go (suc zero) (suc (suc y)) h k e = absurd (omega arith)
+    go (suc (suc x)) y h k e = absurd (omega arith)
+
+-- two numbers that agree below a place and at it agree below the next
+low-bits : (a b p : ℕ) → a % 2 ^ p ≡ b % 2 ^ p → bitOf a p ≡ bitOf b p → a % 2 ^ (p + 1) ≡ b % 2 ^ (p + 1)
+low-bits a b p e h =
+    let q : p + 1 ≡ 1 + p = omega arith in
+    let k : a / 2 ^ p % 2 ≡ b / 2 ^ p % 2 = bit-value a b p h in
+    ap (λ (n : ℕ). a % 2 ^ n) q
+    ∙ mod-pow-add a 1 p
+    ∙ ap (λ (x : ℕ). x * 2 ^ p + a % 2 ^ p) k
+    ∙ ap (λ (x : ℕ). b / 2 ^ p % 2 * 2 ^ p + x) e
+    ∙ sym (mod-pow-add b 1 p)
+    ∙ ap (λ (n : ℕ). b % 2 ^ n) (sym q)
+
+-- bits that are the same are equal
+same-bit : (x y : Bool) → same x y ≡ true → x ≡ y
+unfolding same pick
+same-bit true true e = refl
+same-bit true false e = sym e
+same-bit false true e = e
+same-bit false false e = refl
+
+module _ (code : ℕ) where
+  -- a chip that waits is silent
+  waiting-silent : (bs : List Bool) (w : Whole) → w .chip .level ≡ Waiting → Silent (Waits code) bs w
+  unfolding levelsOf levelsChip
+  waiting-silent [] w e = λ n. e
+  waiting-silent (b ∷ bs) w e = λ l. (sends-at (levelsOf l w) Waiting e, rw (waiting-takes (levelsOf l w) b e) (waiting-silent bs (levelsOf l w) e))
+
+  -- of a chip of the code nothing more is said
+  own-silent : (bs : List Bool) (w : Whole) → w .chip .code ≡ code → bs ≡ [] → Silent (Waits code) bs w
+  own-silent bs w e z = rw z (λ n. absurd (n e))
+
+  module _ (g : code < 2 ^ 64) where
+    -- codes that agree in 64 bits are equal
+    same-code : (a p : ℕ) → p ≡ 64 → a < 2 ^ 64 → a % 2 ^ p ≡ code % 2 ^ p → a ≡ code
+    same-code a p e h s =
+        let z : a % 2 ^ 64 ≡ code % 2 ^ 64 = ap (λ (n : ℕ). a % 2 ^ n) (sym e) ∙ s ∙ ap (λ (n : ℕ). code % 2 ^ n) e in
+        sym (mod-eq-of-lt h) ∙ z ∙ mod-eq-of-lt g
+
+    -- a chip that agreed with the code in p bits, with k more to come
+    abbrev Matching : ℕ → ℕ → Type 0
+    Matching k p = (w : Whole) → k + p ≡ 64 → w .chip .code < 2 ^ 64 → w .chip .code % 2 ^ p ≡ code % 2 ^ p → w .chip .level ≡ Rom (Match p) → Silent (Waits code) (bitsFrom k p code) w
+
+    -- one bit of the code
+    match-bit : (k p : ℕ) (w : Whole) → suc k + p ≡ 64 → w .chip .code < 2 ^ 64 → w .chip .code % 2 ^ p ≡ code % 2 ^ p → Matching k (p + 1)
+        → Silent (Waits code) (bitsFrom k (p + 1) code) (whole (romSlot (w .chip) (Match p) (bitOf code p)) (w .memory) (w .pad))
+    unfolding romSlot matchBit
+    match-bit k p w e h s more =
+        let at : RomResult → Whole = λ (r : RomResult). whole (chipWith (w .chip) (levelOf (r .next)) (r .rc) (w .chip .registers) (w .chip .switch)) (w .memory) (w .pad) in
+        let P : RomResult → Type 0 = λ (r : RomResult). Silent (Waits code) (bitsFrom k (p + 1) code) (at r) in
+        let next : same (bitOf (w .chip .code) p) (bitOf code p) ≡ true → w .chip .code % 2 ^ (p + 1) ≡ code % 2 ^ (p + 1)
+        = λ a. low-bits (w .chip .code) code p s (same-bit (bitOf (w .chip .code) p) (bitOf code p) a) in
+        pick-if P _ _ _
+        (λ a. pick-if P _ _ _
+        (λ b. more _ (omega arith) h (next a) refl)
+        (λ b. let r : 63 ≤ p = ltb-false p 63 b in
+        let z : k ≡ 0 = omega arith in
+        own-silent (bitsFrom k (p + 1) code) _ (same-code (w .chip .code) (p + 1) (omega arith) h (next a)) (ap (λ (j : ℕ). bitsFrom j (p + 1) code) z)))
+        (λ a. waiting-silent (bitsFrom k (p + 1) code) _ refl)
+
+    -- all the bits to come
+    match-silent : (k p : ℕ) → Matching k p
+    unfolding levelsOf levelsChip
+    match-silent zero p w e h s q = λ n. absurd (n (same-code (w .chip .code) p (omega arith) h s))
+    match-silent (suc k) p w e h s q = λ l. (
+      sends-at (levelsOf l w) (Rom (Match p)) q,
+      rw (takes-at (levelsOf l w) (bitOf code p) (Rom (Match p)) q) (match-bit k p (levelsOf l w) e h s (match-silent k (p + 1))),
+    )
+
+    -- THEOREM: from a reset on, every chip is silent over the opening of a code, and all of other codes wait after it
+    pub opening-silent : (w : Whole) → w .chip .code < 2 ^ 64 → Silent (Waits code) (opening code) (resetOf w)
+    unfolding resetOf resetChip levelsOf levelsChip sendsOf takesOf romSlot commandBit commandOf filled bitOf pick
+    opening-silent w h =
+        λ a. (
+          refl,
+          λ b. (
+            refl,
+            λ c. (
+              refl,
+              λ d. (
+                refl,
+                λ e. (
+                  refl,
+                  λ f. (
+                    refl,
+                    λ i. (
+                      refl,
+                      λ j. (
+                        refl,
+                        match-silent 64 0
+                            (levelsOf j (whole (chipWith (w .chip) (Rom (Match 0)) false (levelReset (w .chip .registers) (w .chip .level)) (w .chip .switch)) (w .memory) (w .pad)))
+                            refl h (omega arith) refl,
+                      ),
+                    ),
+                  ),
+                ),
+              ),
+            ),
+          ),
+        )

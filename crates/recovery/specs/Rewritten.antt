@@ -1,0 +1,138 @@
+-- The write session on a line: the exact state that it brings chip i to, from any state of the line.
+use Prim.Native.Nat.{ℕ, _+_, _/_, _%_, _<_}
+use native.Mathlib.Nat.{not-suc-le-zero}
+use mathlib.Core.Bool.{Bool, true, false}
+use mathlib.Core.List.{List, [], _∷_, _++_, map}
+use mathlib.Core.Path.{_≡_, refl, _∙_, ap, sym, subst}
+use lib.ListN.{length}
+use Rattle.base.specs.Pick.{pick}
+use Rattle.crc.specs.Crc.{poly16, crcOf}
+use Rattle.rom.specs.declared.RomStep.the-variants.{Command}
+use Rattle.scratchpad.specs.Registers.{registers}
+use Rattle.scratchpad.specs.declared.MemoryPhase.the-variants.{SendCrc}
+use Rattle.chip.specs.Chip.{Whole, whole, levelReset, takesOf, sendsOf, resetChip, resetOf}
+use Rattle.chip.specs.Range.{padSize}
+use Rattle.chip.specs.declared.Level.the-variants.{Rom, Memory}
+use Rattle.line.specs.Line.{actOf, lineAfter, busBit}
+use Rattle.line.specs.Event.{Answered, bit}
+use Rattle.line.specs.declared.Act.the-variants.{Reset}
+use Rattle.search.specs.Host.{resetEvent}
+use Rattle.runs.specs.Runs.{at, levelsTaken, answerOf, afterOf, run, answers}
+use Rattle.runs.specs.Sorts.{Sort, slot-sort}
+use Rattle.recovery.specs.Sessions.{opening, toCome, Addressed, slots, writeBits, write, Page}
+use Rattle.recovery.specs.Among.{Own, Among, ownAfter, ownRun, ownAnswer, ownAnswers, toComes, both-one, alone, alone-answers}
+use Rattle.recovery.specs.Written.{ruled, writtenTo, Goes, goes-from, goes-to, ofKind, ec20, goes-written}
+use Rattle.recovery.specs.SetUp.{SetUp, codes-at, reset-among, reset-own}
+
+-- slots of the bits to come, and of any bits after them, address the code
+pub addressed-slots : (code : ℕ) (bs vs : List Bool) → Addressed code bs (slots (bs ++ vs))
+addressed-slots code [] [] = tt
+addressed-slots code [] (v ∷ vs) = rw (slot-sort v) (tt, addressed-slots code [] vs)
+addressed-slots code (b ∷ bs) vs = rw (slot-sort b) (refl, addressed-slots code bs vs)
+
+-- after them nothing is to come
+comes-slots : (code : ℕ) (bs vs : List Bool) → toComes code bs (slots (bs ++ vs)) ≡ []
+comes-slots code [] [] = refl
+comes-slots code [] (v ∷ vs) = ap (λ (k : Sort). toComes code (toCome code [] k) (slots vs)) (slot-sort v) ∙ comes-slots code [] vs
+comes-slots code (b ∷ bs) vs = ap (λ (k : Sort). toComes code (toCome code (b ∷ bs) k) (slots (bs ++ vs))) (slot-sort b) ∙ comes-slots code bs vs
+
+-- a chip that is silent over given bits comes, alone, to where they lead
+goes-run : (vs : List Bool) (w u : Whole) → Goes vs w u → ownRun (slots vs) w ≡ u
+goes-run [] w u e = e
+goes-run (v ∷ vs) w u (s, g) =
+    ap (λ (k : Sort). ownRun (slots vs) (ownAfter k w)) (slot-sort v)
+    ∙ ap (λ (b : Bool). ownRun (slots vs) (takesOf b w)) (both-one (sendsOf w) v s)
+    ∙ goes-run vs (takesOf v w) u g
+
+-- and each bit is answered as the host wrote it
+goes-answers : (vs : List Bool) (ks : List ℕ) (w u : Whole) → Goes vs w u → ownAnswers (slots vs) ks w ≡ map bit vs
+goes-answers [] ks w u e = refl
+goes-answers (v ∷ vs) ks w u (s, g) =
+    ap (λ (k : Sort). ownAnswer k ks w ∷ ownAnswers (slots vs) ks (ownAfter k w)) (slot-sort v)
+    ∙ ap (λ (b : Bool). bit b ∷ ownAnswers (slots vs) ks (takesOf b w)) (both-one (sendsOf w) v s)
+    ∙ ap (λ (l : List Answered). bit v ∷ l) (goes-answers vs ks (takesOf v w) u g)
+
+-- what a reset leaves
+reset-after : (L : List Whole) → afterOf resetEvent L ≡ map (actOf Reset) L
+unfolding afterOf levelsTaken lineAfter pick
+reset-after L = refl
+
+-- what it answers where a chip is attached
+reset-answer : (i : ℕ) (L : List Whole) → i < length L → answerOf resetEvent L ≡ bit false
+unfolding answerOf levelsTaken busBit pick
+reset-answer i [] h = absurd (not-suc-le-zero h)
+reset-answer i (w ∷ L) h = refl
+
+-- a DS28EC20 after a reset, and after the write, with its kind written out
+module _ (w : Whole) (e : w .chip .kind ≡ 1) where
+  -- after a reset
+  reset-is : resetOf w ≡ ec20 (w .chip) (w .memory) (Rom (Command 0 0)) (w .chip .rc) (levelReset (w .chip .registers) (w .chip .level)) (w .pad)
+  unfolding resetOf resetChip
+  reset-is = ap (λ (k : ℕ). ofKind (w .chip) (w .memory) k (Rom (Command 0 0)) (w .chip .rc) (levelReset (w .chip .registers) (w .chip .level)) (w .pad)) e
+
+  -- after the write
+  written-is : (t : ℕ) (bytes : List ℕ)
+      → ec20 (w .chip) (w .memory) (Memory (SendCrc 0 (crcOf poly16 0 (0x0F ∷ t % 256 ∷ t / 256 ∷ bytes)))) true (registers t 0x1F) (ruled (w .memory) t bytes) ≡ writtenTo w t bytes
+  unfolding writtenTo
+  written-is t bytes =
+      let crc = crcOf poly16 0 (0x0F ∷ t % 256 ∷ t / 256 ∷ bytes) in
+      ap (λ (k : ℕ). ofKind (w .chip) (w .memory) k (Memory (SendCrc 0 crc)) true (registers t 0x1F) (ruled (w .memory) t bytes)) (sym e)
+
+  -- its scratchpad has 32 bytes
+  pad-size : padSize (w .chip .kind) ≡ 32
+  unfolding padSize pick
+  pad-size = rw e
+
+-- the write depends on these alone
+pub written-same : (w u : Whole) (t : ℕ) (bytes : List ℕ) → w .chip .code ≡ u .chip .code → w .chip .kind ≡ u .chip .kind → w .chip .switch ≡ u .chip .switch → w .memory ≡ u .memory
+    → writtenTo w t bytes ≡ writtenTo u t bytes
+unfolding writtenTo
+written-same w u t bytes p q r m =
+    λ j. whole (record { code = p j; kind = q j; rc = true; level = Memory (SendCrc 0 (crcOf poly16 0 (0x0F ∷ t % 256 ∷ t / 256 ∷ bytes))); registers = registers t 0x1F; switch = r j }) (m j) (ruled (m j) t bytes)
+
+module _ (i : ℕ) (L : List Whole) (s : SetUp i L) (code : ℕ) (e : at i L .chip .code ≡ code) (t : ℕ) (bytes : List ℕ) (g : Page t bytes) where
+  -- the bits after the reset
+  abbrev sent : List Bool
+  sent = opening code ++ writeBits t bytes
+
+  -- chip i, alone, from the reset to the end of the write
+  goes : Goes sent (resetOf (at i L)) (writtenTo (at i L) t bytes)
+  goes =
+      let w = at i L in
+      subst (λ (c : ℕ). Goes (opening c ++ writeBits t bytes) (resetOf w) (writtenTo w t bytes)) e
+      (goes-from (opening (w .chip .code) ++ writeBits t bytes) _ _ _ (reset-is w (s .kind))
+      (goes-to (opening (w .chip .code) ++ writeBits t bytes) _ _ _
+      (goes-written (w .chip) (w .memory) t bytes (w .chip .rc) (levelReset (w .chip .registers) (w .chip .level)) (w .pad) g (s .good .pad ∙ pad-size w (s .kind)))
+      (written-is w (s .kind) t bytes)))
+
+  -- chip i after the reset
+  own : Own code (opening code) (resetOf (at i L))
+  own = subst (λ (c : ℕ). Own c (opening c) (resetOf (at i L))) e (reset-own i L s)
+
+  -- the line after the reset
+  among : Among code (opening code) (resetOf (at i L)) i (map (actOf Reset) L)
+  among = subst (λ (c : ℕ). Among c (opening c) (resetOf (at i L)) i (map (actOf Reset) L)) e (reset-among i L s)
+
+  -- chip i after the write, among chips of other codes that wait
+  pub rewritten : Among code [] (writtenTo (at i L) t bytes) i (run (write code t bytes) L)
+  rewritten =
+      subst (λ (K : List Whole). Among code [] (writtenTo (at i L) t bytes) i (run (slots sent) K)) (sym (reset-after L))
+      (subst (λ (w : Whole). Among code [] w i (run (slots sent) (map (actOf Reset) L))) (goes-run sent _ _ goes)
+      (subst (λ (bs : List Bool). Among code bs (ownRun (slots sent) (resetOf (at i L))) i (run (slots sent) (map (actOf Reset) L))) (comes-slots code (opening code) (writeBits t bytes))
+      (alone code (opening code) (slots sent) (resetOf (at i L)) i (map (actOf Reset) L) (addressed-slots code (opening code) (writeBits t bytes)) own among)))
+
+  -- it has the code
+  pub rewritten-own : Own code [] (writtenTo (at i L) t bytes)
+  unfolding writtenTo
+  rewritten-own =
+      let h = codes-at i L (s .attached) (s .codes) in
+      (e, h, s .kind, λ n. absurd (n e))
+
+  -- and every bit of the session is on the line as the host wrote it
+  pub rewritten-answers : answers (write code t bytes) L ≡ bit false ∷ map bit sent
+  rewritten-answers =
+      ap (λ (a : Answered). a ∷ answers (slots sent) (afterOf resetEvent L)) (reset-answer i L (s .attached))
+      ∙ ap (λ (K : List Whole). bit false ∷ answers (slots sent) K) (reset-after L)
+      ∙ ap (λ (l : List Answered). bit false ∷ l)
+      (alone-answers code (opening code) (slots sent) (resetOf (at i L)) i (map (actOf Reset) L) (addressed-slots code (opening code) (writeBits t bytes)) own among
+      ∙ goes-answers sent _ _ _ goes)

@@ -1,0 +1,73 @@
+-- What a host sends: bits of numbers, the opening that matches a code, histories in which every session opens so, and the
+-- session that writes a whole page into a scratchpad.
+use Prim.Native.Nat.{ℕ, zero, suc, _+_, _%_, _<_}
+use mathlib.Core.Bool.{Bool}
+use mathlib.Core.List.{List, [], _∷_, _++_, map}
+use mathlib.Core.Path.{_≡_}
+use lib.ListN.{length}
+use Rattle.base.specs.Bits.{bitOf}
+use Rattle.line.specs.declared.Event.{Event}
+use Rattle.search.specs.Host.{slotEvent, resetEvent}
+use Rattle.runs.specs.Sorts.{Sort, slot, reset, powerOn, levels, unknown, sortOf}
+
+-- so many bits of a number from a place on, least significant first
+abbrev pub bitsFrom : ℕ → ℕ → ℕ → List Bool
+bitsFrom zero place n = []
+bitsFrom (suc k) place n = bitOf n place ∷ bitsFrom k (place + 1) n
+
+-- the eight bits of each byte
+abbrev pub bitsOf : List ℕ → List Bool
+bitsOf [] = []
+bitsOf (b ∷ bs) = bitsFrom 8 0 b ++ bitsOf bs
+
+-- "55h: RC = 0, then take 64 bits.": the bits by which a session matches a code
+abbrev pub opening : ℕ → List Bool
+opening code = bitsFrom 8 0 0x55 ++ bitsFrom 64 0 code
+
+-- the bits of an opening that are still to come after an event; none, where slots are free
+abbrev pub toCome : ℕ → List Bool → Sort → List Bool
+toCome code [] (slot v) = []
+toCome code (b ∷ bs) (slot v) = bs
+toCome code bs reset = opening code
+toCome code bs powerOn = []
+toCome code bs (levels i l) = bs
+toCome code bs unknown = bs
+
+-- a slot has the bit that is next to come
+abbrev pub Next : List Bool → Sort → Type 0
+Next [] (slot v) = Unit
+Next (b ∷ bs) (slot v) = v ≡ b
+Next bs reset = Unit
+Next bs powerOn = Unit
+Next bs (levels i l) = Unit
+Next bs unknown = Unit
+
+-- with these bits of an opening to come, every session of a history opens by matching the code, or is cut inside its opening;
+-- power on and levels may stand anywhere
+abbrev pub Addressed : ℕ → List Bool → List Event → Type 0
+Addressed code bs [] = Unit
+Addressed code bs (e ∷ es) = Next bs (sortOf e) × Addressed code (toCome code bs (sortOf e)) es
+
+-- slots of these bits
+abbrev pub slots : List Bool → List Event
+slots vs = map slotEvent vs
+
+-- 0Fh, the address t, the bytes
+abbrev pub writeBits : ℕ → List ℕ → List Bool
+writeBits t bytes = bitsFrom 8 0 0x0F ++ (bitsFrom 16 0 t ++ bitsOf bytes)
+
+-- a reset, a match of the code, and Write Scratchpad of these bytes at t
+abbrev pub write : ℕ → ℕ → List ℕ → List Event
+write code t bytes = resetEvent ∷ slots (opening code ++ writeBits t bytes)
+
+-- numbers below 256
+abbrev pub Bytes : List ℕ → Type 0
+Bytes [] = Unit
+Bytes (b ∷ bs) = (b < 256) × Bytes bs
+
+-- 32 bytes, for an address of 16 bits whose offset in its page is 0
+pub record Page (t : ℕ) (bytes : List ℕ) : Type 0 where
+  pub address : t < 0x10000
+  pub offset : t % 32 ≡ 0
+  pub full : length bytes ≡ 32
+  pub small : Bytes bytes

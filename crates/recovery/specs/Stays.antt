@@ -1,0 +1,108 @@
+-- What no event changes: a chip's code and kind, its good standing, and the latches and levels of a DS28EC20.
+use Prim.Native.Nat.{ℕ, suc, _≤_}
+use native.Mathlib.Omega.{arith}
+use mathlib.Core.Bool.{Bool, true}
+use mathlib.Core.List.{List, [], _∷_, map}
+use mathlib.Core.Path.{_≡_, refl, _∙_, ap, sym}
+use lib.Dec.{eqb}
+use lib.ListN.{length}
+use borrow.Author.Tests.{eqb-true}
+use Rattle.base.specs.Pick.{pick-false}
+use Rattle.base.specs.Both.{both-holds}
+use Rattle.ds2413.specs.Switch.{phaseInRange}
+use Rattle.chip.specs.Chip.{Whole, romSlot, functionSlot, memorySlot, levelTakes, takesOf, resetChip, resetOf, powerOnChip, powerOnOf, levelsOf}
+use Rattle.chip.specs.Range.{levelInRange}
+use Rattle.chip.specs.declared.Chip.{Chip}
+use Rattle.chip.specs.declared.Level.{Level}
+use Rattle.chip.specs.declared.Level.the-variants.{Waiting, Rom, FunctionCommand, Memory, Pio}
+use Rattle.line.specs.Line.{actOf}
+use Rattle.line.specs.declared.Act.{Act}
+use Rattle.line.specs.declared.Act.the-variants.{Take, Reset, PowerOn}
+use Rattle.line.specs.declared.Event.{Event}
+use Rattle.runs.specs.Runs.{at, run}
+use Rattle.runs.specs.Range.{pick-both}
+use Rattle.runs.specs.Keeps.{Good, act-good, act-named, levels-good, levels-named}
+use Rattle.runs.specs.Kept.{Each, each-at, each-map, run-kept}
+
+-- from a chip to the same chip later
+pub record Stays (w u : Whole) : Type 0 where
+  pub code : u .chip .code ≡ w .chip .code
+  pub kind : u .chip .kind ≡ w .chip .kind
+  pub good : Good w → Good u
+  pub pins : Good w → w .chip .kind ≡ 1 → u .chip .switch ≡ w .chip .switch
+
+-- a chip stays what it is
+stays-same : (w : Whole) → Stays w w
+stays-same w = record { code = refl; kind = refl; good = λ g. g; pins = λ g e. refl }
+
+-- and from one time to the next
+stays-onto : (w u x : Whole) → Stays w u → Stays u x → Stays w x
+stays-onto w u x p q =
+    record {
+      code = q .code ∙ p .code;
+      kind = q .kind ∙ p .kind;
+      good = λ g. q .good (p .good g);
+      pins = λ g e. q .pins (p .good g) (p .kind ∙ e) ∙ p .pins g e;
+    }
+
+-- a kind is not 1 and 2
+pub not-both : (k : ℕ) → k ≡ 1 → k ≡ 2 → ⊥
+not-both k e f = omega arith
+
+-- a slot leaves the latches and levels of a DS28EC20
+level-pins : (w : Whole) (v : Bool) (l : Level) → levelInRange (w .chip .kind) l ≡ true → w .chip .kind ≡ 1 → levelTakes w v l .chip .switch ≡ w .chip .switch
+unfolding romSlot functionSlot memorySlot
+level-pins w v Waiting h e = refl
+level-pins w v (Rom s) h e = refl
+level-pins w v (FunctionCommand count bits) h e = pick-both (λ (c : Chip). c .switch ≡ w .chip .switch) _ _ _ refl refl
+level-pins w v (Memory p) h e = refl
+level-pins w v (Pio p) h e = absurd (not-both (w .chip .kind) e (eqb-true (w .chip .kind) 2 (both-holds (eqb (w .chip .kind) 2) (phaseInRange p) h .0)))
+
+-- so does every act
+act-pins : (a : Act) (w : Whole) → Good w → w .chip .kind ≡ 1 → actOf a w .chip .switch ≡ w .chip .switch
+unfolding takesOf resetOf resetChip powerOnOf powerOnChip
+act-pins (Take v) w g e = level-pins w v (w .chip .level) (g .range .place) e
+act-pins Reset w g e = refl
+act-pins PowerOn w g e = pick-false (eqb (w .chip .kind) 2) _ _ (ap (λ (k : ℕ). eqb k 2) e)
+
+-- every act
+act-stays : (a : Act) (w : Whole) → Stays w (actOf a w)
+act-stays a w = record { code = act-named a w .0; kind = act-named a w .1; good = act-good a w; pins = act-pins a w }
+
+-- outside levels of a DS2413
+levels-stays : (l : ℕ) (w : Whole) → w .chip .kind ≡ 2 → l ≤ 3 → Stays w (levelsOf l w)
+levels-stays l w e h =
+    record { code = levels-named l w .0; kind = levels-named l w .1; good = levels-good l w h; pins = λ g k. absurd (not-both (w .chip .kind) k e) }
+
+-- every chip over a history
+run-each : (es : List Event) (L : List Whole) → Each Stays L (run es L)
+run-each es L = run-kept Stays stays-same stays-onto act-stays levels-stays es L
+
+-- chip i over a history
+pub run-stays : (i : ℕ) (es : List Event) (L : List Whole) → Stays (at i L) (at i (run es L))
+run-stays i es L = each-at (stays-same _) i (run-each es L)
+
+-- the codes of a line
+abbrev pub codesOf : List Whole → List ℕ
+codesOf L = map (λ (w : Whole). w .chip .code) L
+
+-- the kinds of a line
+abbrev pub kindsOf : List Whole → List ℕ
+kindsOf L = map (λ (w : Whole). w .chip .kind) L
+
+-- a history leaves the codes
+pub run-codes : (es : List Event) (L : List Whole) → codesOf (run es L) ≡ codesOf L
+run-codes es L = each-map (λ (w : Whole). w .chip .code) (λ w u s. s .code) (run-each es L)
+
+-- a history leaves the kinds
+pub run-kinds : (es : List Event) (L : List Whole) → kindsOf (run es L) ≡ kindsOf L
+run-kinds es L = each-map (λ (w : Whole). w .chip .kind) (λ w u s. s .kind) (run-each es L)
+
+-- a line has as many kinds as chips
+pub length-kinds : (L : List Whole) → length (kindsOf L) ≡ length L
+length-kinds [] = refl
+length-kinds (w ∷ L) = ap suc (length-kinds L)
+
+-- a history leaves the number of chips
+pub run-length : (es : List Event) (L : List Whole) → length (run es L) ≡ length L
+run-length es L = sym (length-kinds (run es L)) ∙ ap length (run-kinds es L) ∙ length-kinds L

@@ -1,0 +1,70 @@
+-- What every history keeps: a relation between a chip before and after that each act and each change of levels keeps holds
+-- between every chip before a history and after it.
+use Prim.Native.Nat.{ℕ, zero, suc, _≤_}
+use mathlib.Core.List.{List, [], _∷_, map}
+use mathlib.Core.Path.{_≡_, refl, sym, subst}
+use Rattle.chip.specs.Chip.{Whole, levelsOf}
+use Rattle.line.specs.Line.{valueOf, actOf, levelsAt}
+use Rattle.line.specs.declared.Event.{Event}
+use Rattle.line.specs.declared.Act.{Act}
+use Rattle.line.specs.declared.Act.the-variants.{Take, Reset, PowerOn}
+use Rattle.runs.specs.Runs.{noWhole, at, afterOf, run}
+use Rattle.runs.specs.Range.{pick-if}
+use Rattle.runs.specs.Sorts.{Sort, slot, reset, powerOn, levels, unknown, sortOf, levelsAllowed, levels-allowed, afterSort, after-is}
+
+-- two lines of one length, chip by chip
+pub data Each (R : Whole → Whole → Type 0) : List Whole → List Whole → Type 0 where
+  none : Each R [] []
+  more : {w u : Whole} {L M : List Whole} → R w u → Each R L M → Each R (w ∷ L) (u ∷ M)
+
+-- chip i of both
+pub each-at : {R : Whole → Whole → Type 0} {L M : List Whole} → R noWhole noWhole → (i : ℕ) → Each R L M → R (at i L) (at i M)
+each-at s i none = s
+each-at s zero (more r e) = r
+each-at s (suc i) (more r e) = each-at s i e
+
+-- what the relation says is the same of two chips is the same all along
+pub each-map : {R : Whole → Whole → Type 0} {L M : List Whole} (f : Whole → ℕ) → ((w u : Whole) → R w u → f u ≡ f w) → Each R L M → map f M ≡ map f L
+each-map f k none = refl
+each-map f k (more {w = w} {u = u} r e) = λ j. k w u r j ∷ each-map f k e j
+
+module _ (R : Whole → Whole → Type 0) (same : (w : Whole) → R w w) (onto : (w u x : Whole) → R w u → R u x → R w x)
+    (act : (a : Act) (w : Whole) → R w (actOf a w)) (level : (l : ℕ) (w : Whole) → w .chip .kind ≡ 2 → l ≤ 3 → R w (levelsOf l w)) where
+  -- a line and itself
+  each-same : (L : List Whole) → Each R L L
+  each-same [] = none
+  each-same (w ∷ L) = more (same w) (each-same L)
+
+  -- from one line to the next
+  each-onto : {L M N : List Whole} → Each R L M → Each R M N → Each R L N
+  each-onto none none = none
+  each-onto (more {w = w} {u = u} r e) (more {u = x} q f) = more (onto w u x r q) (each-onto e f)
+
+  -- an act of every chip
+  each-act : (a : Act) (L : List Whole) → Each R L (map (actOf a) L)
+  each-act a [] = none
+  each-act a (w ∷ L) = more (act a w) (each-act a L)
+
+  -- new levels of a DS2413
+  each-level : (i l : ℕ) (L : List Whole) → at i L .chip .kind ≡ 2 → l ≤ 3 → Each R L (levelsAt i l L)
+  each-level i l [] e h = none
+  each-level zero l (w ∷ L) e h = more (level l w e h) (each-same L)
+  each-level (suc i) l (w ∷ L) e h = more (same w) (each-level i l L e h)
+
+  -- an event of a sort
+  sort-kept : (s : Sort) (L : List Whole) → Each R L (afterSort s L)
+  sort-kept (slot v) L = each-act (Take (valueOf v L)) L
+  sort-kept reset L = each-act Reset L
+  sort-kept powerOn L = each-act PowerOn L
+  sort-kept (levels i l) L =
+      pick-if (Each R L) (levelsAllowed i l L) _ _ (λ e. let k = levels-allowed i l L e in each-level i l L (k .0) (k .1)) (λ e. each-same L)
+  sort-kept unknown L = each-same L
+
+  -- one event
+  after-kept : (e : Event) (L : List Whole) → Each R L (afterOf e L)
+  after-kept e L = subst (Each R L) (sym (after-is e L)) (sort-kept (sortOf e) L)
+
+  -- any history
+  pub run-kept : (es : List Event) (L : List Whole) → Each R L (run es L)
+  run-kept [] L = each-same L
+  run-kept (e ∷ es) L = each-onto (after-kept e L) (run-kept es (afterOf e L))
