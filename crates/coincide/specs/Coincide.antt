@@ -1,0 +1,117 @@
+-- "Show that any two outcomes it permits coincide": of each form of contract, two outcomes that it permits for one input are equal.
+use Prim.Native.Nat.{ℕ}
+use mathlib.Core.Bool.{Bool}
+use mathlib.Core.List.{List}
+use mathlib.Core.Path.{_≡_, refl, _∙_, ap, sym}
+use lib.Dec.{eqb}
+use Rattle.base.specs.Pick.{pick}
+use Rattle.chip.specs.Chip.{Whole, whole, takesOf}
+use Rattle.chip.specs.declared.Chip.{Chip}
+use Rattle.ds28ec20.specs.Image.{Bytes, bytes, done}
+use Rattle.scratchpad.specs.declared.Deed.{Deed}
+use Rattle.line.specs.Layout.{Lent, lent}
+use Rattle.line.specs.Event.{Answered, bit, refused, answered, Outcome, outcome, eventOf}
+use Rattle.line.specs.declared.Event.{Event}
+use Rattle.line.specs.declared.Answer.{Answer}
+use Rattle.line.specs.declared.Answer.the-variants.{Bit, OutOfRange, WrongSize, NoSuchEvent, NoSuchLevels}
+use Rattle.card.specs.Card.{Carded, chips, refused as refusedAt, carded, SetUp, setUp, setUpOf}
+use Rattle.card.specs.declared.CardAnswer.{CardAnswer}
+use Rattle.card.specs.declared.CardAnswer.the-variants.{Chips, TooMany, UnknownKind, WrongLength}
+use Rattle.search.specs.Search.{Searched, complete, refused as refusedBy, searched, Attached, attached, Search, outcome as found, searchOf}
+use Rattle.search.specs.declared.SearchAnswer.{SearchAnswer}
+use Rattle.search.specs.declared.SearchAnswer.the-variants as search
+
+-- the general law: what two outcomes both equal, they share. Every contract of the form `r ≡ definition` is an instance.
+pub one-answer {ℓ} : {A : Type ℓ} (s x y : A) → x ≡ s → y ≡ s → x ≡ y
+one-answer s x y e f = e ∙ sym f
+
+-- an answer is found again from its number and value
+answerFrom : Answered → Answer
+answerFrom (bit b) = Bit b
+answerFrom (refused r) = pick (eqb r 8) OutOfRange (pick (eqb r 5) WrongSize (pick (eqb r 6) NoSuchEvent NoSuchLevels))
+
+answer-from : (a : Answer) → answerFrom (answered a) ≡ a
+unfolding answerFrom pick
+answer-from (Bit b) = refl
+answer-from OutOfRange = refl
+answer-from WrongSize = refl
+answer-from NoSuchEvent = refl
+answer-from NoSuchLevels = refl
+
+pub answered-once : (a b : Answer) → answered a ≡ answered b → a ≡ b
+answered-once a b e = sym (answer-from a) ∙ ap answerFrom e ∙ answer-from b
+
+cardFrom : Carded → CardAnswer
+cardFrom (chips n) = Chips n
+cardFrom (refusedAt r at) = pick (eqb r 1) (TooMany at) (pick (eqb r 2) (UnknownKind at) (WrongLength at))
+
+card-from : (a : CardAnswer) → cardFrom (carded a) ≡ a
+unfolding cardFrom pick
+card-from (Chips n) = refl
+card-from (TooMany at) = refl
+card-from (UnknownKind at) = refl
+card-from (WrongLength at) = refl
+
+pub carded-once : (a b : CardAnswer) → carded a ≡ carded b → a ≡ b
+carded-once a b e = sym (card-from a) ∙ ap cardFrom e ∙ card-from b
+
+searchFrom : Searched → SearchAnswer
+searchFrom complete = search.Complete
+searchFrom (refusedBy r) = pick (eqb r 4) search.TooFewPlaces (pick (eqb r 5) search.WrongSize search.OutOfRange)
+
+search-from : (a : SearchAnswer) → searchFrom (searched a) ≡ a
+unfolding searchFrom pick
+search-from search.Complete = refl
+search-from search.TooFewPlaces = refl
+search-from search.WrongSize = refl
+search-from search.OutOfRange = refl
+
+pub searched-once : (a b : SearchAnswer) → searched a ≡ searched b → a ≡ b
+searched-once a b e = sym (search-from a) ∙ ap searchFrom e ∙ search-from b
+
+-- `take_event`: answer, table, images and scratchpads
+pub take-event : (n : ℕ) (cs : List Chip) (e : Event) (ms ss : List ℕ) (a a′ : Answer) (m m′ : ℕ) (ds ds′ : List Chip) (is is′ ps ps′ : List ℕ)
+    → outcome (answered a) m (lent ds is ps) ≡ eventOf n cs e ms ss → outcome (answered a′) m′ (lent ds′ is′ ps′) ≡ eventOf n cs e ms ss
+    → (a ≡ a′) × (m ≡ m′) × (ds ≡ ds′) × (is ≡ is′) × (ps ≡ ps′)
+take-event n cs e ms ss a a′ m m′ ds ds′ is is′ ps ps′ p q =
+    let r = one-answer (eventOf n cs e ms ss) _ _ p q in (
+      answered-once a a′ (ap (λ (o : Outcome). o .answer) r),
+      ap (λ (o : Outcome). o .count) r,
+      ap (λ (o : Outcome). o .lent .chips) r,
+      ap (λ (o : Outcome). o .lent .images) r,
+      ap (λ (o : Outcome). o .lent .pads) r,
+    )
+
+-- `set_up`: answer and table
+pub set-up : (places : ℕ) (s : List ℕ) (n : ℕ) (cs : List Chip) (a a′ : CardAnswer) (m m′ : ℕ) (ds ds′ : List Chip)
+    → setUp (carded a) m ds ≡ setUpOf places s n cs → setUp (carded a′) m′ ds′ ≡ setUpOf places s n cs
+    → (a ≡ a′) × (m ≡ m′) × (ds ≡ ds′)
+set-up places s n cs a a′ m m′ ds ds′ p q =
+    let r = one-answer (setUpOf places s n cs) _ _ p q in (
+      carded-once a a′ (ap (λ (o : SetUp). o .answer) r),
+      ap (λ (o : SetUp). o .count) r,
+      ap (λ (o : SetUp). o .table) r,
+    )
+
+-- `search_line`: answer, number of codes, list, counts, and the table with its buffers
+pub search-line : (list : List ℕ) (l : Attached) (a a′ : SearchAnswer) (n n′ : ℕ) (k k′ : List ℕ) (r r′ s s′ : ℕ) (t t′ : Attached)
+    → found (searched a) n k r s t ≡ searchOf list l → found (searched a′) n′ k′ r′ s′ t′ ≡ searchOf list l
+    → (a ≡ a′) × (n ≡ n′) × (k ≡ k′) × (r ≡ r′) × (s ≡ s′) × (t ≡ t′)
+search-line list l a a′ n n′ k k′ r r′ s s′ t t′ p q =
+    let z = one-answer (searchOf list l) _ _ p q in (
+      searched-once a a′ (ap (λ (o : Search). o .answer) z),
+      ap (λ (o : Search). o .number) z,
+      ap (λ (o : Search). o .list) z,
+      ap (λ (o : Search). o .resets) z,
+      ap (λ (o : Search). o .slots) z,
+      ap (λ (o : Search). o .line) z,
+    )
+
+-- `chip::takes`: record, memory and scratchpad
+pub takes : (v : Bool) (w : Whole) (c c′ : Chip) (m m′ s s′ : List ℕ) → whole c m s ≡ takesOf v w → whole c′ m′ s′ ≡ takesOf v w → (c ≡ c′) × (m ≡ m′) × (s ≡ s′)
+takes v w c c′ m m′ s s′ p q =
+    let r = one-answer (takesOf v w) _ _ p q in (ap (λ (o : Whole). o .chip) r, ap (λ (o : Whole). o .memory) r, ap (λ (o : Whole). o .pad) r)
+
+-- `ds28ec20::carry_out`: memory and scratchpad
+pub carry-out : (m s : List ℕ) (d : Deed) (x x′ y y′ : List ℕ) → bytes x y ≡ done m s d → bytes x′ y′ ≡ done m s d → (x ≡ x′) × (y ≡ y′)
+carry-out m s d x x′ y y′ p q = let r = one-answer (done m s d) _ _ p q in (ap (λ (o : Bytes). o .memory) r, ap (λ (o : Bytes). o .pad) r)
