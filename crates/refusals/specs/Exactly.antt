@@ -26,3 +26,15 @@ pub by-neither : {A : Type 0} (t : Bool) (a b c : A) → (a ≡ c → ⊥) → (
 unfolding pick
 by-neither true a b c f g = f
 by-neither false a b c f g = g
+
+-- a choice comes to an end that its first way is not, exactly when the test fails and the second way comes to it
+pub by-left : {A : Type 0} (B : Type 0) (t : Bool) (a b c : A) → (a ≡ c → ⊥) → Iff (b ≡ c) B → Iff (pick t a b ≡ c) ((t ≡ false) × B)
+unfolding pick
+by-left B true a b c n i = ((λ e. absurd (n e)), (λ p. absurd (true≢false (p .0))))
+by-left B false a b c n i = ((λ e. (refl, i .0 e)), (λ p. i .1 (p .1)))
+
+-- a choice whose ways both come to an end exactly when something holds does so too
+pub by-either : {A : Type 0} (B : Type 0) (t : Bool) (a b c : A) → Iff (a ≡ c) B → Iff (b ≡ c) B → Iff (pick t a b ≡ c) B
+unfolding pick
+by-either B true a b c i j = i
+by-either B false a b c i j = j

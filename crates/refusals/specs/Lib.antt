@@ -1,3 +1,4 @@
 pub mod Exactly
 pub mod Event
 pub mod Search
+pub mod Card

@@ -1,0 +1,62 @@
+// What the program writes: words, and numbers in capital hexadecimal digits.
+use libc::STDOUT_FILENO;
+
+// Writes words as they are.
+pub fn say(words: &[u8]) {
+    io::write_all(STDOUT_FILENO, words);
+}
+
+// Writes that something was refused, with the refusal's number, and answers true.
+pub fn refused(number: u64) -> bool {
+    say(b", refused ");
+    io::print_decimal(STDOUT_FILENO, number);
+    true
+}
+
+// A hexadecimal digit in capitals.
+fn capital(digit: u8) -> u8 {
+    if digit < 10 {
+        return b'0' + digit;
+    }
+    if digit < 16 {
+        return b'A' + (digit - 10);
+    }
+    b'?'
+}
+
+// Writes the two digits of a byte.
+pub fn say_digits(byte: u8) {
+    say(&[capital(byte / 16), capital(byte % 16)]);
+}
+
+// Writes a space and the two digits of a byte.
+pub fn say_byte(byte: u8) {
+    say(b" ");
+    say_digits(byte);
+}
+
+// Writes a space and a bit.
+pub fn say_bit(bit: bool) {
+    if bit {
+        say(b" 1");
+    } else {
+        say(b" 0");
+    }
+}
+
+// Writes a space and the 16 digits of a code, bit 63 first.
+pub fn say_code(code: u64) {
+    say(b" ");
+    let mut place: u8 = 8;
+    while 0 < place {
+        place -= 1;
+        say_digits(crc::byte_of(code, place));
+    }
+}
+
+// Writes a comma, a space, a count and what it counts.
+pub fn say_count(count: u64, what: &[u8]) {
+    say(b", ");
+    io::print_decimal(STDOUT_FILENO, count);
+    say(what);
+}

@@ -1,0 +1,120 @@
+-- Demand 1 for a card: what the record at an offset gives, "exactly when": 3, 2, 3, 1 in document 01's order.
+use Prim.Native.Nat.{ℕ, _+_, _-_}
+use native.Mathlib.Omega.{arith}
+use mathlib.Core.Bool.{Bool, true, false, not, true≢false}
+use mathlib.Core.List.{List}
+use mathlib.Core.Path.{_≡_, refl, _∙_, ap, sym}
+use lib.Dec.{eqb, ltb, leb}
+use lib.ListN.{length}
+use Rattle.base.specs.Pick.{pick}
+use Rattle.chip.specs.Range.{knownKind}
+use Rattle.records.specs.Records.{pairAt, headAt}
+use Rattle.records.specs.declared.Head.{Head}
+use Rattle.card.specs.Card.{codeAt, cutEntry, wholeEntry, entryOf, entryAt}
+use Rattle.card.specs.declared.Entry.{Entry}
+use Rattle.card.specs.declared.Entry.the-variants.{Done, Taken, TooMany, UnknownKind, WrongLength}
+use Rattle.runs.specs.Standing.{pick-of}
+use Rattle.refusals.specs.Exactly.{Iff, by-else, by-then, by-left, by-either, by-neither}
+
+-- entries of different sorts differ
+sort : Entry → ℕ
+sort Done = 0
+sort (Taken code kind next) = 1
+sort TooMany = 2
+sort UnknownKind = 3
+sort WrongLength = 4
+
+module _ (s : List ℕ) (at room : ℕ) where
+  -- no record starts here
+  abbrev pub ended : Bool
+  ended = leb (length s) at
+
+  -- "fewer than 4 bytes left"
+  abbrev pub short : Bool
+  short = ltb (length s - at) 4
+
+  -- the kind is 1 or 2
+  abbrev pub known : Bool
+  known = knownKind (pairAt s (at + 2))
+
+  -- the record is not cut
+  abbrev pub whole : Bool
+  whole = leb (pairAt s at + 2) (length s - at)
+
+  -- its length is 10
+  abbrev pub ten : Bool
+  ten = eqb (pairAt s at) 10
+
+  abbrev chip : Entry
+  chip = Taken (codeAt s at) (pairAt s (at + 2)) (at + (pairAt s at + 2))
+
+  -- what the record gives, by what it is judged by
+  abbrev judged : Entry
+  judged =
+      pick ended Done
+      (pick short WrongLength
+      (pick whole
+      (pick known (pick ten (pick (ltb 0 room) chip TooMany) WrongLength) UnknownKind)
+      (pick known WrongLength UnknownKind)))
+
+  entry-is : entryAt s at room ≡ judged
+  unfolding entryAt headAt wholeEntry cutEntry
+  entry-is =
+      pick-of (entryOf s at room) _ _ _
+      ∙ ap (λ (x : Entry). pick ended Done x)
+      (pick-of (entryOf s at room) _ _ _ ∙ ap (λ (x : Entry). pick short WrongLength x) (pick-of (entryOf s at room) _ _ _))
+
+  gives : (p : Entry) {B : Type 0} → Iff (judged ≡ p) B → Iff (entryAt s at room ≡ p) B
+  gives p i = ((λ e. i .0 (sym entry-is ∙ e)), (λ b. entry-is ∙ i .1 b))
+
+  differ : (x y : Entry) → (sort x ≡ sort y → ⊥) → x ≡ y → ⊥
+  differ x y n e = n (ap sort e)
+
+  -- 2: there is a head, and "a record's kind is neither 1 nor 2", whatever its length says
+  pub refused-2 : Iff (entryAt s at room ≡ UnknownKind) ((ended ≡ false) × ((short ≡ false) × (known ≡ false)))
+  unfolding sort
+  refused-2 =
+      gives UnknownKind
+      (by-left _ ended _ _ _ (differ Done UnknownKind (λ p. omega arith))
+      (by-left _ short _ _ _ (differ WrongLength UnknownKind (λ p. omega arith))
+      (by-either _ whole _ _ _
+      (by-else known _ _ (by-neither ten _ _ _ (by-neither (ltb 0 room) _ _ _ (differ chip UnknownKind (λ p. omega arith)) (differ TooMany UnknownKind (λ p. omega arith))) (differ WrongLength UnknownKind (λ p. omega arith))))
+      (by-else known _ _ (differ WrongLength UnknownKind (λ p. omega arith))))))
+
+  -- 1: a whole record of a known kind and the right length, and no place for it
+  pub refused-1 : Iff (entryAt s at room ≡ TooMany) ((ended ≡ false) × ((short ≡ false) × ((whole ≡ true) × ((known ≡ true) × ((ten ≡ true) × (ltb 0 room ≡ false))))))
+  unfolding sort
+  refused-1 =
+      gives TooMany
+      (by-left _ ended _ _ _ (differ Done TooMany (λ p. omega arith))
+      (by-left _ short _ _ _ (differ WrongLength TooMany (λ p. omega arith))
+      (by-then _ whole _ _ _ (by-neither known _ _ _ (differ WrongLength TooMany (λ p. omega arith)) (differ UnknownKind TooMany (λ p. omega arith)))
+      (by-then _ known _ _ _ (differ UnknownKind TooMany (λ p. omega arith))
+      (by-then _ ten _ _ _ (differ WrongLength TooMany (λ p. omega arith))
+      (by-else (ltb 0 room) _ _ (differ chip TooMany (λ p. omega arith))))))))
+
+  -- 3: fewer than 4 bytes; or a known kind, and a wrong length or a cut body
+  abbrev pub badLength : Bool
+  badLength = pick short true (pick known (pick whole (not ten) true) false)
+
+  pub refused-3 : Iff (entryAt s at room ≡ WrongLength) ((ended ≡ false) × (badLength ≡ true))
+  unfolding sort pick
+  refused-3 = gives WrongLength (by-left _ ended _ _ _ (differ Done WrongLength (λ p. omega arith)) (lengths short whole known ten (ltb 0 room)))
+    where
+      no : {A B : Type 0} → (A → ⊥) → (B → ⊥) → Iff A B
+      no f g = ((λ a. absurd (f a)), (λ b. absurd (g b)))
+
+      yes : {A B : Type 0} → A → B → Iff A B
+      yes a b = ((λ x. b), (λ x. a))
+
+      off : false ≡ true → ⊥
+      off e = true≢false (sym e)
+
+      lengths : (a b c d e : Bool) → Iff (pick a WrongLength (pick b (pick c (pick d (pick e chip TooMany) WrongLength) UnknownKind) (pick c WrongLength UnknownKind)) ≡ WrongLength) (pick a true (pick c (pick b (not d) true) false) ≡ true)
+      lengths true b c d e = yes refl refl
+      lengths false true true true true = no (differ chip WrongLength (λ p. omega arith)) off
+      lengths false true true true false = no (differ TooMany WrongLength (λ p. omega arith)) off
+      lengths false true true false e = yes refl refl
+      lengths false true false d e = no (differ UnknownKind WrongLength (λ p. omega arith)) off
+      lengths false false true d e = yes refl refl
+      lengths false false false d e = no (differ UnknownKind WrongLength (λ p. omega arith)) off
