@@ -7,10 +7,11 @@ use Rattle.base.specs.Pick.{pick}
 use Rattle.base.specs.Bits.{bitOf, same, both}
 use Rattle.chip.specs.Chip.{Whole, takesOf}
 use Rattle.line.specs.Line.{absent}
-use Rattle.listing.specs.Order.{branch, codesOf}
+use Rattle.listing.specs.Order.{branch}
 use Rattle.listing.specs.Branch.{isNil}
 use Rattle.listing.specs.Chip.{Part, Out, begun, code-takes, bit-sent, bit-taken, not-sent, not-taken, quiet, goes-on, drops-out, out-quiet, out-stays}
 use Rattle.listing.specs.Slots.{sent, taken, opened, code-opened}
+use Rattle.runs.specs.Runs.{codesOf}
 
 -- the chips of a line that take part have these codes, in this order, and are at step s of place k; the others dropped out
 pub data At (k s : ℕ) : List Whole → List ℕ → Type 0 where

@@ -10,8 +10,8 @@ use Rattle.chip.specs.Chip.{Whole}
 use Rattle.line.specs.Layout.{capped}
 use Rattle.line.specs.Line.{absent}
 use Rattle.search.specs.Host.{ask, resetEvent, play, write, pass, searchHost}
-use Rattle.runs.specs.Runs.{lineWire}
-use Rattle.listing.specs.Order.{branchOrder, codesOf, Codes, SameMembers, Before, Sorted, InBranchOrder, Lists, SameListing}
+use Rattle.runs.specs.Runs.{lineWire, codesOf}
+use Rattle.listing.specs.Order.{branchOrder, Codes, SameMembers, Before, Sorted, InBranchOrder, Lists, SameListing}
 use Rattle.listing.specs.Branch.{order-length}
 use Rattle.listing.specs.Sorted.{order-sorted, sorted-distinct, order-members, sorted-one}
 use Rattle.listing.specs.Slots.{reset-played, command-played}

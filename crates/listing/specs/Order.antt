@@ -11,6 +11,7 @@ use Rattle.base.specs.Pick.{pick}
 use Rattle.base.specs.Bits.{bitOf, same}
 use Rattle.chip.specs.Chip.{Whole}
 use Rattle.search.specs.Host.{Played, Listed, listed}
+use Rattle.runs.specs.Runs.{codesOf}
 
 -- the codes whose bit k is d
 unfoldable pub branch : Bool → ℕ → List ℕ → List ℕ
@@ -23,10 +24,6 @@ unfoldable pub branchOrder : ℕ → ℕ → List ℕ → List ℕ
 branchOrder zero k xs = take 1 xs
 branchOrder (suc w) k [] = []
 branchOrder (suc w) k (x ∷ xs) = branchOrder w (k + 1) (branch false k (x ∷ xs)) ++ branchOrder w (k + 1) (branch true k (x ∷ xs))
-
--- the codes of a line, in table order
-abbrev pub codesOf : List Whole → List ℕ
-codesOf L = map (λ (w : Whole). w .chip .code) L
 
 -- every number of a list is a code of 64 bits
 abbrev pub Codes : List ℕ → Type 0

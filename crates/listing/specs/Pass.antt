@@ -10,8 +10,8 @@ use Rattle.base.specs.Bits.{bitOf, both}
 use Rattle.chip.specs.Chip.{Whole}
 use Rattle.search.specs.Host.{Host, Played, played, End, end, more, play, pass, turn, mark, put}
 use Rattle.search.specs.Counts.{more-more}
-use Rattle.runs.specs.Runs.{lineWire}
-use Rattle.listing.specs.Order.{branch, codesOf, Codes}
+use Rattle.runs.specs.Runs.{lineWire, codesOf}
+use Rattle.listing.specs.Order.{branch, Codes}
 use Rattle.listing.specs.Branch.{isNil, branch-in, some-branch, Low, low-next}
 use Rattle.listing.specs.Rest.{rest, Outcome, ended, step}
 use Rattle.listing.specs.Slots.{sent, taken, read-played, write-played, codes-taken, opened}

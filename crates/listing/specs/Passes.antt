@@ -15,8 +15,8 @@ use Rattle.line.specs.Layout.{capped}
 use Rattle.line.specs.Line.{absent, busBit, lineAfter}
 use Rattle.search.specs.Host.{Host, done, bind, Played, played, Listed, listed, End, end, more, play, write, pass, passes, goOn, upTo}
 use Rattle.search.specs.Counts.{more-more, andThen, play-bind}
-use Rattle.runs.specs.Runs.{levelsTaken, answerOf, afterOf, lineWire}
-use Rattle.listing.specs.Order.{branchOrder, codesOf, Codes, Lists}
+use Rattle.runs.specs.Runs.{levelsTaken, answerOf, afterOf, lineWire, codesOf}
+use Rattle.listing.specs.Order.{branchOrder, Codes, Lists}
 use Rattle.listing.specs.Branch.{isNil, order-nil}
 use Rattle.listing.specs.Rest.{rest, rest-all, rest-some, Outcome, ended, parted}
 use Rattle.listing.specs.Slots.{afterReset, reset-played, opened, command-played, codes-reset, codes-opened}

@@ -11,8 +11,7 @@ use Rattle.chip.specs.Chip.{Whole, takesOf, sendsOf, resetOf}
 use Rattle.line.specs.Event.{Answered, bit}
 use Rattle.line.specs.Line.{valueOf, absent, busBit, lineAfter}
 use Rattle.search.specs.Host.{Host, ask, Played, played, more, slotEvent, resetEvent, play, write}
-use Rattle.runs.specs.Runs.{levelsTaken, answerOf, afterOf, lineWire}
-use Rattle.listing.specs.Order.{codesOf}
+use Rattle.runs.specs.Runs.{levelsTaken, answerOf, afterOf, lineWire, codesOf}
 use Rattle.listing.specs.Chip.{code-takes, code-resets, Hears, hasHeard, code-heard, hears}
 
 -- the AND of what the chips of a line send

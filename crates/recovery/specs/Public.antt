@@ -8,13 +8,12 @@ use lib.ListN.{length}
 use Rattle.chip.specs.Chip.{Whole}
 use Rattle.line.specs.declared.Event.{Event}
 use Rattle.search.specs.Search.{Attached}
-use Rattle.runs.specs.Runs.{at, run, answers}
+use Rattle.runs.specs.Runs.{at, run, answers, codesOf}
 use Rattle.runs.specs.Keeps.{Good}
 use Rattle.runs.specs.Standing.{AllGood, Stands, lineFrom, line-good, line-length}
 use Rattle.runs.specs.Joined.{runOn, answersOn, run-joined, answers-joined, stands-on}
 use Rattle.recovery.specs.Sessions.{Addressed, write, Page}
 use Rattle.recovery.specs.CarriedOut.{NoCopy}
-use Rattle.recovery.specs.Stays.{codesOf}
 use Rattle.recovery.specs.Written.{writtenTo}
 use Rattle.recovery.specs.SetUp.{Differ, Codes, SetUp}
 use Rattle.recovery.specs.Recovery.{Recovered}

@@ -9,10 +9,10 @@ use Rattle.chip.specs.Chip.{Whole, resetOf}
 use Rattle.line.specs.Line.{actOf}
 use Rattle.line.specs.declared.Act.the-variants.{Reset}
 use Rattle.line.specs.declared.Event.{Event}
-use Rattle.runs.specs.Runs.{at, run}
+use Rattle.runs.specs.Runs.{at, run, codesOf}
 use Rattle.runs.specs.Keeps.{Good, act-named}
 use Rattle.recovery.specs.Sessions.{opening}
-use Rattle.recovery.specs.Stays.{codesOf, run-codes, run-length, run-stays}
+use Rattle.recovery.specs.Stays.{run-codes, run-length, run-stays}
 use Rattle.recovery.specs.Opening.{opening-silent}
 use Rattle.recovery.specs.Among.{Own, Others, none, more, Among, here, there, other-reset}
 

@@ -19,7 +19,7 @@ use Rattle.line.specs.Line.{actOf}
 use Rattle.line.specs.declared.Act.{Act}
 use Rattle.line.specs.declared.Act.the-variants.{Take, Reset, PowerOn}
 use Rattle.line.specs.declared.Event.{Event}
-use Rattle.runs.specs.Runs.{at, run}
+use Rattle.runs.specs.Runs.{at, run, codesOf}
 use Rattle.runs.specs.Range.{pick-both}
 use Rattle.runs.specs.Keeps.{Good, act-good, act-named, levels-good, levels-named}
 use Rattle.runs.specs.Kept.{Each, each-at, each-map, run-kept}
@@ -81,10 +81,6 @@ run-each es L = run-kept Stays stays-same stays-onto act-stays levels-stays es L
 -- chip i over a history
 pub run-stays : (i : ℕ) (es : List Event) (L : List Whole) → Stays (at i L) (at i (run es L))
 run-stays i es L = each-at (stays-same _) i (run-each es L)
-
--- the codes of a line
-abbrev pub codesOf : List Whole → List ℕ
-codesOf L = map (λ (w : Whole). w .chip .code) L
 
 -- the kinds of a line
 abbrev pub kindsOf : List Whole → List ℕ

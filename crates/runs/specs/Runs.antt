@@ -1,7 +1,7 @@
 -- Histories: events on a line of whole chips, one after the other, refused ones counted in.
 use Prim.Native.Nat.{ℕ}
 use mathlib.Core.Bool.{Bool, true, false}
-use mathlib.Core.List.{List, [], _∷_}
+use mathlib.Core.List.{List, [], _∷_, map}
 use lib.Dec.{eqb, ltb, leb}
 use lib.ListN.{length, getD}
 use Rattle.base.specs.Pick.{pick}
@@ -19,6 +19,10 @@ noWhole = whole noChip [] []
 -- chip i of a line
 abbrev pub at : ℕ → List Whole → Whole
 at i L = getD L i noWhole
+
+-- the codes of a line, in table order
+abbrev pub codesOf : List Whole → List ℕ
+codesOf L = map (λ (w : Whole). w .chip .code) L
 
 -- not 7: event 4 names a DS2413 of the line, and two bits
 unfoldable pub levelsTaken : Event → List Whole → Bool
