@@ -5,7 +5,7 @@ use mathlib.Core.List.{List}
 use mathlib.Core.Path.{_≡_, refl, _∙_, ap, sym}
 use lib.Dec.{eqb}
 use Rattle.base.specs.Pick.{pick}
-use Rattle.chip.specs.Chip.{Whole, whole, takesOf}
+use Rattle.chip.specs.Chip.{Whole, whole, takesOf, powerOnChip, powerOnPad}
 use Rattle.chip.specs.declared.Chip.{Chip}
 use Rattle.ds28ec20.specs.Image.{Bytes, bytes, done}
 use Rattle.scratchpad.specs.declared.Deed.{Deed}
@@ -115,3 +115,10 @@ takes v w c c′ m m′ s s′ p q =
 -- `ds28ec20::carry_out`: memory and scratchpad
 pub carry-out : (m s : List ℕ) (d : Deed) (x x′ y y′ : List ℕ) → bytes x y ≡ done m s d → bytes x′ y′ ≡ done m s d → (x ≡ x′) × (y ≡ y′)
 carry-out m s d x x′ y y′ p q = let r = one-answer (done m s d) _ _ p q in (ap (λ (o : Bytes). o .memory) r, ap (λ (o : Bytes). o .pad) r)
+
+-- two answers at once, as `chip::power_on` (record and scratchpad) and `terminal::no_chips` (number and places) give them
+pub two-answers : {A B : Type 0} (s : A) (t : B) (x x′ : A) (y y′ : B) → (x ≡ s) × (y ≡ t) → (x′ ≡ s) × (y′ ≡ t) → (x ≡ x′) × (y ≡ y′)
+two-answers s t x x′ y y′ p q = (one-answer s x x′ (p .0) (q .0), one-answer t y y′ (p .1) (q .1))
+
+pub power-on : (c x x′ : Chip) (s y y′ : List ℕ) → (x ≡ powerOnChip c) × (y ≡ powerOnPad (c .kind) s) → (x′ ≡ powerOnChip c) × (y′ ≡ powerOnPad (c .kind) s) → (x ≡ x′) × (y ≡ y′)
+power-on c x x′ s y y′ = two-answers (powerOnChip c) (powerOnPad (c .kind) s) x x′ y y′
