@@ -49,7 +49,7 @@ module _ (s : List ℕ) (at room : ℕ) where
   chip = Taken (codeAt s at) (pairAt s (at + 2)) (at + (pairAt s at + 2))
 
   -- what the record gives, by what it is judged by
-  abbrev judged : Entry
+  abbrev pub judged : Entry
   judged =
       pick ended Done
       (pick short WrongLength
@@ -57,7 +57,7 @@ module _ (s : List ℕ) (at room : ℕ) where
       (pick known (pick ten (pick (ltb 0 room) chip TooMany) WrongLength) UnknownKind)
       (pick known WrongLength UnknownKind)))
 
-  entry-is : entryAt s at room ≡ judged
+  pub entry-is : entryAt s at room ≡ judged
   unfolding entryAt headAt wholeEntry cutEntry
   entry-is =
       pick-of (entryOf s at room) _ _ _
