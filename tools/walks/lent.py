@@ -1,0 +1,61 @@
+# The walked functions of crates/lent, and the contracts of what they call. See README.md beside this file.
+CRATE = 'lent'
+TYPES = {'Chip': 'chip', 'Act': 'line', 'Answer': 'line', 'Event': 'line'}
+ENUMS = ['Act', 'Answer', 'Plan', 'Deed']
+STRUCTS = {
+    'Event': [('number', 'u32'), ('chip', 'u32'), ('levels', 'u32')],
+    'Sum': [('value', 'bool'), ('spot', 'Spot')],
+    'Turned': [('chip', 'Chip'), ('spot', 'Spot')],
+}
+WALK = 'Rattle.lent.specs.Walk.'
+NO_CHIP = 'Rattle.line.specs.Event.{noChip}'
+LENT = 'Rattle.line.specs.Layout.{lent}'
+OUTCOME = 'Rattle.line.specs.Event.{answered, outcome}'
+AGREE = 'Rattle.lent.specs.Agree.'
+TABLE, BUFFERS = ('table', '&mut [Chip]'), [('ms', '&mut [u8]'), ('ss', '&mut [u8]')]
+
+FNS = [
+    # what is called, by its contract
+    dict(name='lent::turns::first_look', params=[], result='Look', ensures='r ≡ firstLook'),
+    dict(name='lent::turns::look_at', params=[('c', 'Chip'), ('l', 'Look'), ('chip', 'u32')], result='Look', ensures='r ≡ lookAt chip c l'),
+    dict(name='lent::turns::first_sum', params=[('host', 'bool')], result='Sum', ensures='r ≡ firstSum host'),
+    dict(name='lent::turns::sum_at', params=[('c', 'Chip'), ('s', 'Sum'), ('ms', '&[u8]'), ('ss', '&[u8]')], result='Sum', ensures='r ≡ sumAt c s ms ss'),
+    dict(name='lent::turns::first_spot', params=[], result='Spot', ensures='r ≡ firstSpot'),
+    dict(name='lent::turns::act_turn', params=[('c', 'Chip'), ('p', 'Spot'), ('deed', 'Deed')] + BUFFERS, result='Turned',
+         ensures='turned (r .chip) (r .spot) ms′ ss′ ≡ turnOf deed c p ms ss'),
+    dict(name='lent::turns::host_bit', params=[('plan', 'Plan')], result='bool', ensures='r ≡ hostBit plan'),
+    dict(name='lent::turns::deed_of', params=[('plan', 'Plan'), ('value', 'bool')], result='Deed', ensures='r ≡ deedOf plan value'),
+    dict(name='lent::turns::answer_of', params=[('plan', 'Plan'), ('value', 'bool'), ('n', 'usize')], result='Answer', ensures='r ≡ answerOf plan value n'),
+    dict(name='lent::turns::plan_of', params=[('l', 'Look'), ('n', 'usize'), ('ev', 'Event'), ('images', 'usize'), ('pads', 'usize')], result='Plan',
+         ensures='r ≡ planOf l n ev images pads'),
+
+    # the three loops over the table
+    dict(name='look_over', walk=True, params=[('table', '&[Chip]'), ('chip', 'u32')], result='Look', ensures='r ≡ lookedOver chip table firstLook',
+         uses=[WALK + '{firstLook, lookAt, lookedOver}', NO_CHIP, 'Rattle.lent.proofs.Folds.{folded}'],
+         loop=dict(table='table', blank='noChip', state=[('seen', 'Look')],
+                   inv='walk-fold noChip (lookAt chip) table k i seen ≡ lookedOver chip table firstLook',
+                   inv0='walk-fold-is noChip (lookAt chip) table r ∙ folded chip table r ∙ ap (λ (l : Look). lookedOver chip table l) e',
+                   step='ap (λ (l : Look). walk-fold noChip (lookAt chip) table k (suc i) l) e ∙ inv')),
+    dict(name='line_value', walk=True, params=[('table', '&[Chip]'), ('host', 'bool'), ('ms', '&[u8]'), ('ss', '&[u8]')], result='bool',
+         ensures='r ≡ sums (length table) 0 table (firstSum host) ms ss', uses=[WALK + '{firstSum, sumAt, sums}', NO_CHIP],
+         loop=dict(table='table', blank='noChip', state=[('sum', 'Sum')],
+                   inv='sums k i table sum ms ss ≡ sums (length table) 0 table (firstSum host) ms ss',
+                   inv0='ap (λ (s : Sum). sums (length table) 0 table s ms ss) e',
+                   step='ap (λ (s : Sum). sums k (suc i) table s ms ss) e ∙ inv')),
+    dict(name='all_act', walk=True, params=[TABLE, ('deed', 'Deed')] + BUFFERS, result='unit',
+         ensures='lent table′ ms′ ss′ ≡ acts deed (length table) 0 firstSpot table ms ss', uses=[WALK + '{Turn, turned, turnOf, firstSpot, acts}', NO_CHIP, LENT],
+         loop=dict(table='table', blank='noChip', state=[('spot', 'Spot')],
+                   inv='acts deed k i spot table′ ms′ ss′ ≡ acts deed (length table) 0 firstSpot table ms ss',
+                   inv0='ap (λ (p : Spot). acts deed (length table) 0 p table ms ss) e',
+                   step='ap (λ (t : Turn). acts deed k (suc i) (t .spot) (set table′ i (t .chip)) (t .images) (t .pads)) e ∙ inv')),
+
+    # thin functions over the table
+    dict(name='carry_out', walk=True, params=[TABLE, ('plan', 'Plan')] + BUFFERS, result='Answer',
+         ensures='outcome (answered r) (length table′) (lent table′ ms′ ss′) ≡ carriedOut plan table ms ss',
+         uses=[WALK + '{firstSpot, firstSum, hostBit, deedOf, answerOf, sums, acts, carriedOut}', LENT, OUTCOME, AGREE + '{carried-out}'],
+         proof='carried-out plan table (ws4 .0) ms ss (ws4 .1 .1 .0) (ws4 .1 .1 .1 .0) r r2 r3 r5 e e2 e3 e4 e5 table-as-long4'),
+    dict(name='take_event', walk=True, params=[TABLE, ('ev', 'Event')] + BUFFERS, result='Answer',
+         ensures='outcome (answered r) (length table′) (lent table′ ms′ ss′) ≡ eventOf (length table) table ev ms ss',
+         uses=[WALK + '{firstLook, lookedOver, planOf, carriedOut}', LENT, OUTCOME, 'Rattle.line.specs.Event.{eventOf}', AGREE + '{event-planned}'],
+         proof='e3 ∙ event-planned table ev ms ss r r2 e e2'),
+]
