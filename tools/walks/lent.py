@@ -12,6 +12,8 @@ NO_CHIP = 'Rattle.line.specs.Event.{noChip}'
 LENT = 'Rattle.line.specs.Layout.{lent}'
 OUTCOME = 'Rattle.line.specs.Event.{answered, outcome}'
 AGREE = 'Rattle.lent.specs.Agree.'
+CHIP = 'Rattle.chip.specs.Chip.'
+RECORD, OWN = ('c', '&mut Chip'), [('m', '&mut [u8]'), ('s', '&mut [u8]')]
 TABLE, BUFFERS = ('table', '&mut [Chip]'), [('ms', '&mut [u8]'), ('ss', '&mut [u8]')]
 
 FNS = [
@@ -58,4 +60,16 @@ FNS = [
          ensures='outcome (answered r) (length table′) (lent table′ ms′ ss′) ≡ eventOf (length table) table ev ms ss',
          uses=[WALK + '{firstLook, lookedOver, planOf, carriedOut}', LENT, OUTCOME, 'Rattle.line.specs.Event.{eventOf}', AGREE + '{event-planned}'],
          proof='e3 ∙ event-planned table ev ms ss r r2 e e2'),
+
+    # one chip's record
+    dict(name='chip::takes', params=[('c', 'Chip'), ('v', 'bool')] + OWN, result='Chip', ensures='wholeChip r m′ s′ ≡ takesOf v (wholeChip c m s)'),
+    dict(name='chip::sends', params=[('c', 'Chip'), ('m', '&[u8]'), ('s', '&[u8]')], result='bool', ensures='r ≡ sendsOf (wholeChip c m s)'),
+    dict(name='chip::reset', params=[('c', 'Chip')], result='Chip', ensures='r ≡ resetChip c'),
+    dict(name='chip::power_on', params=[('c', 'Chip'), ('s', '&mut [u8]')], result='Chip', ensures='(r ≡ powerOnChip c) × (s′ ≡ powerOnPad (c .kind) s)'),
+    dict(name='chip::set_levels', params=[('c', 'Chip'), ('levels', 'u8')], result='Chip', ensures='r ≡ levelsChip levels c'),
+    dict(name='lent::record::takes', walk=True, params=[RECORD, ('v', 'bool')] + OWN, result='unit', ensures='wholeChip c′ m′ s′ ≡ takesOf v (wholeChip c m s)', uses=[CHIP + '{whole as wholeChip, takesOf}']),
+    dict(name='lent::record::sends', walk=True, params=[('c', '&Chip'), ('m', '&[u8]'), ('s', '&[u8]')], result='bool', ensures='r ≡ sendsOf (wholeChip c m s)', uses=[CHIP + '{whole as wholeChip, sendsOf}']),
+    dict(name='lent::record::reset', walk=True, params=[RECORD], result='unit', ensures='c′ ≡ resetChip c', uses=[CHIP + '{resetChip}']),
+    dict(name='lent::record::power_on', walk=True, params=[RECORD, ('s', '&mut [u8]')], result='unit', ensures='(c′ ≡ powerOnChip c) × (s′ ≡ powerOnPad (c .kind) s)', uses=[CHIP + '{powerOnChip, powerOnPad}']),
+    dict(name='lent::record::set_levels', walk=True, params=[RECORD, ('levels', 'u8')], result='unit', ensures='c′ ≡ levelsChip levels c', uses=[CHIP + '{levelsChip}']),
 ]

@@ -230,7 +230,7 @@ use denote.Exit.{yes}
 def generate(crate, repo, d, fns, mirs):
     g = Gen(crate, repo, fns, d, mirs)
     K, m, ps = g.K, g.m, g.ps
-    fn = d['name']; dash = fn.replace('_', '-')
+    path_ = full(crate, d['name']).split('::')[1:]; fn = '.'.join(path_); dash = path_[-1].replace('_', '-')
     C = f'Rattle.{crate}'
     locs = [g.ty(t) for t in m['locals']]
     N = len(locs)
@@ -270,7 +270,7 @@ def generate(crate, repo, d, fns, mirs):
         for z in re.findall(r"tyNamed', \['pair', '\"(?:\w+::)*(\w+)\"'", str(t)):
             if z not in decl: decl.append(z)
     o = []
-    o.append(f'-- `{crate}::{fn}` meets its contract: a walk of its MIR, by hand (the positions by tools/walkgen.py). Each record behind a `&mut` is opened, copied out, and stored to, and each `&mut [T]` is lent again for a call.')
+    o.append(f'-- `{full(crate, d["name"])}` meets its contract: a walk of its MIR, by hand (the positions by tools/walkgen.py). Each record behind a `&mut` is opened, copied out, and stored to, and each `&mut [T]` is lent again for a call.')
     o.append('-- Nothing here names a field of a record behind a reference. Assumes nothing.')
     o.append(USES.rstrip())
     for k in decl: o.append(f'use {declared(crate, k)[0]}.{{{k}}}')
@@ -909,7 +909,7 @@ def generate(crate, repo, d, fns, mirs):
     for k in decl:
         if f'{k}-row' not in body_txt: txt = txt.replace(f'use {declared(crate, k)[1]} as {k}-row\n', '')
         if f'{k}-laws' not in body_txt: txt = txt.replace(f'use {declared(crate, k)[1]}.Laws as {k}-laws\n', '')
-    out = f'{repo}/crates/{crate}/proofs/{fn}'
+    out = f'{repo}/crates/{crate}/proofs/{"/".join(path_)}'
     os.makedirs(out, exist_ok=True)
     open(f'{out}/Proof.antt', 'w').write(txt)
     print('wrote', f'{out}/Proof.antt', len(txt.split('\n')), 'lines')

@@ -1,4 +1,5 @@
 // The line over what a caller lends: a slice of chips with images and scratchpads, and one chip's record by `&mut`.
+pub mod record;
 mod turns;
 
 use chip::Chip;
