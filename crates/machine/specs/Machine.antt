@@ -9,7 +9,7 @@ use Rattle.base.specs.Pick.{pick}
 use Rattle.base.specs.Bits.{bitOf}
 use Rattle.line.specs.Event.{Answered}
 use Rattle.line.specs.Layout.{capped}
-use Rattle.search.specs.Host.{heard, eventNumber, slotEvent, resetEvent, upTo}
+use Rattle.search.specs.Host.{heard, slotEvent, resetEvent, upTo}
 use Rattle.search.specs.Search.{Searched, completeOr4}
 use Rattle.machine.specs.declared.Turn.{Turn}
 use Rattle.machine.specs.declared.Turn.the-variants.{Reset, Command, First, Second, Write, Done}

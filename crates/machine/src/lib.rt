@@ -8,7 +8,6 @@ use search::Resets;
 use search::SearchAnswer;
 use search::Slots;
 ghost use mathlib.Core.Path.{_≡_};
-ghost use mathlib.Core.Bool.{Bool};
 ghost use Rattle.line.specs.Event.{answered};
 ghost use Rattle.search.specs.Host.{heard, eventNumber, slotEvent};
 ghost use Rattle.search.specs.Search.{searched, completeOr4};
