@@ -1,0 +1,4 @@
+pub mod Step
+pub mod Packed
+pub mod Laws
+pub mod Loops
