@@ -81,6 +81,10 @@ table-length (c ∷ cs) =
     let k = packed-length c in
     simp length-append (omega arith)
 
+pub from-length : (n : ℕ) (bs : List ℕ) → length (unpackedFrom n bs) ≡ n
+from-length zero bs = refl
+from-length (suc n) bs = ap suc (from-length n (drop 24 bs))
+
 from-table : (cs : List Chip) → unpackedFrom (length cs) (packedTable cs) ≡ cs
 from-table [] = refl
 from-table (c ∷ cs) =

@@ -2,3 +2,4 @@ pub mod Step
 pub mod Packed
 pub mod Laws
 pub mod Loops
+pub mod Filling

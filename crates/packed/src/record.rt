@@ -1,6 +1,6 @@
 // A chip's record as 24 bytes, numbers with the low byte first.
-use crate::level;
 use crate::Step;
+use crate::level;
 use chip::Chip;
 use ds2413::Switch;
 use scratchpad::Registers;
