@@ -16,7 +16,6 @@ use Rattle.base.specs.Both.{both-assoc, both-true}
 use Rattle.chip.specs.declared.Chip.{Chip}
 use Rattle.line.specs.Event.{noChip}
 use Rattle.line.specs.declared.Table.{Table}
-use Rattle.packed.specs.declared.Unpacked.{Unpacked}
 use Rattle.packed.specs.Packed.{packed, unpacked, sameBytes, packedTable, unpackedFrom, unpackedTable, isTable, putRecord, tableFrom, putTable}
 use Rattle.packed.specs.Laws.{packed-length, table-length, from-length}
 use Rattle.packed.specs.Loops.{same-other, true-both}
@@ -102,13 +101,10 @@ rest-none k bs h = go (drop k bs) (length-drop k bs)
     go [] e = sym (eq-eqb (length bs) k (omega arith))
     go (y ∷ ys) e = sym (ne-eqb (length bs) k (λ (q : length bs ≡ k). omega arith))
 
--- the table that the loop leaves where the bytes are one, or the table that was there
-abbrev pub judgedBy : Bool → Table → Table → Unpacked
-judgedBy ok r t = pick ok (record { ok = true; table = r }) (record { ok = false; table = t })
-
+-- the table that a loop left, where the bytes were one
 pub table-found : (bs : List ℕ) (t r : Table) (n : ℕ) (ok w : Bool) → n ≡ length bs / 24 → n ≤ 16 → r .n ≡ n → r .chips ≡ unpackedFrom n bs ++ drop n (t .chips)
     → both ok (sameBytes [] (drop (n * 24) bs)) ≡ sameBytes (packedTable (unpackedFrom n bs)) bs → w ≡ both ok (eqb (length bs) (n * 24))
-    → judgedBy w r t ≡ tableFrom bs t
+    → pick w r t ≡ tableFrom bs t
 unfolding tableFrom isTable unpackedTable
 table-found bs t r n ok w q few rn rc j e =
     let cs = unpackedFrom (length bs / 24) bs in
@@ -117,10 +113,10 @@ table-found bs t r n ok w q few rn rc j e =
     let long : length cs ≡ length bs / 24 = from-length (length bs / 24) bs in
     let chips : r .chips ≡ cs ++ drop (length cs) (t .chips)
     = rc ∙ (λ i. unpackedFrom (q i) bs ++ drop (q i) (t .chips)) ∙ ap (λ (k : ℕ). cs ++ drop k (t .chips)) (sym long) in
-    (λ i. pick (judged i) (record { ok = true; table = record { n = (rn ∙ q ∙ sym long) i; chips = chips i } }) (record { ok = false; table = t }))
+    (λ i. pick (judged i) (record { n = (rn ∙ q ∙ sym long) i; chips = chips i }) t)
     ∙ sym (pick-true (leb (length bs / 24) 16) _ _ (le-leb (length bs / 24) 16 (omega arith)))
 
-pub table-long : (bs : List ℕ) (t : Table) → 16 < length bs / 24 → record { ok = false; table = t } ≡ tableFrom bs t
+pub table-long : (bs : List ℕ) (t : Table) → 16 < length bs / 24 → t ≡ tableFrom bs t
 unfolding tableFrom
 table-long bs t h = sym (pick-false (leb (length bs / 24) 16) _ _ (lt-leb (length bs / 24) 16 h))
 

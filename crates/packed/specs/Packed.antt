@@ -9,7 +9,6 @@ use Rattle.base.specs.Bits.{both}
 use Rattle.chip.specs.declared.Chip.{Chip}
 use Rattle.line.specs.declared.Table.{Table}
 use Rattle.packed.specs.declared.Step.{Step}
-use Rattle.packed.specs.declared.Unpacked.{Unpacked}
 use Rattle.packed.specs.Step.{step, flag, levelPacked, levelUnpacked}
 
 -- a number as n bytes, the low byte first, and one more for what is left
@@ -85,15 +84,14 @@ unpackedTable bs = unpackedFrom (length bs / 24) bs
 unfoldable pub isTable : List ℕ → Bool
 isTable bs = sameBytes (packedTable (unpackedTable bs)) bs
 
--- a table in whose first places bytes put their chips, where they are a table of at most 16; the other places stay
-unfoldable pub tableFrom : List ℕ → Table → Unpacked
+-- a table in whose first places bytes put their chips, where they are a table of at most 16; the other places stay, and bytes
+-- that are none leave the table as it was
+unfoldable pub tableFrom : List ℕ → Table → Table
 tableFrom bs t =
     let cs = unpackedTable bs in
     pick (leb (length bs / 24) 16)
-    (pick (isTable bs)
-    (record { ok = true; table = record { n = length cs; chips = cs ++ drop (length cs) (t .chips) } })
-    (record { ok = false; table = t }))
-    (record { ok = false; table = t })
+    (pick (isTable bs) (record { n = length cs; chips = cs ++ drop (length cs) (t .chips) }) t)
+    t
 
 -- the first n chips as records in the place of the first bytes; where there are fewer bytes, or over 16 chips, nothing is put
 unfoldable pub putTable : ℕ → List Chip → List ℕ → List ℕ

@@ -21,7 +21,7 @@ pub struct Step {
     pub c: u8,
 }
 
-// Whether bytes are a table, and the table whose first places they then fill.
+// The table whose first places bytes fill, and whether they are the records of its chips.
 pub struct Unpacked {
     pub ok: bool,
     pub table: Table,

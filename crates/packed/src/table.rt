@@ -6,9 +6,9 @@ ghost use mathlib.Core.Path.{_≡_};
 ghost use mathlib.Core.List.{[], _++_};
 ghost use Prim.Native.Nat.{_*_, _≤_};
 ghost use lib.ListN.{length, drop};
+ghost use Rattle.base.specs.Pick.{pick};
 ghost use Rattle.base.specs.Bits.{both};
 ghost use Rattle.packed.specs.Packed.{sameBytes, packedTable, unpackedFrom, tableFrom, putTable};
-ghost use Rattle.packed.specs.Filling.{judgedBy};
 
 // The chips that the first n records stand for in the first places of a table, and whether the records are what these pack to.
 fn fill(bytes: &[u8], t: Table, n: usize) -> Unpacked
@@ -36,23 +36,17 @@ fn fill(bytes: &[u8], t: Table, n: usize) -> Unpacked
 }
 
 // The table that was found, or else the one that was there.
-fn judge(ok: bool, found: Table, t: Table) -> Unpacked
-    ensures { λ r. ⌜ r ≡ judgedBy ok found t ⌝ }
+fn judge(ok: bool, found: Table, t: Table) -> Table
+    ensures { λ r. ⌜ r ≡ pick ok found t ⌝ }
 {
     if ok {
-        return Unpacked {
-            ok: true,
-            table: found,
-        };
+        return found;
     }
-    Unpacked {
-        ok: false,
-        table: t,
-    }
+    t
 }
 
 // The table that bytes are, in the first places of a table; bytes that are none, or over 16 records, leave it as it was.
-pub fn table_of(bytes: &[u8], t: Table) -> Unpacked
+pub fn table_of(bytes: &[u8], t: Table) -> Table
     ensures { λ r. ⌜ r ≡ tableFrom (now (bytes .entry)) t ⌝ }
 {
     let size = bytes.len();
@@ -63,10 +57,7 @@ pub fn table_of(bytes: &[u8], t: Table) -> Unpacked
         let ok = base::are_both(found.ok, size == n * 24);
         return judge(ok, table, t);
     }
-    Unpacked {
-        ok: false,
-        table: t,
-    }
+    t
 }
 
 // The chips of a table as records in the first bytes, which they have room in.
