@@ -5,3 +5,4 @@ pub mod Sizes
 pub mod Bridge
 pub mod Loops
 pub mod Refusals
+pub mod Prefix

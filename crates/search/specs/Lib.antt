@@ -3,3 +3,4 @@ pub mod Search
 pub mod Counts
 pub mod Pass
 pub mod Passes
+pub mod Prefix

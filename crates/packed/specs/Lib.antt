@@ -1,0 +1,5 @@
+pub mod Step
+pub mod Packed
+pub mod Laws
+pub mod Loops
+pub mod Filling

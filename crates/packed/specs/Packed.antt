@@ -1,0 +1,101 @@
+-- include/toemsakun.h, "A chip's record": a chip as 24 bytes, numbers with the low byte first, and a table as a run of records.
+use Prim.Native.Nat.{ℕ, zero, suc, _+_, _*_, _/_, _%_}
+use mathlib.Core.Bool.{Bool, true, false}
+use mathlib.Core.List.{List, [], _∷_, _++_}
+use lib.Dec.{eqb, leb}
+use lib.ListN.{length, take, drop, getD}
+use Rattle.base.specs.Pick.{pick}
+use Rattle.base.specs.Bits.{both}
+use Rattle.chip.specs.declared.Chip.{Chip}
+use Rattle.line.specs.declared.Table.{Table}
+use Rattle.packed.specs.declared.Step.{Step}
+use Rattle.packed.specs.Step.{step, flag, levelPacked, levelUnpacked}
+
+-- a number as n bytes, the low byte first, and one more for what is left
+abbrev pub bytesOf : ℕ → ℕ → List ℕ
+bytesOf zero x = x ∷ []
+bytesOf (suc n) x = x % 256 ∷ bytesOf n (x / 256)
+
+-- the number whose low byte stands at a place, with n bytes above it
+abbrev pub numberAt : List ℕ → ℕ → ℕ → ℕ
+numberAt bs at zero = getD bs at 0
+numberAt bs at (suc n) = getD bs at 0 + 256 * numberAt bs (at + 1) n
+
+-- the bytes of a chip's record, by the step that its level is
+abbrev pub packedWith : Chip → Step → List ℕ
+packedWith c s =
+    bytesOf 7 (c .code)
+    ++ (c .kind ∷ flag (c .rc) ∷ [])
+    ++ bytesOf 1 (c .registers .t)
+    ++ (c .registers .es ∷ c .switch .latches ∷ c .switch .levels ∷ s .number ∷ [])
+    ++ bytesOf 1 (s .w)
+    ++ (s .a ∷ s .b ∷ s .c ∷ 0 ∷ 0 ∷ 0 ∷ [])
+
+-- a chip's record as bytes
+unfoldable pub packed : Chip → List ℕ
+packed c = packedWith c (levelPacked (c .level))
+
+-- the step that 24 bytes name
+abbrev pub stepAt : List ℕ → Step
+stepAt bs = step (getD bs 15 0) (numberAt bs 16 1) (getD bs 18 0) (getD bs 19 0) (getD bs 20 0)
+
+-- the chip that any 24 bytes stand for: what the step does not name is passed over
+unfoldable pub unpacked : List ℕ → Chip
+unpacked bs = record {
+  code = numberAt bs 0 7;
+  kind = getD bs 8 0;
+  rc = eqb (getD bs 9 0) 1;
+  level = levelUnpacked (stepAt bs);
+  registers = record { t = numberAt bs 10 1; es = getD bs 12 0 };
+  switch = record { latches = getD bs 13 0; levels = getD bs 14 0 };
+}
+
+-- two runs of bytes are the same
+unfoldable pub sameBytes : List ℕ → List ℕ → Bool
+sameBytes [] [] = true
+sameBytes [] (y ∷ ys) = false
+sameBytes (x ∷ xs) [] = false
+sameBytes (x ∷ xs) (y ∷ ys) = both (eqb x y) (sameBytes xs ys)
+
+-- bytes are a record where packing what they stand for gives them again: so none has a byte that must be 0 and is not, a step
+-- that is not in the table, or a flag over 1
+unfoldable pub isRecord : List ℕ → Bool
+isRecord bs = sameBytes (packed (unpacked bs)) bs
+
+-- a chip's record in the place of the first 24 bytes; where there are fewer, nothing is put
+unfoldable pub putRecord : Chip → List ℕ → List ℕ
+putRecord c bs = pick (leb 24 (length bs)) (packed c ++ drop 24 bs) bs
+
+-- a table as bytes, record after record
+abbrev pub packedTable : List Chip → List ℕ
+packedTable [] = []
+packedTable (c ∷ cs) = packed c ++ packedTable cs
+
+-- the chips that n records stand for
+abbrev pub unpackedFrom : ℕ → List ℕ → List Chip
+unpackedFrom zero bs = []
+unpackedFrom (suc n) bs = unpacked (take 24 bs) ∷ unpackedFrom n (drop 24 bs)
+
+-- the chips that bytes stand for, a chip for each 24
+unfoldable pub unpackedTable : List ℕ → List Chip
+unpackedTable bs = unpackedFrom (length bs / 24) bs
+
+-- bytes are a table where packing what they stand for gives them again: so their number is a multiple of 24, and each 24 are a record
+unfoldable pub isTable : List ℕ → Bool
+isTable bs = sameBytes (packedTable (unpackedTable bs)) bs
+
+-- a table in whose first places bytes put their chips, where they are a table of at most 16; the other places stay, and bytes
+-- that are none leave the table as it was
+unfoldable pub tableFrom : List ℕ → Table → Table
+tableFrom bs t =
+    let cs = unpackedTable bs in
+    pick (leb (length bs / 24) 16)
+    (pick (isTable bs) (record { n = length cs; chips = cs ++ drop (length cs) (t .chips) }) t)
+    t
+
+-- the first n chips as records in the place of the first bytes; where there are fewer bytes, or over 16 chips, nothing is put
+unfoldable pub putTable : ℕ → List Chip → List ℕ → List ℕ
+putTable n cs bs =
+    pick (leb n 16)
+    (pick (leb (n * 24) (length bs)) (packedTable (take n cs) ++ drop (n * 24) bs) bs)
+    bs

@@ -1,0 +1,28 @@
+// A chip's record as 24 bytes, and a table as a run of them.
+mod level;
+mod record;
+mod table;
+
+use line::Table;
+pub use record::is_packed;
+pub use record::is_record;
+pub use record::pack;
+pub use record::put_record;
+pub use record::unpack;
+pub use table::put_table;
+pub use table::table_of;
+
+// What a chip is in the middle of: the number of the step, and what it needs to go on.
+pub struct Step {
+    pub number: u8,
+    pub w: u16,
+    pub a: u8,
+    pub b: u8,
+    pub c: u8,
+}
+
+// The table whose first places bytes fill, and whether they are the records of its chips.
+pub struct Unpacked {
+    pub ok: bool,
+    pub table: Table,
+}

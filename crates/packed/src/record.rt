@@ -1,0 +1,178 @@
+// A chip's record as 24 bytes, numbers with the low byte first.
+use crate::Step;
+use crate::level;
+use chip::Chip;
+use ds2413::Switch;
+use scratchpad::Registers;
+ghost use mathlib.Core.Path.{_≡_};
+ghost use Prim.Native.Nat.{_+_, _*_};
+ghost use Rattle.packed.specs.Packed.{numberAt, stepAt, packedWith, packed, unpacked, sameBytes, isRecord, putRecord};
+
+// The bytes of a chip's record, by the step that its level is.
+fn bytes_of(c: Chip, s: Step) -> [u8; 24]
+    ensures { λ r. ⌜ r ≡ packedWith c s ⌝ }
+{
+    let code = c.code;
+    let code1 = code / 256;
+    let code2 = code1 / 256;
+    let code3 = code2 / 256;
+    let code4 = code3 / 256;
+    let code5 = code4 / 256;
+    let code6 = code5 / 256;
+    let code7 = code6 / 256;
+    let registers = c.registers;
+    let switch = c.switch;
+    let rc = level::flag_of(c.rc);
+    [
+        (code % 256) as u8,
+        (code1 % 256) as u8,
+        (code2 % 256) as u8,
+        (code3 % 256) as u8,
+        (code4 % 256) as u8,
+        (code5 % 256) as u8,
+        (code6 % 256) as u8,
+        code7 as u8,
+        c.kind,
+        rc,
+        (registers.t % 256) as u8,
+        (registers.t / 256) as u8,
+        registers.es,
+        switch.latches,
+        switch.levels,
+        s.number,
+        (s.w % 256) as u8,
+        (s.w / 256) as u8,
+        s.a,
+        s.b,
+        s.c,
+        0,
+        0,
+        0,
+    ]
+}
+
+// A chip's record as bytes.
+pub fn pack(c: Chip) -> [u8; 24]
+    ensures { λ r. ⌜ r ≡ packed c ⌝ }
+{
+    let level = c.level;
+    let s = level::pack_level(level);
+    bytes_of(c, s)
+}
+
+// The number of two bytes.
+fn pair(low: u8, high: u8) -> u16
+    ensures { λ r. ⌜ r ≡ low + 256 * high ⌝ }
+{
+    (low as u16) + 256 * (high as u16)
+}
+
+// The code that a record begins with.
+fn code_of(s: &[u8]) -> u64
+    ensures { λ r. ⌜ r ≡ numberAt (now (s .entry)) 0 7 ⌝ }
+{
+    let b0 = base::byte_at(s, 0);
+    let b1 = base::byte_at(s, 1);
+    let b2 = base::byte_at(s, 2);
+    let b3 = base::byte_at(s, 3);
+    let b4 = base::byte_at(s, 4);
+    let b5 = base::byte_at(s, 5);
+    let b6 = base::byte_at(s, 6);
+    let b7 = base::byte_at(s, 7);
+    let top = (b6 as u64) + 256 * (b7 as u64);
+    let upper = (b4 as u64) + 256 * ((b5 as u64) + 256 * top);
+    let lower = (b2 as u64) + 256 * ((b3 as u64) + 256 * upper);
+    (b0 as u64) + 256 * ((b1 as u64) + 256 * lower)
+}
+
+// The step that a record names.
+fn step_of(s: &[u8]) -> Step
+    ensures { λ r. ⌜ r ≡ stepAt (now (s .entry)) ⌝ }
+{
+    let low = base::byte_at(s, 16);
+    let high = base::byte_at(s, 17);
+    let w = pair(low, high);
+    let number = base::byte_at(s, 15);
+    let a = base::byte_at(s, 18);
+    let b = base::byte_at(s, 19);
+    let c = base::byte_at(s, 20);
+    Step {
+        number: number,
+        w: w,
+        a: a,
+        b: b,
+        c: c,
+    }
+}
+
+// The chip that bytes stand for, whether they are a record or not; past the end a byte is 0.
+pub fn unpack(s: &[u8]) -> Chip
+    ensures { λ r. ⌜ r ≡ unpacked (now (s .entry)) ⌝ }
+{
+    let code = code_of(s);
+    let kind = base::byte_at(s, 8);
+    let rc = base::byte_at(s, 9);
+    let low = base::byte_at(s, 10);
+    let high = base::byte_at(s, 11);
+    let t = pair(low, high);
+    let es = base::byte_at(s, 12);
+    let latches = base::byte_at(s, 13);
+    let levels = base::byte_at(s, 14);
+    let step = step_of(s);
+    let level = level::unpack_level(step);
+    let registers = Registers { t: t, es: es };
+    let switch = Switch {
+        latches: latches,
+        levels: levels,
+    };
+    Chip {
+        code: code,
+        kind: kind,
+        rc: rc == 1,
+        level: level,
+        registers: registers,
+        switch: switch,
+    }
+}
+
+// Two runs of bytes are the same.
+fn same_bytes(a: &[u8], b: &[u8]) -> bool
+    ensures { λ r. ⌜ r ≡ sameBytes (now (a .entry)) (now (b .entry)) ⌝ }
+{
+    if a.len() != b.len() {
+        return false;
+    }
+    let mut same = true;
+    let mut i: usize = 0;
+    while i < a.len() {
+        same = base::are_both(same, a[i] == b[i]);
+        i += 1;
+    }
+    same
+}
+
+// Bytes are the record of a chip.
+pub fn is_packed(c: Chip, s: &[u8]) -> bool
+    ensures { λ r. ⌜ r ≡ sameBytes (packed c) (now (s .entry)) ⌝ }
+{
+    let r = pack(c);
+    same_bytes(&r, s)
+}
+
+// Bytes are a record.
+pub fn is_record(s: &[u8]) -> bool
+    ensures { λ r. ⌜ r ≡ isRecord (now (s .entry)) ⌝ }
+{
+    let c = unpack(s);
+    is_packed(c, s)
+}
+
+// A chip's record put in the first 24 bytes; where there are fewer, nothing is put.
+pub fn put_record(s: &mut [u8], c: Chip)
+    ensures { λ r. ⌜ now (s .exit) ≡ putRecord c (now (s .entry)) ⌝ }
+{
+    let r = pack(c);
+    if 24 <= s.len() {
+        bytes::copy(&r, s);
+    }
+}

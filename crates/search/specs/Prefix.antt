@@ -1,0 +1,90 @@
+-- Laws: a search on a table goes by the places of its line alone, and leaves the places past them.
+use Prim.Native.Nat.{ℕ, _≤_}
+use native.Mathlib.Omega.{arith}
+use mathlib.Core.Bool.{Bool, true, false}
+use mathlib.Core.List.{List, _++_}
+use mathlib.Core.Path.{_≡_, refl, _∙_, ap, sym}
+use lib.ListN.{length}
+use Rattle.base.specs.Pick.{pick}
+use Rattle.chip.specs.declared.Chip.{Chip}
+use Rattle.line.specs.Event.{Outcome, tableInRange, sizesFit}
+use Rattle.line.specs.Prefix.{pick-of, range-rest, sizes-rest, event-rest, Holds, event-holds}
+use Rattle.line.specs.declared.Event.{Event}
+use Rattle.search.specs.Host.{Host, done, ask, Played, played, Listed, more, resetsOf, slotsOf, play, searchHost}
+use Rattle.search.specs.Search.{refused, Attached, attached, leftBy, saysOf, leavesOf, wire, Search, outcome, fromPlayed, searchOf}
+
+-- the same table with the places Z after its own, and what was played or searched on it
+abbrev pub attachedRest : List Chip → Attached → Attached
+attachedRest Z l = attached (l .count) (l .lent .chips ++ Z) (l .lent .images) (l .lent .pads)
+
+abbrev playedRest : {A : Type 0} → List Chip → Played A Attached → Played A Attached
+playedRest Z p = played (p .result) (attachedRest Z (p .line)) (p .resets) (p .slots)
+
+abbrev pub searchRest : List Chip → Search → Search
+searchRest Z s = outcome (s .answer) (s .number) (s .list) (s .resets) (s .slots) (attachedRest Z (s .line))
+
+-- a table has n chips in m places
+pub record Has (n m : ℕ) (l : Attached) : Type 0 where
+  pub chips : l .count ≡ n
+  pub places : length (l .lent .chips) ≡ m
+
+module _ (n m : ℕ) (few : n ≤ m) where
+  leaves-has : (e : Event) (l : Attached) → Has n m l → Has n m (leavesOf e l)
+  unfolding leavesOf
+  leaves-has e l h =
+      let c = h .chips in
+      let p = h .places in
+      let k = event-holds (l .count) (l .lent .chips) e (l .lent .images) (l .lent .pads) (omega arith) in
+      record { chips = k .chips ∙ c; places = k .places ∙ p }
+
+  play-has : {A : Type 0} (h : Host A) (l : Attached) → Has n m l → Has n m (play wire h l .line)
+  unfolding play
+  play-has (done a) l s = s
+  play-has (ask e f) l s = play-has (f (saysOf e l)) (leavesOf e l) (leaves-has e l s)
+
+  -- every search keeps the number of chips and of places
+  pub search-has : (list : List ℕ) (l : Attached) → Has n m l → Has n m (searchOf list l .line)
+  unfolding searchOf pick
+  search-has list l s = go (tableInRange (l .count) (l .lent .chips)) (sizesFit (l .count) (l .lent .chips) (l .lent .images) (l .lent .pads))
+    where
+      go : (a b : Bool) → Has n m (pick a (pick b (fromPlayed list (play wire (searchHost (length list)) l)) (outcome (refused 5) 0 list 0 0 l)) (outcome (refused 8) 0 list 0 0 l) .line)
+      go true true = play-has (searchHost (length list)) l s
+      go true false = s
+      go false b = s
+
+  module _ (Z : List Chip) where
+    event-on-rest : (e : Event) (l : Attached) → Has n m l → (saysOf e (attachedRest Z l) ≡ saysOf e l) × (leavesOf e (attachedRest Z l) ≡ attachedRest Z (leavesOf e l))
+    unfolding saysOf leavesOf
+    event-on-rest e l h =
+        let c = h .chips in
+        let p = h .places in
+        let k = event-rest (l .count) (l .lent .chips) Z (omega arith) e (l .lent .images) (l .lent .pads) in
+        (ap (λ (o : Outcome). o .answer) k, ap (λ (o : Outcome). leftBy o) k)
+
+    play-rest : {A : Type 0} (h : Host A) (l : Attached) → Has n m l → play wire h (attachedRest Z l) ≡ playedRest Z (play wire h l)
+    unfolding play
+    play-rest (done a) l s = refl
+    play-rest (ask e f) l s =
+        let k = event-on-rest e l s in
+        ap (more (resetsOf e) (slotsOf e))
+        ((λ j. play wire (f (k .0 j)) (k .1 j)) ∙ play-rest (f (saysOf e l)) (leavesOf e l) (leaves-has e l s))
+
+    -- a search on a table with more places than its own
+    pub search-rest : (list : List ℕ) (l : Attached) → Has n m l → searchOf list (attachedRest Z l) ≡ searchRest Z (searchOf list l)
+    unfolding searchOf
+    search-rest list l s =
+        let c = s .chips in
+        let p = s .places in
+        let w : l .count ≤ length (l .lent .chips) = omega arith in
+        let in-range = tableInRange (l .count) (l .lent .chips) in
+        let fits = sizesFit (l .count) (l .lent .chips) (l .lent .images) (l .lent .pads) in
+        let found = fromPlayed list (play wire (searchHost (length list)) l) in
+        let no5 = outcome (refused 5) 0 list 0 0 l in
+        let no8 = outcome (refused 8) 0 list 0 0 l in
+        (λ j. pick (range-rest (l .count) (l .lent .chips) Z w j)
+        (pick (sizes-rest (l .count) (l .lent .chips) Z w (l .lent .images) (l .lent .pads) j)
+        (fromPlayed list (play-rest (searchHost (length list)) l s j))
+        (searchRest Z no5))
+        (searchRest Z no8))
+        ∙ ap (λ (k : Search). pick in-range k (searchRest Z no8)) (sym (pick-of (λ (k : Search). searchRest Z k) fits found no5))
+        ∙ sym (pick-of (λ (k : Search). searchRest Z k) in-range (pick fits found no5) no8)
