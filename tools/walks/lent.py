@@ -1,7 +1,7 @@
 # The walked functions of crates/lent, and the contracts of what they call. See README.md beside this file.
 CRATE = 'lent'
-TYPES = {'Chip': 'chip', 'Act': 'line', 'Answer': 'line', 'Event': 'line'}
-ENUMS = ['Act', 'Answer', 'Plan', 'Deed']
+TYPES = {'Chip': 'chip', 'Act': 'line', 'Answer': 'line', 'Event': 'line', 'Standing': 'line', 'Ask': 'machine', 'Machine': 'machine', 'Told': 'machine'}
+ENUMS = ['Act', 'Answer', 'Standing', 'Ask', 'Plan', 'Deed']
 STRUCTS = {
     'Event': [('number', 'u32'), ('chip', 'u32'), ('levels', 'u32')],
     'Sum': [('value', 'bool'), ('spot', 'Spot')],
@@ -14,6 +14,11 @@ OUTCOME = 'Rattle.line.specs.Event.{answered, outcome}'
 AGREE = 'Rattle.lent.specs.Agree.'
 CHIP = 'Rattle.chip.specs.Chip.'
 RECORD, OWN = ('c', '&mut Chip'), [('m', '&mut [u8]'), ('s', '&mut [u8]')]
+LIST = ('list', '&mut [u64]')
+SEEK = 'Rattle.lent.specs.Seek.'
+RUN = 'Rattle.machine.specs.Run.'
+MACHINE = 'Rattle.machine.specs.Machine.'
+ATTACHED = 'Rattle.search.specs.Search.{attached, wire}'
 TABLE, BUFFERS = ('table', '&mut [Chip]'), [('ms', '&mut [u8]'), ('ss', '&mut [u8]')]
 
 FNS = [
@@ -72,4 +77,31 @@ FNS = [
     dict(name='lent::record::reset', walk=True, params=[RECORD], result='unit', ensures='c′ ≡ resetChip c', uses=[CHIP + '{resetChip}']),
     dict(name='lent::record::power_on', walk=True, params=[RECORD, ('s', '&mut [u8]')], result='unit', ensures='(c′ ≡ powerOnChip c) × (s′ ≡ powerOnPad (c .kind) s)', uses=[CHIP + '{powerOnChip, powerOnPad}']),
     dict(name='lent::record::set_levels', walk=True, params=[RECORD, ('levels', 'u8')], result='unit', ensures='c′ ≡ levelsChip levels c', uses=[CHIP + '{levelsChip}']),
+
+    # the search
+    dict(name='machine::asks', params=[('h', 'Machine')], result='Ask', ensures='r ≡ asksOf h'),
+    dict(name='machine::hears', params=[('h', 'Machine'), ('a', 'Answer'), LIST], result='Machine', ensures='stand r list′ ≡ hearsOf h (answered a) list'),
+    dict(name='machine::begin', params=[('places', 'usize')], result='Machine', ensures='r ≡ beginOf places'),
+    dict(name='lent::turns::stands_by', params=[('l', 'Look'), ('n', 'usize'), ('images', 'usize'), ('pads', 'usize')], result='Standing', ensures='r ≡ standsBy l n images pads'),
+    dict(name='lent::seeking::chip_of', params=[('ask', 'Ask')], result='u32', ensures='r ≡ chipOf ask'),
+    dict(name='lent::seeking::plan_ask', params=[('ask', 'Ask'), ('l', 'Look'), ('n', 'usize'), ('images', 'usize'), ('pads', 'usize')], result='Plan', ensures='r ≡ planAsk ask l n images pads'),
+    dict(name='lent::seeking::turns_for', params=[('stands', 'Standing')], result='usize', ensures='r ≡ turnsFor stands'),
+    dict(name='lent::seeking::tell_by', params=[('stands', 'Standing'), ('h', 'Machine')], result='Told',
+         ensures='tale (searched (r .answer)) (r .listed) (r .resets .0) (r .slots .0) ≡ tellsBy stands h'),
+    dict(name='lent::seeking::ask_line', walk=True, params=[TABLE, ('ask', 'Ask')] + BUFFERS, result='Answer',
+         ensures='(answered r ≡ saysTo wire ask (attached (length table) table ms ss)) × (attached (length table′) table′ ms′ ss′ ≡ leavesTo wire ask (attached (length table) table ms ss))',
+         uses=[WALK + '{firstLook, lookedOver, carriedOut}', SEEK + '{chipOf, planAsk}', LENT, OUTCOME, RUN + '{saysTo, leavesTo}', ATTACHED, 'Rattle.lent.specs.Found.{asked}'],
+         proof='asked table ask ms ss r r2 r3 r4 (ws4 .0) (ws4 .1 .1 .0) (ws4 .1 .1 .1 .0) e e2 e3 e4'),
+    dict(name='lent::seeking::run_host', walk=True, params=[TABLE, ('turns', 'usize'), ('first', 'Machine'), LIST] + BUFFERS, result='Machine',
+         ensures='ran r list′ (attached (length table′) table′ ms′ ss′) ≡ machineRun wire turns first list (attached (length table) table ms ss)',
+         uses=[RUN + '{saysTo, leavesTo, ran, run as machineRun}', MACHINE + '{stand, asksOf, hearsOf}', ATTACHED, 'Rattle.line.specs.Event.{answered}', 'Rattle.lent.specs.Found.{run-on, run-over}'],
+         loop=dict(count='turns', state=[('host', 'Machine')],
+                   inv='machineRun wire k host list′ (attached (length table′) table′ ms′ ss′) ≡ machineRun wire turns first list (attached (length table) table ms ss)',
+                   inv0='refl',
+                   step='run-on k host list′ (attached (length table′) table′ ms′ ss′) r r3 (answered r2) (ws3 .1 .1 .0) (attached (length (ws2 .0)) (ws2 .0) (ws2 .1 .1 .0) (ws2 .1 .1 .1 .0)) e (e2 .0) (e2 .1) e3 ∙ inv',
+                   done='run-over host list′ (attached (length table′) table′ ms′ ss′) ∙ inv')),
+    dict(name='lent::seeking::search_line', walk=True, params=[TABLE, LIST] + BUFFERS, result='Told',
+         ensures='found (searched (r .answer)) (r .listed) list′ (r .resets .0) (r .slots .0) (attached (length table′) table′ ms′ ss′) ≡ searchOf list (attached (length table) table ms ss)',
+         uses=[WALK + '{firstLook, lookedOver, standsBy}', SEEK + '{turnsFor, tellsBy}', RUN + '{ran, run as machineRun}', MACHINE + '{beginOf, tale}', ATTACHED, 'Rattle.search.specs.Search.{searched, outcome as found, searchOf}', 'Rattle.lent.specs.Found.{searches}'],
+         proof='searches table list ms ss r r2 r3 r4 r5 (ws5 .1 .1 .1 .0) (attached (length (ws5 .0)) (ws5 .0) (ws5 .1 .1 .1 .1 .0) (ws5 .1 .1 .1 .1 .1 .0)) (searched (r6 .answer)) (r6 .listed) (r6 .resets .0) (r6 .slots .0) e e2 e3 e4 e5 e6'),
 ]

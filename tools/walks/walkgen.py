@@ -289,10 +289,11 @@ def generate(crate, repo, d, fns, mirs):
     o.append(f'use {C}·proofs.proofs.{fn}.Key.{{name as #{dash}}}'); o.append(f'use {C}·proofs.proofs.{fn} as f')
     o.append(f'use {C}·proofs.proofs.{fn}.Statement as stated'); o.append(f'use {C}·proofs.proofs.{fn}.Code as code'); o.append(f'use {C}·proofs.proofs.{fn}.Code.Mir as mir')
     o.append('')
+    counted = bool(lp) and 'count' in lp
     if ea and not lp: o += ['-- numbers: the place of an element, in bytes', 'place-fits : (i n : ℕ) → i < n → n * SIZE < 2 ^ 63 → i * SIZE < 2 ^ 64', 'place-fits i n l m = omega (arith, l, m)', '']
     if lp:
-        o += ['-- numbers: the place of element i, in bytes, the next index, and whether i is the last', 'place-fits : (i n : ℕ) → i < n → n * SIZE < 2 ^ 63 → i * SIZE < 2 ^ 64', 'place-fits i n l m = omega (arith, l, m)', '',
-            'below : (i n : ℕ) → i < n → n < 2 ^ 64 → i < 2 ^ 64', 'below i n l m = omega (arith, l, m)', '', 'next-fits : (i n : ℕ) → i < n → n < 2 ^ 64 → i + 1 < 2 ^ 64', 'next-fits i n l m = omega (arith, l, m)', '', 'within : (i k n : ℕ) → i + suc k ≡ n → i < n', 'within i k n e = omega (arith, e)', '',
+        o += ['-- numbers: the next index, and whether i is the last', ''] if counted else ['-- numbers: the place of element i, in bytes, the next index, and whether i is the last', 'place-fits : (i n : ℕ) → i < n → n * SIZE < 2 ^ 63 → i * SIZE < 2 ^ 64', 'place-fits i n l m = omega (arith, l, m)', '']
+        o += ['below : (i n : ℕ) → i < n → n < 2 ^ 64 → i < 2 ^ 64', 'below i n l m = omega (arith, l, m)', '', 'next-fits : (i n : ℕ) → i < n → n < 2 ^ 64 → i + 1 < 2 ^ 64', 'next-fits i n l m = omega (arith, l, m)', '', 'within : (i k n : ℕ) → i + suc k ≡ n → i < n', 'within i k n e = omega (arith, e)', '',
             'further : (i k n : ℕ) → i + suc k ≡ n → suc i + k ≡ n', 'further i k n e = omega (arith, e)', '', 'over : (i n : ℕ) → i + zero ≡ n → i < n → ⊥', 'over i n e l = omega (arith, e, l)', '']
     def stay(p):
         s = f'(plain (λ _. {p["k"].row}))'
@@ -743,18 +744,19 @@ def generate(crate, repo, d, fns, mirs):
         if ea: tab = [p for p in ps if p['n'] == ea['table']][0]; elem_in(tab); close_slice(tab)
         finish(d.get('proof', 'refl' if not callees else 'e'))
     else:
-        tab = [p for p in ps if p['n'] == lp['table']][0]; tn, tk = tab['n'], tab['k']; mutt = tab['form'] == 'muts'
+        if counted: tab, tn, tk, mutt, LEN, FITS, FIRST = None, None, None, False, lp['count'], f'({lp["count"]}-is .1)', 0
+        else: tab = [p for p in ps if p['n'] == lp['table']][0]; tn, tk = tab['n'], tab['k']; mutt = tab['form'] == 'muts'; LEN, FITS, FIRST = f'(length {tn})', f'({tn}-room .0)', 1
         assert not any(p['form'] in ('mutr', 'shrr') for p in ps), 'a loop with a record behind a reference is not covered: pass it by value'
         run(body[:bi])
-        open_slice(tab)
+        if tab: open_slice(tab)
         # what a turn begins with
-        ti = int(turn[1][2][2][1][1])           # the index, which the test reads
+        ti = int(turn[FIRST][2][2][1][1])           # the index, which the test reads
         initial = sorted(j for j in val if j > len(ps) and j != ti)      # of these the first are the source's own locals, and the others are temporaries
         state = list(zip(initial, lp.get('state', [])))
         assert len(initial) >= len(lp.get('state', [])), ('the locals that are set before the loop', initial)
         for j in initial[len(state):]:
             w.step(f'forget ! {w.at("L", j)} refl'); w.put(('L', j), f'‵ (froom {locs[j]} {l(j)} 0)')
-        R, κ, q = tk.row, p_k(tab), p_q(tab)
+        R, κ, q = (tk.row, p_k(tab), p_q(tab)) if tab else (None, None, None)
         def item(t, ix):
             kd, n = t[0], t[1]
             p = next((p for p in ps if p['n'] == n), None)
@@ -772,8 +774,8 @@ def generate(crate, repo, d, fns, mirs):
             return f'‵ (froom {locs[n]} {l(n)} 0)'
         atags = [t for t, _ in w.ctx]
         pads = [p for p in ps if p['form'] == 'muts' and p is not tab]
-        sb = ([f'(z-{tn} : Share)'] if not mutt else [f'({tn}′ : List {tk.D})']) + [f'({nm} : {K(kn).D})' for _, (nm, kn) in state] + [f'({p["n"]}′ : List {p["k"].D})' for p in pads]
-        sv = ([f'z-{tn}'] if not mutt else [f'{tn}′']) + [nm for _, (nm, kn) in state] + [f'{p["n"]}′' for p in pads]
+        sb = ([] if not tab else [f'(z-{tn} : Share)'] if not mutt else [f'({tn}′ : List {tk.D})']) + [f'({nm} : {K(kn).D})' for _, (nm, kn) in state] + [f'({p["n"]}′ : List {p["k"].D})' for p in pads]
+        sv = ([] if not tab else [f'z-{tn}'] if not mutt else [f'{tn}′']) + [nm for _, (nm, kn) in state] + [f'{p["n"]}′' for p in pads]
         fb = ([f'({tn}-len : length {tn}′ ≡ length {tn})'] if mutt else []) + [f'({nm}-is : Is {K(kn).row} {nm} ({K(kn).vals} {nm}))' for _, (nm, kn) in state] + [f'({p["n"]}-len : length {p["n"]}′ ≡ length {p["n"]})' for p in pads]
         fv = ([f'{tn}-len'] if mutt else []) + [f'{nm}-is' for _, (nm, kn) in state] + [f'{p["n"]}-len' for p in pads]
         inv = lambda k, i: '(' + rename(lp['inv'], {'k': k, 'i': i}) + ')'
@@ -790,55 +792,56 @@ def generate(crate, repo, d, fns, mirs):
             nonlocal w, val, sl
             w = Walk(); w.ctx = [ent(t, item(t, 'i')) for t in atags]
             val = {i + 1: ('val', p['k'], p['n'], p['n'] + '-is') if p['form'] == 'val' else ('par', p) for i, p in enumerate(ps)}
-            val[ti] = ('val', K('usize'), 'i', f'(refl, below i (length {tn}) small ({tn}-room .0))')
+            val[ti] = ('val', K('usize'), 'i', f'(refl, below i {LEN} small {FITS})')
             for j, (nm, kn) in state: val[j] = ('val', K(kn), nm, nm + '-is')
             sl = {p['n']: (p['n'] + '′', p['n'] + '-len') if p['form'] == 'muts' else (p['n'], 'refl') for p in ps if p['form'] in ('muts', 'shrs')}
             el.clear()
-            run(turn[:1])
-            tj, bj = int(turn[0][1][1]), int(turn[1][1][1])
-            w.step(f'assigns ! (bin ! (load ! (from ! (stop !)) (look ! {w.at("L", ti)} refl)) (load ! (from ! (stop !)) (look ! {w.at("L", tj)} refl)) tt) (from ! (stop !)) (init ! {w.at("L", bj)} refl (tt, tt))')
+            run(turn[:FIRST])
+            bj = int(turn[FIRST][1][1])
+            most = operand(turn[FIRST][2][3])[0] if counted else f'(load ! (from ! (stop !)) (look ! {w.at("L", int(turn[0][1][1]))} refl))'
+            w.step(f'assigns ! (bin ! (load ! (from ! (stop !)) (look ! {w.at("L", ti)} refl)) {most} tt) (from ! (stop !)) (init ! {w.at("L", bj)} refl (tt, tt))')
             w.put(('L', bj), 'fat')
             return bj
         # the turn that leaves the loop
         bj = begin()
-        w.step(f'rewrite ! {w.at("L", bj)} (λ (y : Bool). ‵ (fat fullShare tyBool {l(bj)} 0 (vbool y))) (fails (ltb i (length {tn})) (λ a. over i (length {tn}) left (ltb→lt i (length {tn}) a))) refl')
+        w.step(f'rewrite ! {w.at("L", bj)} (λ (y : Bool). ‵ (fat fullShare tyBool {l(bj)} 0 (vbool y))) (fails (ltb i {LEN}) (λ a. over i {LEN} left (ltb→lt i {LEN} a))) refl')
         w.step(f'leaves-loop ! (load ! (from ! (stop !)) (look ! {w.at("L", bj)} refl))'); w.step(f'exec ! C Λ En {RT} (atRet En Post)')
         run(body[bi + 1:])
-        close_slice(tab)
+        if tab: close_slice(tab)
         finish(lp.get('done', 'inv'))
         B, F = ' '.join(sb + fb), ' '.join(sv + fv)
-        o += ['    -- the turn that leaves the loop, and the rest of the body', f'    ends : (i : ℕ) {B} → i + zero ≡ length {tn} → {inv("zero", "i")} → ent 𝓤 (⋆ 𝓤 H A (At i {" ".join(sv)})) Again', '    unfolding afterTurn', f'    ends i {F} left inv =']
+        o += ['    -- the turn that leaves the loop, and the rest of the body', f'    ends : (i : ℕ) {B} → i + zero ≡ {LEN} → {inv("zero", "i")} → ent 𝓤 (⋆ 𝓤 H A (At i {" ".join(sv)})) Again', '    unfolding afterTurn', f'    ends i {F} left inv =']
         o.append(f'        qed W (At i {" ".join(sv)}) ∵ exec ! C Λ En {TN} (anyQ (afterTurn 𝓤 H {LΛ} Left)) $'); o += ['        ' + x for x in wrap(w.pieces)] + ['']
         # a turn
         bj = begin()
-        w.step(f'rewrite ! {w.at("L", bj)} (λ (y : Bool). ‵ (fat fullShare tyBool {l(bj)} 0 (vbool y))) (holds (ltb i (length {tn})) (lt→ltb i (length {tn}) small)) refl')
+        w.step(f'rewrite ! {w.at("L", bj)} (λ (y : Bool). ‵ (fat fullShare tyBool {l(bj)} 0 (vbool y))) (holds (ltb i {LEN}) (lt→ltb i {LEN} small)) refl')
         w.step(f'stays ! (load ! (from ! (stop !)) (look ! {w.at("L", bj)} refl))')
         val[bj] = ('raw', '?', '(tt, tt)')
         ncall = 0
-        run(turn[3:-1])
-        elem_in(tab)
-        newt, newl = sl[tn]
+        run(turn[2 + FIRST:-1])
+        if tab: elem_in(tab)
+        newt, newl = sl[tn] if tab else (None, None)
         last = turn[-1]; assert last[2][0] == 'op2' and last[2][1][0] == 'add' and int(last[1][1]) == ti, 'a turn ends with i += 1'
-        nf = f'(record {{ fits = next-fits i (length {tn}) small ({tn}-room .0) }})'
+        nf = f'(record {{ fits = next-fits i {LEN} small {FITS} }})'
         w.step(f'assigns-last ! (bin ! (load ! (from ! (stop !)) (look ! {w.at("L", ti)} refl)) (lit ! tt) {nf}) (from ! (stop !)) (store ! {w.at("L", ti)} refl (tt, {nf}))')
         w.step(f'rewrite ! {w.at("L", ti)} (λ (j : ℕ). ‵ (fat fullShare (tyInt w64) {l(ti)} 0 (vint w64 j))) (add-one i) refl')
         keepl = set(range(1, len(ps) + 1)) | {ti} | {j for j, _ in state}
         for j in reversed(range(N)):
             if j not in keepl and 'froom' not in w.ctx[w.at('L', j)][1]: w.step(f'forget ! {w.at("L", j)} refl')
         w.step('keep ! (' + ' ∷ '.join(str(w.at(*t)) for t in atags) + ' ∷ [])')
-        ns = ([f'z-{tn}'] if not mutt else [newt]) + [val[j][2] for j, _ in state] + [sl[p['n']][0] for p in pads]
+        ns = ([] if not tab else [f'z-{tn}'] if not mutt else [newt]) + [val[j][2] for j, _ in state] + [sl[p['n']][0] for p in pads]
         nf2 = ([newl] if mutt else []) + [val[j][3] for j, _ in state] + [sl[p['n']][1] for p in pads]
         w.pieces.append(f'by ! (next {" ".join(ns + nf2)} ({lp["step"]}))' + ')' * w.depth)
-        o += ['    -- a turn: what is to run next is shown of what it leaves', f'    more : (k i : ℕ) {B} → i < length {tn} → {inv("(suc k)", "i")} → ({B.replace(") (", ") (")} → {inv("k", "(suc i)")} → ent 𝓤 (⋆ 𝓤 H A (At (suc i) {" ".join(sv)})) {LΛ}) → ent 𝓤 (⋆ 𝓤 H A (At i {" ".join(sv)})) Again', '    unfolding afterTurn', f'    more k i {F} small inv next =']
+        o += ['    -- a turn: what is to run next is shown of what it leaves', f'    more : (k i : ℕ) {B} → i < {LEN} → {inv("(suc k)", "i")} → ({B.replace(") (", ") (")} → {inv("k", "(suc i)")} → ent 𝓤 (⋆ 𝓤 H A (At (suc i) {" ".join(sv)})) {LΛ}) → ent 𝓤 (⋆ 𝓤 H A (At i {" ".join(sv)})) Again', '    unfolding afterTurn', f'    more k i {F} small inv next =']
         o.append(f'        qed W (At i {" ".join(sv)}) ∵ exec ! C Λ En {TN} (anyQ (afterTurn 𝓤 H {LΛ} Left)) $'); o += ['        ' + x for x in wrap(w.pieces)] + ['']
         un = f'(unroll 𝓤 H (W .laws) 𝓣 En {TN} Left {LΛ} (id⊢ 𝓤 _))'
-        o += ['    -- the loop from index i on, where k elements are left', f'    loop-at : (k i : ℕ) {B} → i + k ≡ length {tn} → {inv("k", "i")} → ent 𝓤 (⋆ 𝓤 H A (At i {" ".join(sv)})) {LΛ}']
+        o += ['    -- the loop from index i on, where k elements are left', f'    loop-at : (k i : ℕ) {B} → i + k ≡ {LEN} → {inv("k", "i")} → ent 𝓤 (⋆ 𝓤 H A (At i {" ".join(sv)})) {LΛ}']
         o.append(f'    loop-at zero i {F} left inv = via 𝓤 Again (ends i {F} left inv) {un}')
         F2 = ' '.join(x + '₁' for x in sv + fv)
-        o.append(f'    loop-at (suc k) i {F} left inv = via 𝓤 Again (more k i {F} (within i k (length {tn}) left) inv (λ {F2} inv₁. loop-at k (suc i) {F2} (further i k (length {tn}) left) inv₁)) {un}'); o.append('')
-        i0 = ([f'z-{tn}'] if not mutt else [tn]) + [a for a, _ in sx] + [p['n'] for p in pads]
+        o.append(f'    loop-at (suc k) i {F} left inv = via 𝓤 Again (more k i {F} (within i k {LEN} left) inv (λ {F2} inv₁. loop-at k (suc i) {F2} (further i k {LEN} left) inv₁)) {un}'); o.append('')
+        i0 = ([] if not tab else [f'z-{tn}'] if not mutt else [tn]) + [a for a, _ in sx] + [p['n'] for p in pads]
         p0 = (['refl'] if mutt else []) + [b for _, b in sx] + ['refl' for p in pads]
-        o += [f'    loops : {B} → {inv("(length " + tn + ")", "0")} → ent 𝓤 (⋆ 𝓤 H A (At 0 {" ".join(sv)})) (Wp 𝓤 H C Λ En (loop {TN}) Left)', f'    loops {F} inv = via 𝓤 {LΛ} (loop-at (length {tn}) 0 {F} (zero-add (length {tn})) inv) (W .laws .⇛-intro _)', '']
+        o += [f'    loops : {B} → {inv(LEN, "0")} → ent 𝓤 (⋆ 𝓤 H A (At 0 {" ".join(sv)})) (Wp 𝓤 H C Λ En (loop {TN}) Left)', f'    loops {F} inv = via 𝓤 {LΛ} (loop-at {LEN} 0 {F} (zero-add {LEN}) inv) (W .laws .⇛-intro _)', '']
         w = start[0]
         w.pieces.append(f'by ! (loops {" ".join(i0 + p0)} ({lp["inv0"]}))' + ')' * w.depth)
     o.append('    -- the MIR, once the arguments are stored')
@@ -895,7 +898,7 @@ def generate(crate, repo, d, fns, mirs):
         o.append(f"    (cited 𝓤 H ({dsh(c)}-says 𝓤 H (𝓖 .A) (𝓜 .mem) (𝓡 .run)) 𝓜 𝓡 code.env #{dsh(c)} {dsh(c)}-def.routine code.calls-{c.replace('::', '·').replace('_', '-')} ({dsh(c)}-thm.met 𝓤 H 𝓜 𝓖 𝓡))")
     o[-1] += ')'
     txt = '\n'.join(o) + '\n'
-    if ea: txt = txt.replace('SIZE', str(ea['size']))
+    if ea and 'size' in ea: txt = txt.replace('SIZE', str(ea['size']))
     # only the names that are used
     body_txt = txt[txt.index('-- numbers' if ea else 'abbrev stayed'):]
     def prune(mt):

@@ -161,7 +161,7 @@ stands-many : (chip : ℕ) (cs : List Chip) (ms ss : List ℕ) → 16 < length c
 unfolding standsBy standingOf tableInRange
 stands-many chip cs ms ss l = simp (lt-leb (length cs) 16 l, pick-false)
 
-stands-is : (chip : ℕ) (cs : List Chip) (ms ss : List ℕ) → standsBy (lookedOver chip cs firstLook) (length cs) (length ms) (length ss) ≡ standingOf (length cs) cs ms ss
+pub stands-is : (chip : ℕ) (cs : List Chip) (ms ss : List ℕ) → standsBy (lookedOver chip cs firstLook) (length cs) (length ms) (length ss) ≡ standingOf (length cs) cs ms ss
 stands-is chip cs ms ss = go (leb (length cs) 16) refl
   where
     go : (b : Bool) → leb (length cs) 16 ≡ b → standsBy (lookedOver chip cs firstLook) (length cs) (length ms) (length ss) ≡ standingOf (length cs) cs ms ss
@@ -173,7 +173,7 @@ module _ (cs : List Chip) (e : Event) (ms ss : List ℕ) where
   abbrev n : ℕ
   n = length cs
 
-  refused-is : (a : Answer) → carriedOut (plan.Refused a) cs ms ss ≡ outcome (answered a) n (lent cs ms ss)
+  pub refused-is : (a : Answer) → carriedOut (plan.Nothing a) cs ms ss ≡ outcome (answered a) n (lent cs ms ss)
   unfolding carriedOut
   refused-is a = ap (λ (g : Lent). outcome (answered a) n g) (acts-nothing n 0 cs firstSpot ms ss)
 
@@ -229,17 +229,17 @@ module _ (cs : List Chip) (e : Event) (ms ss : List ℕ) where
         → carriedOut (planLevels kind n e) cs ms ss ≡ acceptedOf n cs e ms ss
     unfolding planLevels levelsFit both
     levels-by kind f l false b c p q r =
-        let k : planLevels kind n e ≡ plan.Refused answer.NoSuchLevels = simp (p, pick-false) in
+        let k : planLevels kind n e ≡ plan.Nothing answer.NoSuchLevels = simp (p, pick-false) in
         ap (λ (x : Plan). carriedOut x cs ms ss) k ∙ refused-is answer.NoSuchLevels
         ∙ accepted-not l (simp (eq-eqb (e .number) 4 l, p, pick-true, pick-false))
     levels-by kind f l true false c p q r =
         let g = f (ltb-true (e .chip) n p) in
-        let k : planLevels kind n e ≡ plan.Refused answer.NoSuchLevels = simp (p, g, q, pick-true, pick-false) in
+        let k : planLevels kind n e ≡ plan.Nothing answer.NoSuchLevels = simp (p, g, q, pick-true, pick-false) in
         ap (λ (x : Plan). carriedOut x cs ms ss) k ∙ refused-is answer.NoSuchLevels
         ∙ accepted-not l (simp (eq-eqb (e .number) 4 l, p, q, pick-true, pick-false))
     levels-by kind f l true true false p q r =
         let g = f (ltb-true (e .chip) n p) in
-        let k : planLevels kind n e ≡ plan.Refused answer.NoSuchLevels = simp (p, g, q, r, pick-true, pick-false) in
+        let k : planLevels kind n e ≡ plan.Nothing answer.NoSuchLevels = simp (p, g, q, r, pick-true, pick-false) in
         ap (λ (x : Plan). carriedOut x cs ms ss) k ∙ refused-is answer.NoSuchLevels
         ∙ accepted-not l (simp (eq-eqb (e .number) 4 l, p, q, r, pick-true, pick-false))
     levels-by kind f l true true true p q r =
@@ -265,7 +265,7 @@ module _ (cs : List Chip) (e : Event) (ms ss : List ℕ) where
         ap (λ (x : Plan). carriedOut x cs ms ss) k
         ∙ levels-by kind f l (ltb (e .chip) n) (eqb (getD cs (e .chip) noChip .kind) 2) (leb (e .levels) 3) refl refl refl
     numbered kind (suc (suc (suc (suc (suc m))))) f l =
-        let k : planNumber kind n e ≡ plan.Refused answer.NoSuchEvent
+        let k : planNumber kind n e ≡ plan.Nothing answer.NoSuchEvent
         = simp (le-ltb (e .number) 2 (omega arith), ne-eqb (e .number) 2 (λ (z : e .number ≡ 2). omega arith), ne-eqb (e .number) 3 (λ (z : e .number ≡ 3). omega arith), ne-eqb (e .number) 4 (λ (z : e .number ≡ 4). omega arith), pick-false) in
         ap (λ (x : Plan). carriedOut x cs ms ss) k ∙ refused-is answer.NoSuchEvent
         ∙ (simp (lt-leb (e .number) 4 (omega arith), pick-false))

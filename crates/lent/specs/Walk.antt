@@ -118,7 +118,7 @@ planLevels kind n e =
     (pick (eqb kind 2)
     (pick (leb (e .levels) 3)
     (plan.Levels (e .chip) (e .levels))
-    (plan.Refused answer.NoSuchLevels)) (plan.Refused answer.NoSuchLevels)) (plan.Refused answer.NoSuchLevels)
+    (plan.Nothing answer.NoSuchLevels)) (plan.Nothing answer.NoSuchLevels)) (plan.Nothing answer.NoSuchLevels)
 
 -- an event by its number
 unfoldable pub planNumber : ℕ → ℕ → Event → Plan
@@ -127,33 +127,33 @@ planNumber kind n e =
     (pick (eqb (e .number) 2) plan.Reset
     (pick (eqb (e .number) 3) plan.PowerOn
     (pick (eqb (e .number) 4) (planLevels kind n e)
-    (plan.Refused answer.NoSuchEvent))))
+    (plan.Nothing answer.NoSuchEvent))))
 
 abbrev pub planBy : Standing → ℕ → ℕ → Event → Plan
 planBy standing.Fine kind n e = planNumber kind n e
-planBy standing.WrongSize kind n e = plan.Refused answer.WrongSize
-planBy standing.OutOfRange kind n e = plan.Refused answer.OutOfRange
+planBy standing.WrongSize kind n e = plan.Nothing answer.WrongSize
+planBy standing.OutOfRange kind n e = plan.Nothing answer.OutOfRange
 
 unfoldable pub planOf : Look → ℕ → Event → ℕ → ℕ → Plan
 planOf l n e images pads = planBy (standsBy l n images pads) (l .kind) n e
 
 -- the host's bit, what every chip does, and what is answered
 abbrev pub hostBit : Plan → Bool
-hostBit (plan.Refused a) = true
+hostBit (plan.Nothing a) = true
 hostBit (plan.Slot b) = b
 hostBit plan.Reset = true
 hostBit plan.PowerOn = true
 hostBit (plan.Levels place levels) = true
 
 abbrev pub deedOf : Plan → Bool → Deed
-deedOf (plan.Refused a) v = deed.Nothing
+deedOf (plan.Nothing a) v = deed.Nothing
 deedOf (plan.Slot b) v = deed.Every (act.Take v)
 deedOf plan.Reset v = deed.Every act.Reset
 deedOf plan.PowerOn v = deed.Every act.PowerOn
 deedOf (plan.Levels place levels) v = deed.Levels place levels
 
 abbrev pub answerOf : Plan → Bool → ℕ → Answer
-answerOf (plan.Refused a) v n = a
+answerOf (plan.Nothing a) v n = a
 answerOf (plan.Slot b) v n = answer.Bit v
 answerOf plan.Reset v n = answer.Bit (eqb n 0)
 answerOf plan.PowerOn v n = answer.Bit true

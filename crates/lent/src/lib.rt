@@ -1,11 +1,13 @@
 // The line over what a caller lends: a slice of chips with images and scratchpads, and one chip's record by `&mut`.
 pub mod record;
+mod seeking;
 mod turns;
 
 use chip::Chip;
 use line::Act;
 use line::Answer;
 use line::Event;
+pub use seeking::search_line;
 ghost use mathlib.Core.Path.{_≡_};
 ghost use lib.ListN.{length};
 ghost use Rattle.line.specs.Event.{answered, outcome, eventOf};
@@ -35,7 +37,8 @@ pub struct Sum {
 
 // What an event comes to on a table that was looked over.
 pub enum Plan {
-    Refused(Answer),
+    // nothing happens, and this is answered
+    Nothing(Answer),
     // a slot, with the host's bit
     Slot(bool),
     Reset,

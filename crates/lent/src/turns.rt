@@ -175,11 +175,11 @@ pub fn plan_levels(kind: u8, n: usize, e: Event) -> Plan
                     levels: levels as u8,
                 };
             }
-            return Plan::Refused(Answer::NoSuchLevels);
+            return Plan::Nothing(Answer::NoSuchLevels);
         }
-        return Plan::Refused(Answer::NoSuchLevels);
+        return Plan::Nothing(Answer::NoSuchLevels);
     }
-    Plan::Refused(Answer::NoSuchLevels)
+    Plan::Nothing(Answer::NoSuchLevels)
 }
 
 // What an event comes to by its number.
@@ -199,7 +199,7 @@ pub fn plan_number(kind: u8, n: usize, e: Event) -> Plan
     if number == 4 {
         return plan_levels(kind, n, e);
     }
-    Plan::Refused(Answer::NoSuchEvent)
+    Plan::Nothing(Answer::NoSuchEvent)
 }
 
 // What an event comes to on a table that stands so.
@@ -208,8 +208,8 @@ pub fn plan_by(stands: Standing, kind: u8, n: usize, e: Event) -> Plan
 {
     match stands {
         Standing::Fine => plan_number(kind, n, e),
-        Standing::WrongSize => Plan::Refused(Answer::WrongSize),
-        Standing::OutOfRange => Plan::Refused(Answer::OutOfRange),
+        Standing::WrongSize => Plan::Nothing(Answer::WrongSize),
+        Standing::OutOfRange => Plan::Nothing(Answer::OutOfRange),
     }
 }
 
@@ -226,7 +226,7 @@ pub fn host_bit(plan: Plan) -> bool
     ensures { λ r. ⌜ r ≡ hostBit plan ⌝ }
 {
     match plan {
-        Plan::Refused(_) => true,
+        Plan::Nothing(_) => true,
         Plan::Slot(b) => b,
         Plan::Reset => true,
         Plan::PowerOn => true,
@@ -242,7 +242,7 @@ pub fn deed_of(plan: Plan, value: bool) -> Deed
     ensures { λ r. ⌜ r ≡ deedOf plan value ⌝ }
 {
     match plan {
-        Plan::Refused(_) => Deed::Nothing,
+        Plan::Nothing(_) => Deed::Nothing,
         Plan::Slot(_) => Deed::Every(Act::Take(value)),
         Plan::Reset => Deed::Every(Act::Reset),
         Plan::PowerOn => Deed::Every(Act::PowerOn),
@@ -258,7 +258,7 @@ pub fn answer_of(plan: Plan, value: bool, n: usize) -> Answer
     ensures { λ r. ⌜ r ≡ answerOf plan value n ⌝ }
 {
     match plan {
-        Plan::Refused(a) => a,
+        Plan::Nothing(a) => a,
         Plan::Slot(_) => Answer::Bit(value),
         Plan::Reset => Answer::Bit(n == 0),
         Plan::PowerOn => Answer::Bit(true),
