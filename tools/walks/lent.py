@@ -1,11 +1,12 @@
 # The walked functions of crates/lent, and the contracts of what they call. See README.md beside this file.
 CRATE = 'lent'
-TYPES = {'Chip': 'chip', 'Act': 'line', 'Answer': 'line', 'Event': 'line', 'Standing': 'line', 'Ask': 'machine', 'Machine': 'machine', 'Told': 'machine'}
-ENUMS = ['Act', 'Answer', 'Standing', 'Ask', 'Plan', 'Deed']
+TYPES = {'Chip': 'chip', 'Act': 'line', 'Answer': 'line', 'Event': 'line', 'Standing': 'line', 'CardAnswer': 'card', 'Ask': 'machine', 'Machine': 'machine', 'Told': 'machine'}
+ENUMS = ['Act', 'Answer', 'CardAnswer', 'Standing', 'Ask', 'Plan', 'Deed']
 STRUCTS = {
     'Event': [('number', 'u32'), ('chip', 'u32'), ('levels', 'u32')],
     'Sum': [('value', 'bool'), ('spot', 'Spot')],
     'Turned': [('chip', 'Chip'), ('spot', 'Spot')],
+    'Filled': [('chip', 'Chip'), ('fill', 'Fill')],
 }
 WALK = 'Rattle.lent.specs.Walk.'
 NO_CHIP = 'Rattle.line.specs.Event.{noChip}'
@@ -104,4 +105,19 @@ FNS = [
          ensures='found (searched (r .answer)) (r .listed) list′ (r .resets .0) (r .slots .0) (attached (length table′) table′ ms′ ss′) ≡ searchOf list (attached (length table) table ms ss)',
          uses=[WALK + '{firstLook, lookedOver, standsBy}', SEEK + '{turnsFor, tellsBy}', RUN + '{ran, run as machineRun}', MACHINE + '{beginOf, tale}', ATTACHED, 'Rattle.search.specs.Search.{searched, outcome as found, searchOf}', 'Rattle.lent.specs.Found.{searches}'],
          proof='searches table list ms ss r r2 r3 r4 r5 (ws5 .1 .1 .1 .0) (attached (length (ws5 .0)) (ws5 .0) (ws5 .1 .1 .1 .1 .0) (ws5 .1 .1 .1 .1 .1 .0)) (searched (r6 .answer)) (r6 .listed) (r6 .resets .0) (r6 .slots .0) e e2 e3 e4 e5 e6'),
+
+    # set-up from a card
+    dict(name='lent::setting::judge', params=[('s', '&[u8]'), ('places', 'usize')], result='CardAnswer', ensures='carded r ≡ readAnswer (readFrom (capped places) s 0)'),
+    dict(name='lent::setting::fill_for', params=[('answer', 'CardAnswer')], result='Fill', ensures='r ≡ fillFor answer'),
+    dict(name='lent::setting::fill_turn', params=[('c', 'Chip'), ('f', 'Fill'), ('s', '&[u8]')], result='Filled', ensures='r ≡ fillTurn s c f'),
+    dict(name='lent::setting::fill_table', walk=True, params=[TABLE, ('answer', 'CardAnswer'), ('s', '&[u8]')], result='unit',
+         ensures='table′ ≡ fills s (length table) 0 (fillFor answer) table', uses=['Rattle.lent.specs.Fill.{fillFor, fillTurn, fills}', NO_CHIP],
+         loop=dict(table='table', blank='noChip', state=[('fill', 'Fill')],
+                   inv='fills s k i fill table′ ≡ fills s (length table) 0 (fillFor answer) table',
+                   inv0='ap (λ (f : Fill). fills s (length table) 0 f table) e',
+                   step='ap (λ (x : Filled). fills s k (suc i) (x .fill) (set table′ i (x .chip))) e ∙ inv')),
+    dict(name='lent::setting::set_up', walk=True, params=[('s', '&[u8]'), TABLE], result='CardAnswer',
+         ensures='(carded r ≡ setUpOf (length table) s 0 table .answer) × (table′ ≡ setUpOf (length table) s 0 table .table)',
+         uses=['Rattle.lent.specs.Fill.{readAnswer, fillFor, fills}', 'Rattle.lent.specs.Cards.{set-up-is}', 'Rattle.card.specs.Card.{carded, readFrom, setUpOf}', 'Rattle.line.specs.Layout.{capped}'],
+         proof='set-up-is s table (ws2 .0) r e e2'),
 ]

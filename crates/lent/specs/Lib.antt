@@ -1,4 +1,6 @@
 pub mod Agree
+pub mod Cards
+pub mod Fill
 pub mod Found
 pub mod Seek
 pub mod Spots

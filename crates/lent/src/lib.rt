@@ -1,6 +1,7 @@
 // The line over what a caller lends: a slice of chips with images and scratchpads, and one chip's record by `&mut`.
 pub mod record;
 mod seeking;
+mod setting;
 mod turns;
 
 use chip::Chip;
@@ -8,6 +9,7 @@ use line::Act;
 use line::Answer;
 use line::Event;
 pub use seeking::search_line;
+pub use setting::set_up;
 ghost use mathlib.Core.Path.{_≡_};
 ghost use lib.ListN.{length};
 ghost use Rattle.line.specs.Event.{answered, outcome, eventOf};
@@ -58,6 +60,18 @@ pub enum Deed {
 pub struct Turned {
     pub chip: Chip,
     pub spot: Spot,
+}
+
+// How many chips of a card are still to come, and where in the card the next one stands.
+pub struct Fill {
+    pub left: usize,
+    pub at: usize,
+}
+
+// A place after set-up came to it, and what is still to come.
+pub struct Filled {
+    pub chip: Chip,
+    pub fill: Fill,
 }
 
 // A look over the table, before an event that names a chip.
