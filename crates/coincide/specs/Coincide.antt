@@ -4,6 +4,7 @@ use mathlib.Core.Bool.{Bool}
 use mathlib.Core.List.{List}
 use mathlib.Core.Path.{_≡_, refl, _∙_, ap, sym}
 use lib.Dec.{eqb}
+use lib.IntN.{ℤ}
 use Rattle.base.specs.Pick.{pick}
 use Rattle.chip.specs.Chip.{Whole, whole, takesOf, powerOnChip, powerOnPad}
 use Rattle.chip.specs.declared.Chip.{Chip}
@@ -19,6 +20,7 @@ use Rattle.card.specs.declared.CardAnswer.{CardAnswer}
 use Rattle.card.specs.declared.CardAnswer.the-variants.{Chips, TooMany, UnknownKind, WrongLength}
 use Rattle.search.specs.Search.{Searched, complete, refused as refusedBy, searched, Attached, attached, Search, outcome as found, searchOf}
 use Rattle.search.specs.declared.SearchAnswer.{SearchAnswer}
+use Rattle.toemsakun.specs.Library.{CardLeft, cardLeft, cardBytes, EventLeft, eventLeft, eventBytes, SearchLeft, searchLeft, searchBytes}
 use Rattle.search.specs.declared.SearchAnswer.the-variants as search
 
 -- the general law: what two outcomes both equal, they share. Every contract of the form `r ≡ definition` is an instance.
@@ -105,6 +107,39 @@ search-line list l a a′ n n′ k k′ r r′ s s′ t t′ p q =
       ap (λ (o : Search). o .resets) z,
       ap (λ (o : Search). o .slots) z,
       ap (λ (o : Search). o .line) z,
+    )
+
+-- `tk_card`: answer, table and offset
+pub tk-card : (card table : List ℕ) (a a′ : ℤ) (t t′ : List ℕ) (o o′ : ℕ) → cardLeft a t o ≡ cardBytes card table → cardLeft a′ t′ o′ ≡ cardBytes card table
+    → (a ≡ a′) × (t ≡ t′) × (o ≡ o′)
+tk-card card table a a′ t t′ o o′ p q =
+    let r = one-answer (cardBytes card table) _ _ p q in (ap (λ (k : CardLeft). k .answer) r, ap (λ (k : CardLeft). k .table) r, ap (λ (k : CardLeft). k .offset) r)
+
+-- `tk_event`: answer, table, images and scratchpads
+pub tk-event : (table : List ℕ) (e : Event) (ms ss : List ℕ) (a a′ : ℤ) (t t′ is is′ ps ps′ : List ℕ)
+    → eventLeft a t is ps ≡ eventBytes table e ms ss → eventLeft a′ t′ is′ ps′ ≡ eventBytes table e ms ss
+    → (a ≡ a′) × (t ≡ t′) × (is ≡ is′) × (ps ≡ ps′)
+tk-event table e ms ss a a′ t t′ is is′ ps ps′ p q =
+    let r = one-answer (eventBytes table e ms ss) _ _ p q in (
+      ap (λ (k : EventLeft). k .answer) r,
+      ap (λ (k : EventLeft). k .table) r,
+      ap (λ (k : EventLeft). k .images) r,
+      ap (λ (k : EventLeft). k .pads) r,
+    )
+
+-- `tk_search`: answer, list, table, images, scratchpads and counts
+pub tk-search : (table list ms ss : List ℕ) (a a′ : ℤ) (l l′ t t′ is is′ ps ps′ : List ℕ) (r r′ s s′ : ℕ)
+    → searchLeft a l t is ps r s ≡ searchBytes table list ms ss → searchLeft a′ l′ t′ is′ ps′ r′ s′ ≡ searchBytes table list ms ss
+    → (a ≡ a′) × (l ≡ l′) × (t ≡ t′) × (is ≡ is′) × (ps ≡ ps′) × (r ≡ r′) × (s ≡ s′)
+tk-search table list ms ss a a′ l l′ t t′ is is′ ps ps′ r r′ s s′ p q =
+    let z = one-answer (searchBytes table list ms ss) _ _ p q in (
+      ap (λ (k : SearchLeft). k .answer) z,
+      ap (λ (k : SearchLeft). k .list) z,
+      ap (λ (k : SearchLeft). k .table) z,
+      ap (λ (k : SearchLeft). k .images) z,
+      ap (λ (k : SearchLeft). k .pads) z,
+      ap (λ (k : SearchLeft). k .resets) z,
+      ap (λ (k : SearchLeft). k .slots) z,
     )
 
 -- `chip::takes`: record, memory and scratchpad

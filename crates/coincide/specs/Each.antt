@@ -14,6 +14,7 @@ use Rattle.rom.specs.declared.RomStep.{RomStep}
 use Rattle.scratchpad.specs.declared.Sight.{Sight}
 use Rattle.ds2413.specs.declared.Switch.{Switch}
 use Rattle.ds2413.specs.declared.SwitchPhase.{SwitchPhase}
+use Rattle.line.specs.declared.Table.{Table}
 use Rattle.base.specs.Bits.{bitOf, both, filled, same}
 use Rattle.card.specs.Card.{carded, entryAt}
 use Rattle.chip.specs.Chip.{levelReset, levelsChip, resetChip, sendsOf, setUpChip, whole}
@@ -25,10 +26,12 @@ use Rattle.ds28ec20.specs.Image.{closedIn, copied, fallsIn, heldIn, ruleAt, sig
 use Rattle.ds28ec20.specs.Map.{closedToCopying, controlAddress, held, isControlOrLock, isData, isReadOnly, mark, onlyFalls}
 use Rattle.line.specs.Event.{standingOf}
 use Rattle.line.specs.Layout.{capped, imagesAsked, padsAsked}
+use Rattle.packed.specs.Packed.{isRecord, packed, putRecord, putTable, sameBytes, tableFrom, unpacked}
 use Rattle.records.specs.Records.{headAt}
 use Rattle.rom.specs.Rom.{commandBit, commandOf, matchBit, readBit, romInRange, romSends, romTakes, searchBit, searchSends}
 use Rattle.scratchpad.specs.Registers.{powerOnRegisters, ruleOfByte}
 use Rattle.scratchpad.specs.Scratchpad.{addressAtHand, inPage, memoryFunction, memoryInRange, memoryReset, memorySends, memoryTakes, offsetAtHand, registersInRange, step}
+use Rattle.toemsakun.specs.Library.{imagesBytes, padsBytes, tableSize}
 use Rattle.terminal.specs.Words.{isRefused, wordOf}
 use Rattle.scratchpad.specs.declared.Deed.the-variants.{Nothing}
 use Rattle.coincide.specs.Coincide.{one-answer}
@@ -311,6 +314,40 @@ line-images-asked n cs = one-answer (imagesAsked n cs)
 
 pub line-pads-asked : (n : ℕ) (cs : List Chip) → Settled (padsAsked n cs)
 line-pads-asked n cs = one-answer (padsAsked n cs)
+
+-- packed
+
+pub packed-pack : (c : Chip) → Settled (packed c)
+packed-pack c = one-answer (packed c)
+
+pub packed-unpack : (s : List ℕ) → Settled (unpacked s)
+packed-unpack s = one-answer (unpacked s)
+
+pub packed-is-packed : (c : Chip) (s : List ℕ) → Settled (sameBytes (packed c) s)
+packed-is-packed c s = one-answer (sameBytes (packed c) s)
+
+pub packed-is-record : (s : List ℕ) → Settled (isRecord s)
+packed-is-record s = one-answer (isRecord s)
+
+pub packed-put-record : (s : List ℕ) (c : Chip) → Settled (putRecord c s)
+packed-put-record s c = one-answer (putRecord c s)
+
+pub packed-table-of : (bytes : List ℕ) (t : Table) → Settled (tableFrom bytes t)
+packed-table-of bytes t = one-answer (tableFrom bytes t)
+
+pub packed-put-table : (bytes : List ℕ) (n : ℕ) (cs : List Chip) → Settled (putTable n cs bytes)
+packed-put-table bytes n cs = one-answer (putTable n cs bytes)
+
+-- toemsakun
+
+pub toemsakun-table-size : (chips : ℕ) → Settled (tableSize chips)
+toemsakun-table-size chips = one-answer (tableSize chips)
+
+pub toemsakun-images-size : (table : List ℕ) → Settled (imagesBytes table)
+toemsakun-images-size table = one-answer (imagesBytes table)
+
+pub toemsakun-pads-size : (table : List ℕ) → Settled (padsBytes table)
+toemsakun-pads-size table = one-answer (padsBytes table)
 
 -- terminal
 

@@ -1,0 +1,101 @@
+-- Laws: a card gives at most as many chips as there are places, and a search lists at most 16 codes.
+use Prim.Native.Nat.{ℕ, zero, suc, _+_, _-_, _≤_}
+use native.Mathlib.Omega.{arith}
+use native.Mathlib.Numerals.{add-one}
+use mathlib.Core.Bool.{Bool, true, false}
+use mathlib.Core.List.{List, [], _∷_, _++_}
+use mathlib.Core.Path.{_≡_, refl, _∙_, ap, sym, subst}
+use lib.Dec.{eqb, ltb}
+use lib.ListN.{length, length-append}
+use borrow.Author.Tests.{ltb-true, ltb-false}
+use Rattle.base.specs.Pick.{pick}
+use Rattle.chip.specs.declared.Chip.{Chip}
+use Rattle.line.specs.Event.{Answered, tableInRange, sizesFit}
+use Rattle.line.specs.Layout.{capped}
+use Rattle.card.specs.Card.{Read, all, none, after, onward, readFrom, entryAt, setUpOf, fromRead}
+use Rattle.card.specs.declared.Entry.{Entry}
+use Rattle.card.specs.declared.Entry.the-variants as entry
+use Rattle.search.specs.Host.{Host, done, bind, Played, Listed, listed, End, write, pass, heard, play, passes, goOn, searchHost, upTo, resetEvent}
+use Rattle.search.specs.Counts.{play-bind}
+use Rattle.search.specs.Search.{Attached, saysOf, leavesOf, wire, Search, searchOf, fromPlayed, outcome, refused}
+
+pub capped-few : (n : ℕ) → (capped n ≤ 16) × (capped n ≤ n)
+unfolding capped pick
+capped-few n = go (ltb n 16) (ltb-true n 16) (ltb-false n 16)
+  where
+    go : (b : Bool) → (b ≡ true → suc n ≤ 16) → (b ≡ false → 16 ≤ n) → (pick b n 16 ≤ 16) × (pick b n 16 ≤ n)
+    go true f g = let h = f refl in (omega arith, omega arith)
+    go false f g = let h = g refl in (omega arith, omega arith)
+
+-- what was read holds at most m chips
+abbrev pub AtMost : ℕ → Read → Type 0
+AtMost m (all cs) = length cs ≤ m
+AtMost m (none r at) = Unit {0}
+
+one-more : (m : ℕ) (c : Chip) (r : Read) → AtMost m r → AtMost (suc m) (after (c ∷ []) r)
+one-more m c (all cs) h = omega arith
+one-more m c (none r at) h = tt
+
+no-more : (at : ℕ) (e : Entry) → AtMost 0 (onward at (λ next. none 1 at) e)
+no-more at entry.Done = omega arith
+no-more at (entry.Taken code kind next) = tt
+no-more at entry.TooMany = tt
+no-more at entry.UnknownKind = tt
+no-more at entry.WrongLength = tt
+
+read-on : (m at : ℕ) (go : ℕ → Read) (e : Entry) → ((next : ℕ) → AtMost m (go next)) → AtMost (suc m) (onward at go e)
+read-on m at go entry.Done f = omega arith
+read-on m at go (entry.Taken code kind next) f = one-more m _ (go next) (f next)
+read-on m at go entry.TooMany f = tt
+read-on m at go entry.UnknownKind f = tt
+read-on m at go entry.WrongLength f = tt
+
+pub read-few : (m : ℕ) (s : List ℕ) (at : ℕ) → AtMost m (readFrom m s at)
+unfolding readFrom
+read-few zero s at = no-more at (entryAt s at zero)
+read-few (suc m) s at = read-on m at (λ next. readFrom m s next) (entryAt s at (suc m)) (λ next. read-few m s next)
+
+-- what a host comes to after another, from what it comes to whatever the other came to
+result-bind : {A B : Type 0} (P : B → Type 0) (h : Host A) (g : A → Host B) (l : Attached) → ((a : A) (k : Attached) → P (play wire (g a) k .result)) → P (play wire (bind h g) l .result)
+result-bind {B = B} P h g l f = subst (λ (p : Played B Attached). P (p .result)) (sym (play-bind wire h g l)) (f _ _)
+
+-- at most m codes are listed
+abbrev Lists : ℕ → Listed → Type 0
+Lists m r = length (r .codes) ≤ m
+
+module _ (m : ℕ) where
+  -- how the host goes on after a pass
+  on-few : (n : ℕ) (out : List ℕ) (again : ℕ → List ℕ → Host Listed) → length out + suc n ≤ m → ((w : ℕ) (o : List ℕ) (k : Attached) → length o + n ≤ m → Lists m (play wire (again w o) k .result))
+      → (e : End) (k : Attached) → Lists m (play wire (goOn n out again e) k .result)
+  unfolding play pick
+  on-few n out again h f e k = go (e .whole) (eqb (e .last) 0) (eqb n 0) (f (upTo (e .last - 1) (e .path)) (out ++ (e .path ∷ [])) k (simp length-append (omega arith)))
+    where
+      go : (a b c : Bool) → Lists m (play wire (again (upTo (e .last - 1) (e .path)) (out ++ (e .path ∷ []))) k .result)
+          → Lists m (play wire (pick a (pick b (done (listed (out ++ (e .path ∷ [])) true)) (pick c (done (listed (out ++ (e .path ∷ [])) false)) (again (upTo (e .last - 1) (e .path)) (out ++ (e .path ∷ []))))) (done (listed out true))) k .result)
+      go true true c g = simp length-append (omega arith)
+      go true false true g = simp length-append (omega arith)
+      go true false false g = g
+      go false b c g = omega arith
+
+  presence : (b : Bool) (h h′ : Host Listed) (k : Attached) → Lists m (play wire h k .result) → Lists m (play wire h′ k .result) → Lists m (play wire (pick b h h′) k .result)
+  unfolding pick
+  presence true h h′ k f g = f
+  presence false h h′ k f g = g
+
+  passes-few : (n want : ℕ) (out : List ℕ) (l : Attached) → length out + n ≤ m → Lists m (play wire (passes n want out) l .result)
+  unfolding play passes
+  passes-few zero want out l h = presence (heard (saysOf resetEvent l)) (done (listed out true)) (done (listed out false)) (leavesOf resetEvent l) (omega arith) (omega arith)
+  passes-few (suc n) want out l h =
+      presence (heard (saysOf resetEvent l)) (done (listed out true)) _ (leavesOf resetEvent l) (omega arith)
+      (result-bind (Lists m) (write 8 0 0xF0) (λ u. bind (pass 64 0 want 0 0) (goOn n out (λ w o. passes n w o))) (leavesOf resetEvent l)
+      (λ a k. result-bind (Lists m) (pass 64 0 want 0 0) (goOn n out (λ w o. passes n w o)) k (on-few n out (λ w o. passes n w o) h (λ w o. passes-few n w o))))
+
+-- a search lists at most 16 codes
+pub search-few : (list : List ℕ) (l : Attached) → searchOf list l .number ≤ 16
+unfolding searchOf pick
+search-few list l = go (tableInRange (l .count) (l .lent .chips)) (sizesFit (l .count) (l .lent .chips) (l .lent .images) (l .lent .pads))
+  where
+    go : (a b : Bool) → pick a (pick b (fromPlayed list (play wire (searchHost (length list)) l)) (outcome (refused 5) 0 list 0 0 l)) (outcome (refused 8) 0 list 0 0 l) .number ≤ 16
+    go true true = passes-few 16 (capped (length list)) 0 [] l (omega (arith, capped-few (length list) .0))
+    go true false = omega arith
+    go false b = omega arith

@@ -1,0 +1,4 @@
+pub mod Library
+pub mod Answers
+pub mod Few
+pub mod Laws

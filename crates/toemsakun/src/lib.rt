@@ -1,0 +1,116 @@
+// The line as a library for C: include/toemsakun.h has the promises.
+mod answers;
+
+use line::Event;
+use line::Table;
+ghost use mathlib.Core.Path.{_≡_};
+ghost use lib.ListN.{replicate};
+ghost use Rattle.chip.specs.Chip.{setUpChip};
+ghost use Rattle.toemsakun.specs.Library.{tableSize, imagesBytes, padsBytes, cardLeft, cardBytes, eventWith, eventLeft, eventBytes, searchLeft, searchBytes};
+
+// A table for chips to be put in, with n for their number; 17 where every call is to refuse it.
+fn blank(n: usize) -> Table
+    ensures { λ r. ⌜ (r .n ≡ n) × (r .chips ≡ replicate 16 (setUpChip 0 0)) ⌝ }
+{
+    let place = chip::set_up(0, 0);
+    Table {
+        n: n,
+        chips: [place; 16],
+    }
+}
+
+// The bytes of a table of so many chips, of at most 16.
+#[no_mangle]
+pub extern "C" fn tk_table_size(chips: usize) -> usize
+    ensures { λ r. ⌜ r ≡ tableSize chips ⌝ }
+{
+    let n = line::used_places(chips);
+    n * 24
+}
+
+// The bytes of images to lend with a table.
+#[no_mangle]
+pub extern "C" fn tk_images_size(table: &[u8]) -> usize
+    ensures { λ r. ⌜ r ≡ imagesBytes (now (table .entry)) ⌝ }
+{
+    let none = blank(17);
+    let t = packed::table_of(table, none);
+    line::images_asked(t)
+}
+
+// The bytes of scratchpads to lend with a table.
+#[no_mangle]
+pub extern "C" fn tk_pads_size(table: &[u8]) -> usize
+    ensures { λ r. ⌜ r ≡ padsBytes (now (table .entry)) ⌝ }
+{
+    let none = blank(17);
+    let t = packed::table_of(table, none);
+    line::pads_asked(t)
+}
+
+// Set-up from a card.
+#[no_mangle]
+pub extern "C" fn tk_card(card: &[u8], table: &mut [u8], offset: &mut usize) -> i32
+    ensures { λ r. ⌜ cardLeft r (now (table .exit)) (now (offset .exit)) ≡ cardBytes (now (card .entry)) (now (table .entry)) ⌝ }
+{
+    let none = blank(0);
+    let up = card::set_up(card, table.len() / 24, none);
+    let answer = up.answer;
+    let t = up.table;
+    packed::put_table(table, t);
+    *offset = answers::offset_of(answer);
+    answers::of_card(answer, t.n)
+}
+
+// One event.
+#[no_mangle]
+pub extern "C" fn tk_event(
+    table: &mut [u8],
+    event: u32,
+    chip: u32,
+    levels: u32,
+    images: &mut [u8],
+    pads: &mut [u8],
+) -> i32
+    ensures { λ r. ⌜ eventLeft r (now (table .exit)) (now (images .exit)) (now (pads .exit))
+        ≡ eventBytes (now (table .entry)) (eventWith event chip levels) (now (images .entry)) (now (pads .entry)) ⌝ }
+{
+    let none = blank(17);
+    let t = packed::table_of(table, none);
+    let e = Event {
+        number: event,
+        chip: chip,
+        levels: levels,
+    };
+    let h = line::take_event(t, e, images, pads);
+    let answer = h.answer;
+    let after = h.table;
+    packed::put_table(table, after);
+    answers::of_event(answer)
+}
+
+// Search.
+#[no_mangle]
+pub extern "C" fn tk_search(
+    table: &mut [u8],
+    list: &mut [u64],
+    images: &mut [u8],
+    pads: &mut [u8],
+    resets: &mut u64,
+    slots: &mut u64,
+) -> i32
+    ensures { λ r. ⌜ searchLeft r (now (list .exit)) (now (table .exit)) (now (images .exit)) (now (pads .exit)) (now (resets .exit)) (now (slots .exit))
+        ≡ searchBytes (now (table .entry)) (now (list .entry)) (now (images .entry)) (now (pads .entry)) ⌝ }
+{
+    let none = blank(17);
+    let t = packed::table_of(table, none);
+    let f = search::search_line(t, list, images, pads);
+    let answer = f.answer;
+    let after = f.table;
+    let put = f.resets;
+    let used = f.slots;
+    packed::put_table(table, after);
+    *resets = put.0;
+    *slots = used.0;
+    answers::of_search(answer, f.listed)
+}
