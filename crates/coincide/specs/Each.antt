@@ -23,10 +23,14 @@ use Rattle.crc.specs.Crc.{crcBit, crcByte, crcOf, poly16, poly8}
 use Rattle.ds2413.specs.Switch.{confirmed, pairBit, pairIn, phaseInRange, pinOf, shown, statusOf, statusSent, step as switchStep, switchFunction, switchInRange, switchPowerOn, switchSends, switchSetUp, switchTakes}
 use Rattle.ds28ec20.specs.Image.{closedIn, copied, fallsIn, heldIn, ruleAt, sightOf, spanOf}
 use Rattle.ds28ec20.specs.Map.{closedToCopying, controlAddress, held, isControlOrLock, isData, isReadOnly, mark, onlyFalls}
-use Rattle.line.specs.Event.{standingOf}
+use Rattle.line.specs.Event.{standingOf, answered}
 use Rattle.line.specs.Layout.{capped, imagesAsked, padsAsked}
+use Rattle.line.specs.declared.Answer.{Answer}
+use Rattle.machine.specs.Machine.{asksOf, beginOf}
+use Rattle.machine.specs.declared.Machine.{Machine}
 use Rattle.records.specs.Records.{headAt}
 use Rattle.rom.specs.Rom.{commandBit, commandOf, matchBit, readBit, romInRange, romSends, romTakes, searchBit, searchSends}
+use Rattle.search.specs.Host.{heard}
 use Rattle.scratchpad.specs.Registers.{powerOnRegisters, ruleOfByte}
 use Rattle.scratchpad.specs.Scratchpad.{addressAtHand, inPage, memoryFunction, memoryInRange, memoryReset, memorySends, memoryTakes, offsetAtHand, registersInRange, step}
 use Rattle.terminal.specs.Words.{isRefused, wordOf}
@@ -311,6 +315,19 @@ line-images-asked n cs = one-answer (imagesAsked n cs)
 
 pub line-pads-asked : (n : ℕ) (cs : List Chip) → Settled (padsAsked n cs)
 line-pads-asked n cs = one-answer (padsAsked n cs)
+
+-- search
+
+pub search-bit-heard : (a : Answer) → Settled (heard (answered a))
+search-bit-heard a = one-answer (heard (answered a))
+
+-- machine
+
+pub machine-begin : (places : ℕ) → Settled (beginOf places)
+machine-begin places = one-answer (beginOf places)
+
+pub machine-asks : (m : Machine) → Settled (asksOf m)
+machine-asks m = one-answer (asksOf m)
 
 -- terminal
 
