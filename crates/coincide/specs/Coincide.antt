@@ -18,7 +18,9 @@ use Rattle.line.specs.declared.Answer.the-variants.{Bit, OutOfRange, WrongSize,
 use Rattle.card.specs.Card.{Carded, chips, refused as refusedAt, carded, SetUp, setUp, setUpOf}
 use Rattle.card.specs.declared.CardAnswer.{CardAnswer}
 use Rattle.card.specs.declared.CardAnswer.the-variants.{Chips, TooMany, UnknownKind, WrongLength}
-use Rattle.search.specs.Search.{Searched, complete, refused as refusedBy, searched, Attached, attached, Search, outcome as found, searchOf}
+use Rattle.machine.specs.Machine.{Stand, stand, hearsOf, Tale, tale, tellsOf}
+use Rattle.machine.specs.declared.Machine.{Machine}
+use Rattle.search.specs.Search.{Searched, complete, refused as refusedBy, searched, completeOr4, Attached, attached, Search, outcome as found, searchOf}
 use Rattle.search.specs.declared.SearchAnswer.{SearchAnswer}
 use Rattle.toemsakun.specs.Library.{CardLeft, cardLeft, cardBytes, EventLeft, eventLeft, eventBytes, SearchLeft, searchLeft, searchBytes}
 use Rattle.search.specs.declared.SearchAnswer.the-variants as search
@@ -140,6 +142,24 @@ tk-search table list ms ss a a′ l l′ t t′ is is′ ps ps′ r r′ s s′ 
       ap (λ (k : SearchLeft). k .pads) z,
       ap (λ (k : SearchLeft). k .resets) z,
       ap (λ (k : SearchLeft). k .slots) z,
+-- `search::answer_of`
+pub answer-of : (b : Bool) (a a′ : SearchAnswer) → searched a ≡ completeOr4 b → searched a′ ≡ completeOr4 b → a ≡ a′
+answer-of b a a′ p q = searched-once a a′ (one-answer (completeOr4 b) _ _ p q)
+
+-- `machine::hears`: machine and list
+pub hears : (m : Machine) (x : Answered) (list : List ℕ) (n n′ : Machine) (k k′ : List ℕ) → stand n k ≡ hearsOf m x list → stand n′ k′ ≡ hearsOf m x list → (n ≡ n′) × (k ≡ k′)
+hears m x list n n′ k k′ p q =
+    let r = one-answer (hearsOf m x list) _ _ p q in (ap (λ (o : Stand). o .machine) r, ap (λ (o : Stand). o .list) r)
+
+-- `machine::tells`: answer, number of codes, counts
+pub tells : (m : Machine) (a a′ : SearchAnswer) (n n′ r r′ s s′ : ℕ) → tale (searched a) n r s ≡ tellsOf m → tale (searched a′) n′ r′ s′ ≡ tellsOf m
+    → (a ≡ a′) × (n ≡ n′) × (r ≡ r′) × (s ≡ s′)
+tells m a a′ n n′ r r′ s s′ p q =
+    let z = one-answer (tellsOf m) _ _ p q in (
+      searched-once a a′ (ap (λ (o : Tale). o .answer) z),
+      ap (λ (o : Tale). o .listed) z,
+      ap (λ (o : Tale). o .resets) z,
+      ap (λ (o : Tale). o .slots) z,
     )
 
 -- `chip::takes`: record, memory and scratchpad

@@ -1,7 +1,7 @@
 -- Laws: the machine plays the passes of a search, on every wire.
 use Prim.Native.Nat.{ℕ, zero, suc, _+_, _-_, _*_, _<_, _≤_, _^_}
 use native.Mathlib.Omega.{arith}
-use native.Mathlib.Nat.{add-zero, two-pow-succ}
+use native.Mathlib.Nat.{add-zero}
 use native.Mathlib.Numerals.{add-one}
 use mathlib.Core.Bool.{Bool, true, false}
 use mathlib.Core.List.{List, [], _∷_, _++_, append-assoc}
@@ -14,6 +14,7 @@ use Rattle.base.specs.Pick.{pick, pick-true, pick-false}
 use Rattle.base.specs.Bits.{bitOf, both}
 use Rattle.line.specs.Event.{Answered}
 use Rattle.search.specs.Host.{Host, done, ask, bind, Wire, End, end, resetsOf, slotsOf, slotEvent, resetEvent, heard, pass, write, turn, mark, put, upTo, Listed, listed, goOn, passes}
+use Rattle.search.specs.Pass.{put-low}
 use Rattle.machine.specs.declared.Turn.{Turn}
 use Rattle.machine.specs.declared.Turn.the-variants.{Reset, Command, First, Second, Write, Done}
 use Rattle.machine.specs.declared.Machine.{Machine}
@@ -40,13 +41,6 @@ longer-put : (d : Bool) (k path : ℕ) → k < 64 → path < 2 ^ k → longerBy 
 unfolding longerBy withOne pick
 longer-put true k path h l = rw (lt-ltb k 64 h, lt-ltb path (2 ^ k) l)
 longer-put false k path h l = refl
-
-put-below : (d : Bool) (k path : ℕ) → path < 2 ^ k → put d k path < 2 ^ (k + 1)
-put-below d k path h = rw (add-one k, two-pow-succ k) (go d)
-  where
-    go : (d : Bool) → put d k path < 2 ^ k + 2 ^ k
-    go true = omega arith
-    go false = omega arith
 
 -- and so is what it wants next
 wanted-up : (last path : ℕ) → (last ≡ 0 → ⊥) → last ≤ 64 → wanted last path ≡ upTo (last - 1) path
@@ -169,7 +163,7 @@ module _ (W : Wire) (list₀ : List ℕ) (places : ℕ) (room : places ≤ lengt
         (λ x r s. at (First (k + 1)) want (put d k path) m places out r s) (λ x. filled out list₀) (λ x. bind (pass (suc j) (k + 1) want (put d k path) m) g)
         (omega arith) (λ r s. refl)
         (λ r s x a. rw (one-more s a, pick-true (ltb k 63) _ _ (lt-ltb k 63 (omega arith)), longer-put d k path (omega arith) low))
-        (λ x. plays-place j (k + 1) (put d k path) m (omega arith) i (plays-write j (k + 1) (put d k path) (omega arith) (put-below d k path low)))
+        (λ x. plays-place j (k + 1) (put d k path) m (omega arith) i (plays-write j (k + 1) (put d k path) (omega arith) (put-low d k path low)))
 
     plays-pass : Plays W list₀ (192 + n) (at (First 0) want 0 0 places out) (filled out list₀) (bind (pass 64 0 want 0 0) g)
     plays-pass = plays-place 63 0 0 0 (omega arith) (omega arith) (plays-write 63 0 0 (omega arith) (omega arith))

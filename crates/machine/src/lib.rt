@@ -9,8 +9,8 @@ use search::SearchAnswer;
 use search::Slots;
 ghost use mathlib.Core.Path.{_≡_};
 ghost use Rattle.line.specs.Event.{answered};
-ghost use Rattle.search.specs.Host.{heard, eventNumber, slotEvent};
-ghost use Rattle.search.specs.Search.{searched, completeOr4};
+ghost use Rattle.search.specs.Host.{eventNumber, slotEvent};
+ghost use Rattle.search.specs.Search.{searched};
 ghost use Rattle.machine.specs.Machine.{stand, beginOf, asksOf, hearsOf, goesFrom, completeAt, tale, tellsOf};
 ghost use Rattle.machine.specs.declared.Ask.the-variants.{Put};
 
@@ -105,19 +105,6 @@ pub fn asks(m: Machine) -> Ask
     }
 }
 
-// The bit of an answer; without one the host hears a 1.
-fn bit_heard(a: Answer) -> bool
-    ensures { λ r. ⌜ r ≡ heard (answered a) ⌝ }
-{
-    match a {
-        Answer::Bit(b) => b,
-        Answer::OutOfRange => true,
-        Answer::WrongSize => true,
-        Answer::NoSuchEvent => true,
-        Answer::NoSuchLevels => true,
-    }
-}
-
 // How the host goes on by a bit, and its list.
 fn goes_on(m: Machine, bit: bool, list: &mut [u64]) -> Machine
     ensures { λ r. ⌜ stand r (now (list .exit)) ≡ goesFrom (m .turn) m bit (now (list .entry)) ⌝ }
@@ -153,7 +140,7 @@ fn goes_on(m: Machine, bit: bool, list: &mut [u64]) -> Machine
 pub fn hears(m: Machine, a: Answer, list: &mut [u64]) -> Machine
     ensures { λ r. ⌜ stand r (now (list .exit)) ≡ hearsOf m (answered a) (now (list .entry)) ⌝ }
 {
-    let bit = bit_heard(a);
+    let bit = search::bit_heard(a);
     goes_on(m, bit, list)
 }
 
@@ -171,23 +158,13 @@ fn is_complete(turn: Turn) -> bool
     }
 }
 
-// The answer of a search by whether its list is complete.
-fn answer_of(complete: bool) -> SearchAnswer
-    ensures { λ r. ⌜ searched r ≡ completeOr4 complete ⌝ }
-{
-    if complete {
-        return SearchAnswer::Complete;
-    }
-    SearchAnswer::TooFewPlaces
-}
-
 // What the host tells when it is done: complete or refusal 4, the codes listed, and what it put on the line.
 pub fn tells(m: Machine) -> Told
     ensures { λ r. ⌜ tale (searched (r .answer)) (r .listed) (r .resets .0) (r .slots .0) ≡ tellsOf m ⌝ }
 {
     let turn = m.turn;
     let complete = is_complete(turn);
-    let answer = answer_of(complete);
+    let answer = search::answer_of(complete);
     Told {
         answer: answer,
         listed: m.listed,
