@@ -142,6 +142,8 @@ tk-search table list ms ss a a′ l l′ t t′ is is′ ps ps′ r r′ s s′ 
       ap (λ (k : SearchLeft). k .pads) z,
       ap (λ (k : SearchLeft). k .resets) z,
       ap (λ (k : SearchLeft). k .slots) z,
+    )
+
 -- `search::answer_of`
 pub answer-of : (b : Bool) (a a′ : SearchAnswer) → searched a ≡ completeOr4 b → searched a′ ≡ completeOr4 b → a ≡ a′
 answer-of b a a′ p q = searched-once a a′ (one-answer (completeOr4 b) _ _ p q)
