@@ -24,6 +24,7 @@ use Rattle.crc.specs.Crc.{crcBit, crcByte, crcOf, poly16, poly8}
 use Rattle.ds2413.specs.Switch.{confirmed, pairBit, pairIn, phaseInRange, pinOf, shown, statusOf, statusSent, step as switchStep, switchFunction, switchInRange, switchPowerOn, switchSends, switchSetUp, switchTakes}
 use Rattle.ds28ec20.specs.Image.{closedIn, copied, fallsIn, heldIn, ruleAt, sightOf, spanOf}
 use Rattle.ds28ec20.specs.Map.{closedToCopying, controlAddress, held, isControlOrLock, isData, isReadOnly, mark, onlyFalls}
+use Rattle.line.specs.Bridge.{bitAt}
 use Rattle.line.specs.Event.{standingOf, answered}
 use Rattle.line.specs.Layout.{capped, imagesAsked, padsAsked}
 use Rattle.packed.specs.Packed.{isRecord, packed, putRecord, putTable, sameBytes, tableFrom, unpacked}
@@ -318,6 +319,11 @@ line-images-asked n cs = one-answer (imagesAsked n cs)
 
 pub line-pads-asked : (n : ℕ) (cs : List Chip) → Settled (padsAsked n cs)
 line-pads-asked n cs = one-answer (padsAsked n cs)
+
+pub line-bit-at : (c : Chip) (image pad : ℕ) (ms ss : List ℕ) → Settled (bitAt c image pad ms ss)
+line-bit-at c image pad ms ss = one-answer (bitAt c image pad ms ss)
+
+-- lent; `lent::record::sends`, `reset` and `set_levels` have the contracts of the functions of their names in chip
 
 -- packed
 

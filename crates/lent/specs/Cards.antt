@@ -144,6 +144,14 @@ capped-fits places = go (ltb places 16) refl
     go true e = omega arith
     go false e = let h = ltb-false places 16 e in omega arith
 
+-- a card gives no more chips than there are places
+pub read-fits : (s : List ℕ) (places : ℕ) (ds : List Chip) → readFrom (capped places) s 0 ≡ all ds → length ds ≤ places
+unfolding Shown
+read-fits s places ds e =
+    let l = shown-read (capped places) s 0 ds e .0 in
+    let m = capped-fits places in
+    omega arith
+
 -- a card that is refused, and one that is not
 abbrev chipsSaid : Carded → ℕ
 chipsSaid (chips n) = n
@@ -172,10 +180,7 @@ set-up-read : (s : List ℕ) (cs : List Chip) (a : CardAnswer) (q : Read) → re
 unfolding Shown
 set-up-read s cs a (none r at) e h = filled-none s cs a r at h
 set-up-read s cs a (all ds) e h =
-    let g = shown-read (capped (length cs)) s 0 ds e in
-    let l = g .0 in
-    let m = capped-fits (length cs) in
-    filled-all s cs ds a h (omega arith) (g .1)
+    filled-all s cs ds a h (read-fits s (length cs) ds e) (shown-read (capped (length cs)) s 0 ds e .1)
 
 pub set-up-is : (s : List ℕ) (cs ds : List Chip) (a : CardAnswer) → carded a ≡ readAnswer (readFrom (capped (length cs)) s 0) → ds ≡ fills s (length cs) 0 (fillFor a) cs
     → (carded a ≡ setUpOf (length cs) s 0 cs .answer) × (ds ≡ setUpOf (length cs) s 0 cs .table)
