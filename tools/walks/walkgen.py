@@ -1,7 +1,10 @@
 #!/usr/bin/env python3
-"""Writes crates/CRATE/proofs/FN/Proof.antt: the walk of a straight-line function over `&mut S`, `&mut [T]`, `&[T]` and plain values that calls covered (or walked) functions.
-It reads the MIR (`rt mir CRATE`) and a description (a Python file, see walk_examples/fns.py), tracks the context, and prints every position.
-It proves nothing: `rt check` does. What it prints is an ordinary proof file, to be kept and edited."""
+"""walkgen.py DESCRIPTION [NAME..]: writes crates/CRATE/proofs/../Proof.antt for each walked function of a description.
+
+A walk goes through the MIR of a function (`rt mir CRATE`) statement by statement. `Walk` holds the context, the list of
+what is owned at a point (locals, what lies behind a reference, what is lent), and the steps written so far; each step
+names places of that list, so the generator's work is to keep the list as the step leaves it. README.md beside this file
+says what a description holds and what a walked function may be. Run it from the root of the repository."""
 import subprocess, sys, re, os
 
 # ---------------------------------------------------------------- MIR
@@ -270,8 +273,8 @@ def generate(crate, repo, d, fns, mirs):
         for z in re.findall(r"tyNamed', \['pair', '\"(?:\w+::)*(\w+)\"'", str(t)):
             if z not in decl: decl.append(z)
     o = []
-    o.append(f'-- `{full(crate, d["name"])}` meets its contract: a walk of its MIR, by hand (the positions by tools/walkgen.py). Each record behind a `&mut` is opened, copied out, and stored to, and each `&mut [T]` is lent again for a call.')
-    o.append('-- Nothing here names a field of a record behind a reference. Assumes nothing.')
+    o.append(f'-- `{full(crate, d["name"])}` meets its contract: a walk of its MIR, written by tools/walks.')
+    o.append('-- Each record behind a reference is copied out whole and stored whole, no field of it is named, and a slice is lent again for each call.')
     o.append(USES.rstrip())
     for k in decl: o.append(f'use {declared(crate, k)[0]}.{{{k}}}')
     for u in d.get('uses', []): o.append(f'use {u}')

@@ -1,5 +1,5 @@
--- `lent::all_act` meets its contract: a walk of its MIR, by hand (the positions by tools/walkgen.py). Each record behind a `&mut` is opened, copied out, and stored to, and each `&mut [T]` is lent again for a call.
--- Nothing here names a field of a record behind a reference. Assumes nothing.
+-- `lent::all_act` meets its contract: a walk of its MIR, written by tools/walks.
+-- Each record behind a reference is copied out whole and stored whole, no field of it is named, and a slice is lent again for each call.
 use mathlib.Core.Path.{_≡_, refl, sym, _∙_, ap, subst}
 use Prim.Native.Nat.{ℕ, zero, suc, _<_, _+_, _*_, _^_}
 use native.Mathlib.Omega.{arith}
@@ -140,7 +140,7 @@ module _ {M : Type 1} (𝓤 : URA M) (H : Heap 𝓤) (A : Atoms 𝓤) (W : Given
     Again = Wp 𝓤 H C Λ En mir.turn-1 (afterTurn 𝓤 H (Λ mir.turn-1 En Left) Left)
 
     -- the turn that leaves the loop, and the rest of the body
-    ends : (i : ℕ) (table′ : List Chip) (spot : Spot) (ms′ : List ℕ) (ss′ : List ℕ) (table-len : length table′ ≡ length table) (spot-is : Is Spot-row.the-row spot ((LL.vals Spot-row.the-type Spot-laws.the-laws) spot)) (ms-len : length ms′ ≡ length ms) (ss-len : length ss′ ≡ length ss) → i + zero ≡ length table → (acts deed zero i spot table′ ms′ ss′ ≡ acts deed (length table) 0 firstSpot table ms ss) → ent 𝓤 (⋆ 𝓤 H A (At i table′ spot ms′ ss′)) Again
+    ends : (i : ℕ) (table′ : List Chip) (spot : Spot) (ms′ : List ℕ) (ss′ : List ℕ) (table-len : length table′ ≡ length table) (spot-is : Is Spot-row.the-row spot ((LL.vals Spot-row.the-type Spot-laws.the-laws) spot)) (ms-len : length ms′ ≡ length ms) (ss-len : length ss′ ≡ length ss) → i + zero ≡ (length table) → (acts deed zero i spot table′ ms′ ss′ ≡ acts deed (length table) 0 firstSpot table ms ss) → ent 𝓤 (⋆ 𝓤 H A (At i table′ spot ms′ ss′)) Again
     unfolding afterTurn
     ends i table′ spot ms′ ss′ table-len spot-is ms-len ss-len left inv =
         qed W (At i table′ spot ms′ ss′) ∵ exec ! C Λ En mir.turn-1 (anyQ (afterTurn 𝓤 H (Λ mir.turn-1 En Left) Left)) $
@@ -157,7 +157,7 @@ module _ {M : Type 1} (𝓤 : URA M) (H : Heap 𝓤) (A : Atoms 𝓤) (W : Given
         by ! (exits tt refl table′ table-len ms′ ms-len ss′ ss-len (inv))
 
     -- a turn: what is to run next is shown of what it leaves
-    more : (k i : ℕ) (table′ : List Chip) (spot : Spot) (ms′ : List ℕ) (ss′ : List ℕ) (table-len : length table′ ≡ length table) (spot-is : Is Spot-row.the-row spot ((LL.vals Spot-row.the-type Spot-laws.the-laws) spot)) (ms-len : length ms′ ≡ length ms) (ss-len : length ss′ ≡ length ss) → i < length table → (acts deed (suc k) i spot table′ ms′ ss′ ≡ acts deed (length table) 0 firstSpot table ms ss) → ((table′ : List Chip) (spot : Spot) (ms′ : List ℕ) (ss′ : List ℕ) (table-len : length table′ ≡ length table) (spot-is : Is Spot-row.the-row spot ((LL.vals Spot-row.the-type Spot-laws.the-laws) spot)) (ms-len : length ms′ ≡ length ms) (ss-len : length ss′ ≡ length ss) → (acts deed k (suc i) spot table′ ms′ ss′ ≡ acts deed (length table) 0 firstSpot table ms ss) → ent 𝓤 (⋆ 𝓤 H A (At (suc i) table′ spot ms′ ss′)) (Λ mir.turn-1 En Left)) → ent 𝓤 (⋆ 𝓤 H A (At i table′ spot ms′ ss′)) Again
+    more : (k i : ℕ) (table′ : List Chip) (spot : Spot) (ms′ : List ℕ) (ss′ : List ℕ) (table-len : length table′ ≡ length table) (spot-is : Is Spot-row.the-row spot ((LL.vals Spot-row.the-type Spot-laws.the-laws) spot)) (ms-len : length ms′ ≡ length ms) (ss-len : length ss′ ≡ length ss) → i < (length table) → (acts deed (suc k) i spot table′ ms′ ss′ ≡ acts deed (length table) 0 firstSpot table ms ss) → ((table′ : List Chip) (spot : Spot) (ms′ : List ℕ) (ss′ : List ℕ) (table-len : length table′ ≡ length table) (spot-is : Is Spot-row.the-row spot ((LL.vals Spot-row.the-type Spot-laws.the-laws) spot)) (ms-len : length ms′ ≡ length ms) (ss-len : length ss′ ≡ length ss) → (acts deed k (suc i) spot table′ ms′ ss′ ≡ acts deed (length table) 0 firstSpot table ms ss) → ent 𝓤 (⋆ 𝓤 H A (At (suc i) table′ spot ms′ ss′)) (Λ mir.turn-1 En Left)) → ent 𝓤 (⋆ 𝓤 H A (At i table′ spot ms′ ss′)) Again
     unfolding afterTurn
     more k i table′ spot ms′ ss′ table-len spot-is ms-len ss-len small inv next =
         qed W (At i table′ spot ms′ ss′) ∵ exec ! C Λ En mir.turn-1 (anyQ (afterTurn 𝓤 H (Λ mir.turn-1 En Left) Left)) $
@@ -211,7 +211,7 @@ module _ {M : Type 1} (𝓤 : URA M) (H : Heap 𝓤) (A : Atoms 𝓤) (W : Given
         by ! (next (set table′ i (r .chip)) (r .spot) (ws .1 .1 .1 .0) (ws .1 .1 .1 .1 .0) (length-set table′ i (r .chip) ∙ table-len) (LL.owed Turned-row.the-type Turned-laws.the-laws r _ (subst (λ (us : List Val). Is Turned-row.the-row r us) ((LL.tells Turned-row.the-type Turned-laws.the-laws) r _ is) is) .1 .0) (ms-as-long ∙ ms-len) (ss-as-long ∙ ss-len) (ap (λ (t : Turn). acts deed k (suc i) (t .spot) (set table′ i (t .chip)) (t .images) (t .pads)) e ∙ inv))))))))))))))
 
     -- the loop from index i on, where k elements are left
-    loop-at : (k i : ℕ) (table′ : List Chip) (spot : Spot) (ms′ : List ℕ) (ss′ : List ℕ) (table-len : length table′ ≡ length table) (spot-is : Is Spot-row.the-row spot ((LL.vals Spot-row.the-type Spot-laws.the-laws) spot)) (ms-len : length ms′ ≡ length ms) (ss-len : length ss′ ≡ length ss) → i + k ≡ length table → (acts deed k i spot table′ ms′ ss′ ≡ acts deed (length table) 0 firstSpot table ms ss) → ent 𝓤 (⋆ 𝓤 H A (At i table′ spot ms′ ss′)) (Λ mir.turn-1 En Left)
+    loop-at : (k i : ℕ) (table′ : List Chip) (spot : Spot) (ms′ : List ℕ) (ss′ : List ℕ) (table-len : length table′ ≡ length table) (spot-is : Is Spot-row.the-row spot ((LL.vals Spot-row.the-type Spot-laws.the-laws) spot)) (ms-len : length ms′ ≡ length ms) (ss-len : length ss′ ≡ length ss) → i + k ≡ (length table) → (acts deed k i spot table′ ms′ ss′ ≡ acts deed (length table) 0 firstSpot table ms ss) → ent 𝓤 (⋆ 𝓤 H A (At i table′ spot ms′ ss′)) (Λ mir.turn-1 En Left)
     loop-at zero i table′ spot ms′ ss′ table-len spot-is ms-len ss-len left inv = via 𝓤 Again (ends i table′ spot ms′ ss′ table-len spot-is ms-len ss-len left inv) (unroll 𝓤 H (W .laws) 𝓣 En mir.turn-1 Left (Λ mir.turn-1 En Left) (id⊢ 𝓤 _))
     loop-at (suc k) i table′ spot ms′ ss′ table-len spot-is ms-len ss-len left inv = via 𝓤 Again (more k i table′ spot ms′ ss′ table-len spot-is ms-len ss-len (within i k (length table) left) inv (λ table′₁ spot₁ ms′₁ ss′₁ table-len₁ spot-is₁ ms-len₁ ss-len₁ inv₁. loop-at k (suc i) table′₁ spot₁ ms′₁ ss′₁ table-len₁ spot-is₁ ms-len₁ ss-len₁ (further i k (length table) left) inv₁)) (unroll 𝓤 H (W .laws) 𝓣 En mir.turn-1 Left (Λ mir.turn-1 En Left) (id⊢ 𝓤 _))
 

@@ -1,5 +1,5 @@
--- `lent::line_value` meets its contract: a walk of its MIR, by hand (the positions by tools/walkgen.py). Each record behind a `&mut` is opened, copied out, and stored to, and each `&mut [T]` is lent again for a call.
--- Nothing here names a field of a record behind a reference. Assumes nothing.
+-- `lent::line_value` meets its contract: a walk of its MIR, written by tools/walks.
+-- Each record behind a reference is copied out whole and stored whole, no field of it is named, and a slice is lent again for each call.
 use mathlib.Core.Path.{_≡_, refl, sym, _∙_, ap, subst}
 use Prim.Native.Nat.{ℕ, zero, suc, _<_, _+_, _*_, _^_}
 use native.Mathlib.Omega.{arith}
@@ -130,7 +130,7 @@ module _ {M : Type 1} (𝓤 : URA M) (H : Heap 𝓤) (A : Atoms 𝓤) (W : Given
     Again = Wp 𝓤 H C Λ En mir.turn-1 (afterTurn 𝓤 H (Λ mir.turn-1 En Left) Left)
 
     -- the turn that leaves the loop, and the rest of the body
-    ends : (i : ℕ) (z-table : Share) (sum : Sum) (sum-is : Is Sum-row.the-row sum ((LL.vals Sum-row.the-type Sum-laws.the-laws) sum)) → i + zero ≡ length table → (sums zero i table sum ms ss ≡ sums (length table) 0 table (firstSum host) ms ss) → ent 𝓤 (⋆ 𝓤 H A (At i z-table sum)) Again
+    ends : (i : ℕ) (z-table : Share) (sum : Sum) (sum-is : Is Sum-row.the-row sum ((LL.vals Sum-row.the-type Sum-laws.the-laws) sum)) → i + zero ≡ (length table) → (sums zero i table sum ms ss ≡ sums (length table) 0 table (firstSum host) ms ss) → ent 𝓤 (⋆ 𝓤 H A (At i z-table sum)) Again
     unfolding afterTurn
     ends i z-table sum sum-is left inv =
         qed W (At i z-table sum) ∵ exec ! C Λ En mir.turn-1 (anyQ (afterTurn 𝓤 H (Λ mir.turn-1 En Left) Left)) $
@@ -147,7 +147,7 @@ module _ {M : Type 1} (𝓤 : URA M) (H : Heap 𝓤) (A : Atoms 𝓤) (W : Given
         by ! (exits (sum .value) (LL.owed Sum-row.the-type Sum-laws.the-laws sum _ sum-is .0) (inv))
 
     -- a turn: what is to run next is shown of what it leaves
-    more : (k i : ℕ) (z-table : Share) (sum : Sum) (sum-is : Is Sum-row.the-row sum ((LL.vals Sum-row.the-type Sum-laws.the-laws) sum)) → i < length table → (sums (suc k) i table sum ms ss ≡ sums (length table) 0 table (firstSum host) ms ss) → ((z-table : Share) (sum : Sum) (sum-is : Is Sum-row.the-row sum ((LL.vals Sum-row.the-type Sum-laws.the-laws) sum)) → (sums k (suc i) table sum ms ss ≡ sums (length table) 0 table (firstSum host) ms ss) → ent 𝓤 (⋆ 𝓤 H A (At (suc i) z-table sum)) (Λ mir.turn-1 En Left)) → ent 𝓤 (⋆ 𝓤 H A (At i z-table sum)) Again
+    more : (k i : ℕ) (z-table : Share) (sum : Sum) (sum-is : Is Sum-row.the-row sum ((LL.vals Sum-row.the-type Sum-laws.the-laws) sum)) → i < (length table) → (sums (suc k) i table sum ms ss ≡ sums (length table) 0 table (firstSum host) ms ss) → ((z-table : Share) (sum : Sum) (sum-is : Is Sum-row.the-row sum ((LL.vals Sum-row.the-type Sum-laws.the-laws) sum)) → (sums k (suc i) table sum ms ss ≡ sums (length table) 0 table (firstSum host) ms ss) → ent 𝓤 (⋆ 𝓤 H A (At (suc i) z-table sum)) (Λ mir.turn-1 En Left)) → ent 𝓤 (⋆ 𝓤 H A (At i z-table sum)) Again
     unfolding afterTurn
     more k i z-table sum sum-is small inv next =
         qed W (At i z-table sum) ∵ exec ! C Λ En mir.turn-1 (anyQ (afterTurn 𝓤 H (Λ mir.turn-1 En Left) Left)) $
@@ -185,7 +185,7 @@ module _ {M : Type 1} (𝓤 : URA M) (H : Heap 𝓤) (A : Atoms 𝓤) (W : Given
         by ! (next z-table r (subst (λ (us : List Val). Is Sum-row.the-row r us) ((LL.tells Sum-row.the-type Sum-laws.the-laws) r _ is) is) (ap (λ (s : Sum). sums k (suc i) table s ms ss) e ∙ inv))))))))
 
     -- the loop from index i on, where k elements are left
-    loop-at : (k i : ℕ) (z-table : Share) (sum : Sum) (sum-is : Is Sum-row.the-row sum ((LL.vals Sum-row.the-type Sum-laws.the-laws) sum)) → i + k ≡ length table → (sums k i table sum ms ss ≡ sums (length table) 0 table (firstSum host) ms ss) → ent 𝓤 (⋆ 𝓤 H A (At i z-table sum)) (Λ mir.turn-1 En Left)
+    loop-at : (k i : ℕ) (z-table : Share) (sum : Sum) (sum-is : Is Sum-row.the-row sum ((LL.vals Sum-row.the-type Sum-laws.the-laws) sum)) → i + k ≡ (length table) → (sums k i table sum ms ss ≡ sums (length table) 0 table (firstSum host) ms ss) → ent 𝓤 (⋆ 𝓤 H A (At i z-table sum)) (Λ mir.turn-1 En Left)
     loop-at zero i z-table sum sum-is left inv = via 𝓤 Again (ends i z-table sum sum-is left inv) (unroll 𝓤 H (W .laws) 𝓣 En mir.turn-1 Left (Λ mir.turn-1 En Left) (id⊢ 𝓤 _))
     loop-at (suc k) i z-table sum sum-is left inv = via 𝓤 Again (more k i z-table sum sum-is (within i k (length table) left) inv (λ z-table₁ sum₁ sum-is₁ inv₁. loop-at k (suc i) z-table₁ sum₁ sum-is₁ (further i k (length table) left) inv₁)) (unroll 𝓤 H (W .laws) 𝓣 En mir.turn-1 Left (Λ mir.turn-1 En Left) (id⊢ 𝓤 _))
 

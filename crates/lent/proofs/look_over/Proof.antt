@@ -1,5 +1,5 @@
--- `lent::look_over` meets its contract: a walk of its MIR, by hand (the positions by tools/walkgen.py). Each record behind a `&mut` is opened, copied out, and stored to, and each `&mut [T]` is lent again for a call.
--- Nothing here names a field of a record behind a reference. Assumes nothing.
+-- `lent::look_over` meets its contract: a walk of its MIR, written by tools/walks.
+-- Each record behind a reference is copied out whole and stored whole, no field of it is named, and a slice is lent again for each call.
 use mathlib.Core.Path.{_≡_, refl, sym, _∙_, ap, subst}
 use Prim.Native.Nat.{ℕ, zero, suc, _<_, _+_, _*_, _^_}
 use native.Mathlib.Omega.{arith}
@@ -131,7 +131,7 @@ module _ {M : Type 1} (𝓤 : URA M) (H : Heap 𝓤) (A : Atoms 𝓤) (W : Given
     Again = Wp 𝓤 H C Λ En mir.turn-1 (afterTurn 𝓤 H (Λ mir.turn-1 En Left) Left)
 
     -- the turn that leaves the loop, and the rest of the body
-    ends : (i : ℕ) (z-table : Share) (seen : Look) (seen-is : Is Look-row.the-row seen ((LL.vals Look-row.the-type Look-laws.the-laws) seen)) → i + zero ≡ length table → (walk-fold noChip (lookAt chip) table zero i seen ≡ lookedOver chip table firstLook) → ent 𝓤 (⋆ 𝓤 H A (At i z-table seen)) Again
+    ends : (i : ℕ) (z-table : Share) (seen : Look) (seen-is : Is Look-row.the-row seen ((LL.vals Look-row.the-type Look-laws.the-laws) seen)) → i + zero ≡ (length table) → (walk-fold noChip (lookAt chip) table zero i seen ≡ lookedOver chip table firstLook) → ent 𝓤 (⋆ 𝓤 H A (At i z-table seen)) Again
     unfolding afterTurn
     ends i z-table seen seen-is left inv =
         qed W (At i z-table seen) ∵ exec ! C Λ En mir.turn-1 (anyQ (afterTurn 𝓤 H (Λ mir.turn-1 En Left) Left)) $
@@ -147,7 +147,7 @@ module _ {M : Type 1} (𝓤 : URA M) (H : Heap 𝓤) (A : Atoms 𝓤) (W : Given
         move ! (2 ∷ 3 ∷ []) $ free1 ! $ free0 ! $ keep ! (0 ∷ 1 ∷ []) $ by ! (exits seen seen-is (inv))
 
     -- a turn: what is to run next is shown of what it leaves
-    more : (k i : ℕ) (z-table : Share) (seen : Look) (seen-is : Is Look-row.the-row seen ((LL.vals Look-row.the-type Look-laws.the-laws) seen)) → i < length table → (walk-fold noChip (lookAt chip) table (suc k) i seen ≡ lookedOver chip table firstLook) → ((z-table : Share) (seen : Look) (seen-is : Is Look-row.the-row seen ((LL.vals Look-row.the-type Look-laws.the-laws) seen)) → (walk-fold noChip (lookAt chip) table k (suc i) seen ≡ lookedOver chip table firstLook) → ent 𝓤 (⋆ 𝓤 H A (At (suc i) z-table seen)) (Λ mir.turn-1 En Left)) → ent 𝓤 (⋆ 𝓤 H A (At i z-table seen)) Again
+    more : (k i : ℕ) (z-table : Share) (seen : Look) (seen-is : Is Look-row.the-row seen ((LL.vals Look-row.the-type Look-laws.the-laws) seen)) → i < (length table) → (walk-fold noChip (lookAt chip) table (suc k) i seen ≡ lookedOver chip table firstLook) → ((z-table : Share) (seen : Look) (seen-is : Is Look-row.the-row seen ((LL.vals Look-row.the-type Look-laws.the-laws) seen)) → (walk-fold noChip (lookAt chip) table k (suc i) seen ≡ lookedOver chip table firstLook) → ent 𝓤 (⋆ 𝓤 H A (At (suc i) z-table seen)) (Λ mir.turn-1 En Left)) → ent 𝓤 (⋆ 𝓤 H A (At i z-table seen)) Again
     unfolding afterTurn
     more k i z-table seen seen-is small inv next =
         qed W (At i z-table seen) ∵ exec ! C Λ En mir.turn-1 (anyQ (afterTurn 𝓤 H (Λ mir.turn-1 En Left) Left)) $
@@ -181,7 +181,7 @@ module _ {M : Type 1} (𝓤 : URA M) (H : Heap 𝓤) (A : Atoms 𝓤) (W : Given
         by ! (next z-table r (subst (λ (us : List Val). Is Look-row.the-row r us) ((LL.tells Look-row.the-type Look-laws.the-laws) r _ is) is) (ap (λ (l : Look). walk-fold noChip (lookAt chip) table k (suc i) l) e ∙ inv))))))))
 
     -- the loop from index i on, where k elements are left
-    loop-at : (k i : ℕ) (z-table : Share) (seen : Look) (seen-is : Is Look-row.the-row seen ((LL.vals Look-row.the-type Look-laws.the-laws) seen)) → i + k ≡ length table → (walk-fold noChip (lookAt chip) table k i seen ≡ lookedOver chip table firstLook) → ent 𝓤 (⋆ 𝓤 H A (At i z-table seen)) (Λ mir.turn-1 En Left)
+    loop-at : (k i : ℕ) (z-table : Share) (seen : Look) (seen-is : Is Look-row.the-row seen ((LL.vals Look-row.the-type Look-laws.the-laws) seen)) → i + k ≡ (length table) → (walk-fold noChip (lookAt chip) table k i seen ≡ lookedOver chip table firstLook) → ent 𝓤 (⋆ 𝓤 H A (At i z-table seen)) (Λ mir.turn-1 En Left)
     loop-at zero i z-table seen seen-is left inv = via 𝓤 Again (ends i z-table seen seen-is left inv) (unroll 𝓤 H (W .laws) 𝓣 En mir.turn-1 Left (Λ mir.turn-1 En Left) (id⊢ 𝓤 _))
     loop-at (suc k) i z-table seen seen-is left inv = via 𝓤 Again (more k i z-table seen seen-is (within i k (length table) left) inv (λ z-table₁ seen₁ seen-is₁ inv₁. loop-at k (suc i) z-table₁ seen₁ seen-is₁ (further i k (length table) left) inv₁)) (unroll 𝓤 H (W .laws) 𝓣 En mir.turn-1 Left (Λ mir.turn-1 En Left) (id⊢ 𝓤 _))
 
