@@ -49,6 +49,7 @@ atTurn m t = record { turn = t; want = m .want; path = m .path; last = m .last; 
 unfoldable pub oneMore : ℕ → ℕ
 oneMore n = pick (ltb n 0xFFFFFFFFFFFFFFFF) (n + 1) n
 
+-- the machine after a slot, and after a reset, was put on the line
 unfoldable pub slotCounted : Machine → Machine
 slotCounted m = record { turn = m .turn; want = m .want; path = m .path; last = m .last; places = m .places; listed = m .listed; resets = m .resets; slots = oneMore (m .slots) }
 
@@ -162,5 +163,6 @@ pub record Tale : Type 0 where
 abbrev pub tale : Searched → ℕ → ℕ → ℕ → Tale
 tale a n r s = record { answer = a; listed = n; resets = r; slots = s }
 
+-- complete, or refusal 4
 abbrev pub tellsOf : Machine → Tale
 tellsOf m = tale (completeOr4 (completeAt (m .turn))) (m .listed) (m .resets) (m .slots)

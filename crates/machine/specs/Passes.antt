@@ -22,10 +22,12 @@ use Rattle.machine.specs.declared.Ask.the-variants.{Put}
 use Rattle.machine.specs.Machine.{stand, asksOf, hearsOf, oneMore, slotCounted, resetCounted, atTurn, afterReset, afterCommand, writes, parts, afterParting, afterSecond, withOne, longerBy, wanted, doneWith, onceMore, afterPass, countPut, passed, moved, afterWrite}
 use Rattle.machine.specs.Plays.{most, filled, at, Plays, plays-done, plays-as, plays-less, plays-ask}
 
+-- a count that has not come to its end
 one-more : (n : ℕ) → n < most → oneMore n ≡ n + 1
 unfolding oneMore
 one-more n h = pick-true _ _ _ (lt-ltb n most h)
 
+-- a slot counts as one slot, whatever its bit
 slot-resets : (b : Bool) → resetsOf (slotEvent b) ≡ 0
 unfolding pick
 slot-resets true = refl
@@ -107,6 +109,7 @@ module _ (W : Wire) (list₀ : List ℕ) (places : ℕ) (room : places ≤ lengt
         let m = at (Second k a) want path last places out r s in
         pick a (pick b (atTurn m (Done true)) (writes m k true)) (pick b (writes m k false) (pick t (writes m k true) (parts m k)))
 
+    -- what the host has left to play then
     rest : Bool → Bool → Bool → Host Listed
     rest a b t =
         bind (pick (both a b) (done (end path last false))
@@ -121,6 +124,7 @@ module _ (W : Wire) (list₀ : List ℕ) (places : ℕ) (room : places ≤ lengt
     chooses false false false =
         plays-as W list₀ (λ r s. ap (λ (b : Bool). at (Write k false) want path (pick b (k + 1) 0) places out r s) (lt-ltb k 64 h)) refl (after false (k + 1) (omega arith))
 
+    -- the two reads
     plays-reads : Plays W list₀ (2 + n) (at (First k) want path last places out) list (bind (pass (suc j) k want path last) g)
     unfolding bind pass slotCounted afterSecond afterParting chosen rest
     plays-reads =
@@ -143,6 +147,7 @@ module _ (W : Wire) (list₀ : List ℕ) (places : ℕ) (room : places ≤ lengt
     Written j k path = (d : Bool) (m : ℕ) → m ≤ k + 1
         → Plays W list₀ (3 * j + 1 + n) (at (Write k d) want path m places out) (filled out list₀) (ask (slotEvent d) λ z. bind (pass j (k + 1) want (put d k path) m) g)
 
+    -- one place, with j more to come
     plays-place : (j k path last : ℕ) → j + k ≡ 63 → last ≤ k → Written j k path
         → Plays W list₀ (3 * j + 3 + n) (at (First k) want path last places out) (filled out list₀) (bind (pass (suc j) k want path last) g)
     plays-place j k path last e i after =
@@ -165,6 +170,7 @@ module _ (W : Wire) (list₀ : List ℕ) (places : ℕ) (room : places ≤ lengt
         (λ r s x a. rw (one-more s a, pick-true (ltb k 63) _ _ (lt-ltb k 63 (omega arith)), longer-put d k path (omega arith) low))
         (λ x. plays-place j (k + 1) (put d k path) m (omega arith) i (plays-write j (k + 1) (put d k path) (omega arith) (put-low d k path low)))
 
+    -- all 64
     plays-pass : Plays W list₀ (192 + n) (at (First 0) want 0 0 places out) (filled out list₀) (bind (pass 64 0 want 0 0) g)
     plays-pass = plays-place 63 0 0 0 (omega arith) (omega arith) (plays-write 63 0 0 (omega arith) (omega arith))
 
@@ -178,14 +184,15 @@ module _ (W : Wire) (list₀ : List ℕ) (places : ℕ) (room : places ≤ lengt
         (plays-less W list₀ (plays-done W list₀ c want path last places (out ++ (p ∷ []))) (omega arith))
 
     -- a parting is left: the next pass, or no place for it
-    plays-parted : (t : Turn) (q p last : ℕ) → (last ≡ 0 → ⊥) → last ≤ 64
-        → Plays W list₀ b (λ r s. pick (ltb (length out + 1) places) (onceMore (at t want q last places out r s) p (length out + 1)) (doneWith (at t want q last places out r s) (length out + 1) false))
+    abbrev Parted : Turn → ℕ → ℕ → ℕ → Type 0
+    Parted t q p last =
+        Plays W list₀ b (λ r s. pick (ltb (length out + 1) places) (onceMore (at t want q last places out r s) p (length out + 1)) (doneWith (at t want q last places out r s) (length out + 1) false))
         (filled (out ++ (p ∷ [])) list₀) (pick (eqb n 0) (done (listed (out ++ (p ∷ [])) false)) (passes n (upTo (last - 1) p) (out ++ (p ∷ []))))
+
+    plays-parted : (t : Turn) (q p last : ℕ) → (last ≡ 0 → ⊥) → last ≤ 64 → Parted t q p last
     plays-parted t q p last some low = go n refl
       where
-        go : (k : ℕ) → n ≡ k
-            → Plays W list₀ b (λ r s. pick (ltb (length out + 1) places) (onceMore (at t want q last places out r s) p (length out + 1)) (doneWith (at t want q last places out r s) (length out + 1) false))
-            (filled (out ++ (p ∷ [])) list₀) (pick (eqb n 0) (done (listed (out ++ (p ∷ [])) false)) (passes n (upTo (last - 1) p) (out ++ (p ∷ []))))
+        go : (k : ℕ) → n ≡ k → Parted t q p last
         go zero e =
             plays-as W list₀ (λ r s. pick-false _ _ _ (le-ltb (length out + 1) places (omega arith))) (pick-true _ _ _ (eq-eqb n 0 e)) (plays-last false q last p)
         go (suc k) e =
@@ -195,6 +202,7 @@ module _ (W : Wire) (list₀ : List ℕ) (places : ℕ) (room : places ≤ lengt
             (pick-false _ _ _ (ne-eqb n 0 (λ z. omega arith)))
             (next (upTo (last - 1) p) (out ++ (p ∷ [])) (rw (snoc-length out p) left))
 
+    -- by whether a parting is left
     plays-onward : (t : Turn) (q p last : ℕ) → last ≤ 64
         → Plays W list₀ b (λ r s. afterPass (at t want q last places out r s) p (length out + 1)) (filled (out ++ (p ∷ [])) list₀) (goOn n out (λ w o. passes n w o) (end p last true))
     unfolding afterPass

@@ -42,6 +42,7 @@ module _ (W : Wire) (list₀ : List ℕ) where
   rests zero c want path last places out r s list l = refl
   rests (suc f) c want path last places out r s list l = rests f c want path last places out r s list l
 
+  -- a host that is done
   pub plays-done : (c : Bool) (want path last places : ℕ) (out : List ℕ) → Plays 0 (at (Done c) want path last places out) (filled out list₀) (done (listed out c))
   unfolding play
   plays-done c want path last places out = record {

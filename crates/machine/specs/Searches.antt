@@ -29,6 +29,7 @@ capped-few places = go (ltb places 16) refl
     go true e = let h = ltb-true places 16 e in (omega arith, omega arith)
     go false e = let h = ltb-false places 16 e in (omega arith, omega arith)
 
+-- on every wire, the machine shows what the host of the search comes to
 pub machine-plays : (W : Wire) (list : List ℕ) (l : W .L) → seen (run W turns (beginOf (length list)) list l) ≡ seenOf list (play W (searchHost (length list)) l)
 unfolding beginOf
 machine-plays W list l =
@@ -42,6 +43,7 @@ shown r =
     outcome (tellsOf (r .stand .machine) .answer) (tellsOf (r .stand .machine) .listed) (r .stand .list)
     (tellsOf (r .stand .machine) .resets) (tellsOf (r .stand .machine) .slots) (r .line)
 
+-- on the line's own events, it shows what the search is said to answer
 pub machine-searches : (list : List ℕ) (l : Attached) → shown (run wire turns (beginOf (length list)) list l) ≡ fromPlayed list (play wire (searchHost (length list)) l)
 machine-searches list l =
     ap (λ (s : Seen Attached). outcome (completeOr4 (s .complete)) (s .number) (s .list) (s .resets) (s .slots) (s .line)) (machine-plays wire list l)
