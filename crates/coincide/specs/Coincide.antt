@@ -10,6 +10,7 @@ use Rattle.chip.specs.Chip.{Whole, whole, takesOf, powerOnChip, powerOnPad}
 use Rattle.chip.specs.declared.Chip.{Chip}
 use Rattle.ds28ec20.specs.Image.{Bytes, bytes, done}
 use Rattle.scratchpad.specs.declared.Deed.{Deed}
+use Rattle.line.specs.Bridge.{actAt}
 use Rattle.line.specs.Layout.{Lent, lent}
 use Rattle.line.specs.Event.{Answered, bit, refused, answered, Outcome, outcome, eventOf}
 use Rattle.line.specs.declared.Event.{Event}
@@ -18,7 +19,9 @@ use Rattle.line.specs.declared.Answer.the-variants.{Bit, OutOfRange, WrongSize,
 use Rattle.card.specs.Card.{Carded, chips, refused as refusedAt, carded, SetUp, setUp, setUpOf}
 use Rattle.card.specs.declared.CardAnswer.{CardAnswer}
 use Rattle.card.specs.declared.CardAnswer.the-variants.{Chips, TooMany, UnknownKind, WrongLength}
-use Rattle.search.specs.Search.{Searched, complete, refused as refusedBy, searched, Attached, attached, Search, outcome as found, searchOf}
+use Rattle.machine.specs.Machine.{Stand, stand, hearsOf, Tale, tale, tellsOf}
+use Rattle.machine.specs.declared.Machine.{Machine}
+use Rattle.search.specs.Search.{Searched, complete, refused as refusedBy, searched, completeOr4, Attached, attached, Search, outcome as found, searchOf}
 use Rattle.search.specs.declared.SearchAnswer.{SearchAnswer}
 use Rattle.toemsakun.specs.Library.{CardLeft, cardLeft, cardBytes, EventLeft, eventLeft, eventBytes, SearchLeft, searchLeft, searchBytes}
 use Rattle.search.specs.declared.SearchAnswer.the-variants as search
@@ -71,7 +74,7 @@ search-from search.OutOfRange = refl
 pub searched-once : (a b : SearchAnswer) → searched a ≡ searched b → a ≡ b
 searched-once a b e = sym (search-from a) ∙ ap searchFrom e ∙ search-from b
 
--- `take_event`: answer, table, images and scratchpads
+-- `line::take_event`, and `lent::take_event` where n is the number of places: answer, table, images and scratchpads
 pub take-event : (n : ℕ) (cs : List Chip) (e : Event) (ms ss : List ℕ) (a a′ : Answer) (m m′ : ℕ) (ds ds′ : List Chip) (is is′ ps ps′ : List ℕ)
     → outcome (answered a) m (lent ds is ps) ≡ eventOf n cs e ms ss → outcome (answered a′) m′ (lent ds′ is′ ps′) ≡ eventOf n cs e ms ss
     → (a ≡ a′) × (m ≡ m′) × (ds ≡ ds′) × (is ≡ is′) × (ps ≡ ps′)
@@ -84,7 +87,7 @@ take-event n cs e ms ss a a′ m m′ ds ds′ is is′ ps ps′ p q =
       ap (λ (o : Outcome). o .lent .pads) r,
     )
 
--- `set_up`: answer and table
+-- `card::set_up`: answer and table
 pub set-up : (places : ℕ) (s : List ℕ) (n : ℕ) (cs : List Chip) (a a′ : CardAnswer) (m m′ : ℕ) (ds ds′ : List Chip)
     → setUp (carded a) m ds ≡ setUpOf places s n cs → setUp (carded a′) m′ ds′ ≡ setUpOf places s n cs
     → (a ≡ a′) × (m ≡ m′) × (ds ≡ ds′)
@@ -95,7 +98,18 @@ set-up places s n cs a a′ m m′ ds ds′ p q =
       ap (λ (o : SetUp). o .table) r,
     )
 
--- `search_line`: answer, number of codes, list, counts, and the table with its buffers
+-- `lent::set_up`: answer and table
+pub lent-set-up : (a a′ : CardAnswer) (ds ds′ : List Chip) (o : SetUp)
+    → (carded a ≡ o .answer) × (ds ≡ o .table) → (carded a′ ≡ o .answer) × (ds′ ≡ o .table) → (a ≡ a′) × (ds ≡ ds′)
+lent-set-up a a′ ds ds′ o p q = (carded-once a a′ (one-answer (o .answer) _ _ (p .0) (q .0)), one-answer (o .table) _ _ (p .1) (q .1))
+
+-- `line::act_at`: record, images and scratchpads
+pub act-at : (f : Whole → Whole) (c : Chip) (image pad : ℕ) (ms ss : List ℕ) (d d′ : Chip) (is is′ ps ps′ : List ℕ)
+    → whole d is ps ≡ actAt f c image pad ms ss → whole d′ is′ ps′ ≡ actAt f c image pad ms ss → (d ≡ d′) × (is ≡ is′) × (ps ≡ ps′)
+act-at f c image pad ms ss d d′ is is′ ps ps′ p q =
+    let r = one-answer (actAt f c image pad ms ss) _ _ p q in (ap (λ (o : Whole). o .chip) r, ap (λ (o : Whole). o .memory) r, ap (λ (o : Whole). o .pad) r)
+
+-- `search::search_line`, and `lent::search_line` where the count is the number of places: answer, number of codes, list, counts, and the table with its buffers
 pub search-line : (list : List ℕ) (l : Attached) (a a′ : SearchAnswer) (n n′ : ℕ) (k k′ : List ℕ) (r r′ s s′ : ℕ) (t t′ : Attached)
     → found (searched a) n k r s t ≡ searchOf list l → found (searched a′) n′ k′ r′ s′ t′ ≡ searchOf list l
     → (a ≡ a′) × (n ≡ n′) × (k ≡ k′) × (r ≡ r′) × (s ≡ s′) × (t ≡ t′)
@@ -142,7 +156,27 @@ tk-search table list ms ss a a′ l l′ t t′ is is′ ps ps′ r r′ s s′ 
       ap (λ (k : SearchLeft). k .slots) z,
     )
 
--- `chip::takes`: record, memory and scratchpad
+-- `search::answer_of`
+pub answer-of : (b : Bool) (a a′ : SearchAnswer) → searched a ≡ completeOr4 b → searched a′ ≡ completeOr4 b → a ≡ a′
+answer-of b a a′ p q = searched-once a a′ (one-answer (completeOr4 b) _ _ p q)
+
+-- `machine::hears`: machine and list
+pub hears : (m : Machine) (x : Answered) (list : List ℕ) (n n′ : Machine) (k k′ : List ℕ) → stand n k ≡ hearsOf m x list → stand n′ k′ ≡ hearsOf m x list → (n ≡ n′) × (k ≡ k′)
+hears m x list n n′ k k′ p q =
+    let r = one-answer (hearsOf m x list) _ _ p q in (ap (λ (o : Stand). o .machine) r, ap (λ (o : Stand). o .list) r)
+
+-- `machine::tells`: answer, number of codes, counts
+pub tells : (m : Machine) (a a′ : SearchAnswer) (n n′ r r′ s s′ : ℕ) → tale (searched a) n r s ≡ tellsOf m → tale (searched a′) n′ r′ s′ ≡ tellsOf m
+    → (a ≡ a′) × (n ≡ n′) × (r ≡ r′) × (s ≡ s′)
+tells m a a′ n n′ r r′ s s′ p q =
+    let z = one-answer (tellsOf m) _ _ p q in (
+      searched-once a a′ (ap (λ (o : Tale). o .answer) z),
+      ap (λ (o : Tale). o .listed) z,
+      ap (λ (o : Tale). o .resets) z,
+      ap (λ (o : Tale). o .slots) z,
+    )
+
+-- `chip::takes` and `lent::record::takes`: record, memory and scratchpad
 pub takes : (v : Bool) (w : Whole) (c c′ : Chip) (m m′ s s′ : List ℕ) → whole c m s ≡ takesOf v w → whole c′ m′ s′ ≡ takesOf v w → (c ≡ c′) × (m ≡ m′) × (s ≡ s′)
 takes v w c c′ m m′ s s′ p q =
     let r = one-answer (takesOf v w) _ _ p q in (ap (λ (o : Whole). o .chip) r, ap (λ (o : Whole). o .memory) r, ap (λ (o : Whole). o .pad) r)
@@ -151,7 +185,7 @@ takes v w c c′ m m′ s s′ p q =
 pub carry-out : (m s : List ℕ) (d : Deed) (x x′ y y′ : List ℕ) → bytes x y ≡ done m s d → bytes x′ y′ ≡ done m s d → (x ≡ x′) × (y ≡ y′)
 carry-out m s d x x′ y y′ p q = let r = one-answer (done m s d) _ _ p q in (ap (λ (o : Bytes). o .memory) r, ap (λ (o : Bytes). o .pad) r)
 
--- two answers at once, as `chip::power_on` (record and scratchpad) and `terminal::no_chips` (number and places) give them
+-- two answers at once, as `chip::power_on` and `lent::record::power_on` (record and scratchpad) and `terminal::no_chips` (number and places) give them
 pub two-answers : {A B : Type 0} (s : A) (t : B) (x x′ : A) (y y′ : B) → (x ≡ s) × (y ≡ t) → (x′ ≡ s) × (y′ ≡ t) → (x ≡ x′) × (y ≡ y′)
 two-answers s t x x′ y y′ p q = (one-answer s x x′ (p .0) (q .0), one-answer t y y′ (p .1) (q .1))
 

@@ -24,11 +24,16 @@ use Rattle.crc.specs.Crc.{crcBit, crcByte, crcOf, poly16, poly8}
 use Rattle.ds2413.specs.Switch.{confirmed, pairBit, pairIn, phaseInRange, pinOf, shown, statusOf, statusSent, step as switchStep, switchFunction, switchInRange, switchPowerOn, switchSends, switchSetUp, switchTakes}
 use Rattle.ds28ec20.specs.Image.{closedIn, copied, fallsIn, heldIn, ruleAt, sightOf, spanOf}
 use Rattle.ds28ec20.specs.Map.{closedToCopying, controlAddress, held, isControlOrLock, isData, isReadOnly, mark, onlyFalls}
-use Rattle.line.specs.Event.{standingOf}
+use Rattle.line.specs.Bridge.{bitAt}
+use Rattle.line.specs.Event.{standingOf, answered}
 use Rattle.line.specs.Layout.{capped, imagesAsked, padsAsked}
 use Rattle.packed.specs.Packed.{isRecord, packed, putRecord, putTable, sameBytes, tableFrom, unpacked}
+use Rattle.line.specs.declared.Answer.{Answer}
+use Rattle.machine.specs.Machine.{asksOf, beginOf}
+use Rattle.machine.specs.declared.Machine.{Machine}
 use Rattle.records.specs.Records.{headAt}
 use Rattle.rom.specs.Rom.{commandBit, commandOf, matchBit, readBit, romInRange, romSends, romTakes, searchBit, searchSends}
+use Rattle.search.specs.Host.{heard}
 use Rattle.scratchpad.specs.Registers.{powerOnRegisters, ruleOfByte}
 use Rattle.scratchpad.specs.Scratchpad.{addressAtHand, inPage, memoryFunction, memoryInRange, memoryReset, memorySends, memoryTakes, offsetAtHand, registersInRange, step}
 use Rattle.toemsakun.specs.Library.{imagesBytes, padsBytes, tableSize}
@@ -315,6 +320,11 @@ line-images-asked n cs = one-answer (imagesAsked n cs)
 pub line-pads-asked : (n : ℕ) (cs : List Chip) → Settled (padsAsked n cs)
 line-pads-asked n cs = one-answer (padsAsked n cs)
 
+pub line-bit-at : (c : Chip) (image pad : ℕ) (ms ss : List ℕ) → Settled (bitAt c image pad ms ss)
+line-bit-at c image pad ms ss = one-answer (bitAt c image pad ms ss)
+
+-- lent; `lent::record::sends`, `reset` and `set_levels` have the contracts of the functions of their names in chip
+
 -- packed
 
 pub packed-pack : (c : Chip) → Settled (packed c)
@@ -348,6 +358,19 @@ toemsakun-images-size table = one-answer (imagesBytes table)
 
 pub toemsakun-pads-size : (table : List ℕ) → Settled (padsBytes table)
 toemsakun-pads-size table = one-answer (padsBytes table)
+
+-- search
+
+pub search-bit-heard : (a : Answer) → Settled (heard (answered a))
+search-bit-heard a = one-answer (heard (answered a))
+
+-- machine
+
+pub machine-begin : (places : ℕ) → Settled (beginOf places)
+machine-begin places = one-answer (beginOf places)
+
+pub machine-asks : (m : Machine) → Settled (asksOf m)
+machine-asks m = one-answer (asksOf m)
 
 -- terminal
 

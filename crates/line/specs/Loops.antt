@@ -6,6 +6,8 @@ use native.Mathlib.Numerals.{add-one}
 use mathlib.Core.Bool.{Bool, true, false}
 use mathlib.Core.List.{List, [], _∷_}
 use mathlib.Core.Path.{_≡_, refl, _∙_, ap, sym}
+use lib.Dec.{leb}
+use borrow.Author.Tests.{le-leb, lt-leb}
 use lib.ListN.{length, take, drop, getD, set, drop-of-length-le}
 use lib.Seq.{length-take-le, drop-cons, getD-take}
 use Rattle.base.specs.Bits.{both}
@@ -18,6 +20,16 @@ use Rattle.line.specs.Line.{actOf}
 use Rattle.line.specs.Layout.{sumOf, Lent, lent}
 use Rattle.line.specs.Event.{noChip, allInRange}
 use Rattle.line.specs.Bridge.{partOf, putPart, actWithin, actAt, each, bitAt, eachBit}
+
+-- where a part of a size at an offset lies
+pub lies-in : (at size bytes : ℕ) → at ≤ bytes → size ≤ bytes - at → true ≡ leb (at + size) bytes
+lies-in at size bytes h k = sym (le-leb (at + size) bytes (omega arith))
+
+pub lies-past : (at size bytes : ℕ) → at ≤ bytes → bytes - at < size → false ≡ leb (at + size) bytes
+lies-past at size bytes h k = sym (lt-leb (at + size) bytes (omega arith))
+
+pub begins-past : (at size bytes : ℕ) → bytes < at → false ≡ leb (at + size) bytes
+begins-past at size bytes h = sym (lt-leb (at + size) bytes (omega arith))
 
 -- parts lent as `image .. image + size` come back
 pub parts-back : (f : Whole → Whole) (c : Chip) (image pad size room : ℕ) (ms ss : List ℕ) (r : Chip) (x y : List ℕ) → size ≡ imageSize (c .kind) → room ≡ padSize (c .kind)

@@ -7,6 +7,8 @@ pub use judged::pads_asked;
 mod loops;
 
 use chip::Chip;
+pub use loops::act_at;
+pub use loops::bit_at;
 ghost use mathlib.Core.Path.{_≡_};
 ghost use mathlib.Core.Bool.{true};
 ghost use Prim.Native.Nat.{_<_, _≤_};

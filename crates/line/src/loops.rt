@@ -4,6 +4,7 @@ use crate::Table;
 use chip::Chip;
 ghost use mathlib.Core.Path.{_≡_};
 ghost use Prim.Native.Nat.{_+_, _≤_};
+ghost use lib.Dec.{leb};
 ghost use lib.ListN.{length};
 ghost use Rattle.chip.specs.Chip.{whole, sendsOf};
 ghost use Rattle.chip.specs.Range.{imageSize, padSize};
@@ -41,22 +42,27 @@ pub fn act_within(
     act_on(c, act, &mut ms[image..end], &mut ss[pad..stop])
 }
 
-// One chip with its parts of the buffers; a chip whose parts lie outside is left alone.
-pub fn act_at(
-    c: Chip,
-    act: Act,
-    image: usize,
-    pad: usize,
-    size: usize,
-    room: usize,
-    ms: &mut [u8],
-    ss: &mut [u8],
-) -> Chip
-    requires { ⌜ (image ≤ 65535) × (pad ≤ 65535) × (size ≤ 2624) × (room ≤ 32) × (size ≡ imageSize (c .kind)) × (room ≡ padSize (c .kind)) ⌝ }
+// A part that begins at an offset and has a size lies in so many bytes.
+pub fn lies_in(at: usize, size: usize, bytes: usize) -> bool
+    ensures { λ r. ⌜ r ≡ leb (at + size) bytes ⌝ }
+{
+    if at <= bytes {
+        if size <= bytes - at {
+            return true;
+        }
+        return false;
+    }
+    false
+}
+
+// One chip with its parts of the buffers, which begin at image and pad; a chip whose parts lie outside is left alone.
+pub fn act_at(c: Chip, act: Act, image: usize, pad: usize, ms: &mut [u8], ss: &mut [u8]) -> Chip
     ensures { λ r. ⌜ whole r (now (ms .exit)) (now (ss .exit)) ≡ actAt (actOf act) c image pad (now (ms .entry)) (now (ss .entry)) ⌝ }
 {
-    if image + size <= ms.len() {
-        if pad + room <= ss.len() {
+    let size = chip::range::image_size(c.kind);
+    let room = chip::range::pad_size(c.kind);
+    if lies_in(image, size, ms.len()) {
+        if lies_in(pad, room, ss.len()) {
             return act_within(c, act, image, pad, size, room, ms, ss);
         }
         return c;
@@ -79,7 +85,7 @@ pub fn all_act(t: Table, act: Act, ms: &mut [u8], ss: &mut [u8]) -> Table
         let c = chips[i];
         let size = chip::range::image_size(c.kind);
         let room = chip::range::pad_size(c.kind);
-        let r = act_at(c, act, image, pad, size, room, ms, ss);
+        let r = act_at(c, act, image, pad, ms, ss);
         chips[i] = r;
         image += size;
         pad += room;
@@ -106,21 +112,14 @@ pub fn bit_within(
     chip::sends(c, &ms[image..end], &ss[pad..stop])
 }
 
-// The bit of one chip with its parts of the buffers; a chip whose parts lie outside sends 1.
-pub fn bit_at(
-    c: Chip,
-    image: usize,
-    pad: usize,
-    size: usize,
-    room: usize,
-    ms: &[u8],
-    ss: &[u8],
-) -> bool
-    requires { ⌜ (image ≤ 65535) × (pad ≤ 65535) × (size ≤ 2624) × (room ≤ 32) × (size ≡ imageSize (c .kind)) × (room ≡ padSize (c .kind)) ⌝ }
+// The bit of one chip with its parts of the buffers, which begin at image and pad; a chip whose parts lie outside sends 1.
+pub fn bit_at(c: Chip, image: usize, pad: usize, ms: &[u8], ss: &[u8]) -> bool
     ensures { λ r. ⌜ r ≡ bitAt c image pad (now (ms .entry)) (now (ss .entry)) ⌝ }
 {
-    if image + size <= ms.len() {
-        if pad + room <= ss.len() {
+    let size = chip::range::image_size(c.kind);
+    let room = chip::range::pad_size(c.kind);
+    if lies_in(image, size, ms.len()) {
+        if lies_in(pad, room, ss.len()) {
             return bit_within(c, image, pad, size, room, ms, ss);
         }
         return true;
@@ -143,7 +142,7 @@ pub fn all_send(t: Table, host: bool, ms: &[u8], ss: &[u8]) -> bool
         let c = chips[i];
         let size = chip::range::image_size(c.kind);
         let room = chip::range::pad_size(c.kind);
-        let b = bit_at(c, image, pad, size, room, ms, ss);
+        let b = bit_at(c, image, pad, ms, ss);
         v = base::are_both(b, v);
         image += size;
         pad += room;

@@ -58,7 +58,7 @@ two : (n k want path last : ℕ) (l la lb : Attached) (a b : Bool)
 unfolding play pass pick
 two n k want path last l la lb a b ea la-is eb lb-is nt = rw (← ea, ← la-is, ← eb, ← lb-is, nt)
 
-put-low : (d : Bool) (k path : ℕ) → path < 2 ^ k → put d k path < 2 ^ (k + 1)
+pub put-low : (d : Bool) (k path : ℕ) → path < 2 ^ k → put d k path < 2 ^ (k + 1)
 put-low true k path h = omega (arith, pow-next k)
 put-low false k path h = omega (arith, pow-next k)
 

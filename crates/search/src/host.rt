@@ -27,7 +27,7 @@ pub struct Pass {
 }
 
 // The bit of an answer; without one the host hears a 1.
-fn bit_heard(a: Answer) -> bool
+pub fn bit_heard(a: Answer) -> bool
     ensures { λ r. ⌜ r ≡ heard (answered a) ⌝ }
 {
     match a {

@@ -1,6 +1,7 @@
 // The host's search: it lists the codes of the line in branch order, by the answers to its events alone.
 mod host;
 
+pub use host::bit_heard;
 use line::Standing;
 use line::Table;
 ghost use mathlib.Core.Path.{_≡_};
@@ -133,7 +134,7 @@ fn seek_all(t: Table, list: &mut [u64], ms: &mut [u8], ss: &mut [u8]) -> Sought
 }
 
 // The answer of a search that was not refused before its first event.
-fn answer_of(complete: bool) -> SearchAnswer
+pub fn answer_of(complete: bool) -> SearchAnswer
     ensures { λ r. ⌜ searched r ≡ completeOr4 complete ⌝ }
 {
     if complete {

@@ -40,7 +40,7 @@ image-size-requires c κs = search needs
 pad-size-requires : tie.Need-pad-size-requires Inv-loop μ-loop
 pad-size-requires c κs = search needs
 
--- src/loops.rt:82:13
+-- src/loops.rt:1:1
 act-at-requires : tie.Need-act-at-requires Inv-loop μ-loop
 act-at-requires c κs = search needs
 
@@ -70,7 +70,7 @@ loop-less c = search needs
 
 -- src/loops.rt:78:5
 loop-again : tie.Need-loop-again Inv-loop μ-loop
-loop-again c = let l = c .before .before .before .before .before .before .before .before .before .before .before .loop in let p = c .before .before .before .before .act-at in let a = c .before .before .before .before .before .before .before .before .image-size in let d = c .before .before .before .before .before .before .before .pad-size in (search needs, search needs, search needs, search needs, p .kept .1 .1 .1 .1 .1 .1 .0 ∙ l .inv .4, p .kept .1 .1 .1 .1 .1 .1 .1 .0 ∙ l .inv .5, sym (each-more _ _ _ _ _ _ _ _ _ _ _ _ _ (c .before .before .before .before .before .before .before .before .before .before .loop-test .taken) (p .ensures) (a .ensures .0) (d .ensures .0)) ∙ l .inv .6)
+loop-again c = let l = c .before .before .before .before .before .before .before .before .before .before .before .loop in let p = c .before .before .before .before .act-at in let a = c .before .before .before .before .before .before .before .before .image-size in let d = c .before .before .before .before .before .before .before .pad-size in (search needs, search needs, search needs, search needs, p .kept .1 .1 .1 .1 .0 ∙ l .inv .4, p .kept .1 .1 .1 .1 .1 .0 ∙ l .inv .5, sym (each-more _ _ _ _ _ _ _ _ _ _ _ _ _ (c .before .before .before .before .before .before .before .before .before .before .loop-test .taken) (p .ensures) (a .ensures .0) (d .ensures .0)) ∙ l .inv .6)
 
 -- src/loops.rt:68:1
 same-length : tie.Need-same-length Inv-loop μ-loop

@@ -40,7 +40,7 @@ image-size-requires c κs = search needs
 pad-size-requires : tie.Need-pad-size-requires Inv-loop μ-loop
 pad-size-requires c κs = search needs
 
--- src/loops.rt:146:13
+-- src/loops.rt:1:1
 bit-at-requires : tie.Need-bit-at-requires Inv-loop μ-loop
 bit-at-requires c κs = search needs
 

@@ -1,0 +1,3 @@
+pub mod Again
+pub mod Folds
+pub mod Rows

@@ -1,0 +1,89 @@
+-- A run of the machine on a wire, and what it shows.
+use Prim.Native.Nat.{ℕ, zero, suc, _+_, _-_, _<_, _≤_}
+use native.Mathlib.Omega.{arith}
+use mathlib.Core.Bool.{Bool, true}
+use mathlib.Core.List.{List, _++_}
+use mathlib.Core.Path.{_≡_, sym, _∙_, ap}
+use lib.ListN.{length, drop}
+use Rattle.line.specs.Event.{Answered, bit}
+use Rattle.search.specs.Host.{Wire, Played, Listed}
+use Rattle.machine.specs.declared.Machine.{Machine}
+use Rattle.machine.specs.declared.Ask.{Ask}
+use Rattle.machine.specs.declared.Ask.the-variants.{Nothing, Put}
+use Rattle.machine.specs.Machine.{Stand, stand, asksOf, hearsOf, completeAt}
+
+-- what a wire says to what is asked; where nothing is, a 1, to which nobody listens
+abbrev pub saysTo : (W : Wire) → Ask → W .L → Answered
+saysTo W Nothing l = bit true
+saysTo W (Put e) l = W .says e l
+
+-- the line that it leaves
+abbrev pub leavesTo : (W : Wire) → Ask → W .L → W .L
+leavesTo W Nothing l = l
+leavesTo W (Put e) l = W .does e l
+
+-- a machine, the list that it fills, and the line
+pub record Ran (L : Type 0) : Type 0 where
+  pub stand : Stand
+  pub line : L
+
+abbrev pub ran : {L : Type 0} → Machine → List ℕ → L → Ran L
+ran m list l = record { stand = stand m list; line = l }
+
+-- so many turns, each of a question, what the wire says to it, and what the machine makes of that
+unfoldable pub run : (W : Wire) → ℕ → Machine → List ℕ → W .L → Ran (W .L)
+run W zero m list l = ran m list l
+run W (suc n) m list l =
+    run W n
+    (hearsOf m (saysTo W (asksOf m) l) list .machine)
+    (hearsOf m (saysTo W (asksOf m) l) list .list)
+    (leavesTo W (asksOf m) l)
+
+-- what a search shows: whether the list is complete, how many codes are on it, the list, the counts, and the line
+pub record Seen (L : Type 0) : Type 0 where
+  pub complete : Bool
+  pub number : ℕ
+  pub list : List ℕ
+  pub resets : ℕ
+  pub slots : ℕ
+  pub line : L
+
+-- by a machine that has run
+abbrev pub seen : {L : Type 0} → Ran L → Seen L
+seen r = record {
+  complete = completeAt (r .stand .machine .turn);
+  number = r .stand .machine .listed;
+  list = r .stand .list;
+  resets = r .stand .machine .resets;
+  slots = r .stand .machine .slots;
+  line = r .line;
+}
+
+-- by a host that was played; "Places past the codes listed stay as found."
+abbrev pub seenOf : {L : Type 0} → List ℕ → Played Listed L → Seen L
+seenOf list p = record {
+  complete = p .result .complete;
+  number = length (p .result .codes);
+  list = p .result .codes ++ drop (length (p .result .codes)) list;
+  resets = p .resets;
+  slots = p .slots;
+  line = p .line;
+}
+
+-- a turn of a loop that runs n of them
+pub run-more : (W : Wire) (n i : ℕ) (m m′ : Machine) (list list′ : List ℕ) (l l′ : W .L) (x : Answered) → i < n
+    → x ≡ saysTo W (asksOf m) l → l′ ≡ leavesTo W (asksOf m) l → stand m′ list′ ≡ hearsOf m x list
+    → run W (n - i) m list l ≡ run W (n - (i + 1)) m′ list′ l′
+unfolding run
+run-more W n i m m′ list list′ l l′ x h ex el es =
+    let e : n - i ≡ suc (n - (i + 1)) = omega arith in
+    let f : stand m′ list′ ≡ hearsOf m (saysTo W (asksOf m) l) list = es ∙ ap (λ (y : Answered). hearsOf m y list) ex in
+    ap (λ (k : ℕ). run W k m list l) e
+    ∙ λ k. run W (n - (i + 1)) (sym f k .machine) (sym f k .list) (sym el k)
+
+-- its end
+pub run-end : (W : Wire) (n i : ℕ) (m : Machine) (list : List ℕ) (l : W .L) → n ≤ i → run W (n - i) m list l ≡ ran m list l
+unfolding run
+run-end W n i m list l h =
+    let e : n - i ≡ 0 = omega arith in
+    rw e

@@ -1,0 +1,123 @@
+# The walked functions of crates/lent, and the contracts of what they call. See README.md beside this file.
+CRATE = 'lent'
+TYPES = {'Chip': 'chip', 'Act': 'line', 'Answer': 'line', 'Event': 'line', 'Standing': 'line', 'CardAnswer': 'card', 'Ask': 'machine', 'Machine': 'machine', 'Told': 'machine'}
+ENUMS = ['Act', 'Answer', 'CardAnswer', 'Standing', 'Ask', 'Plan', 'Deed']
+STRUCTS = {
+    'Event': [('number', 'u32'), ('chip', 'u32'), ('levels', 'u32')],
+    'Sum': [('value', 'bool'), ('spot', 'Spot')],
+    'Turned': [('chip', 'Chip'), ('spot', 'Spot')],
+    'Filled': [('chip', 'Chip'), ('fill', 'Fill')],
+}
+WALK = 'Rattle.lent.specs.Walk.'
+NO_CHIP = 'Rattle.line.specs.Event.{noChip}'
+LENT = 'Rattle.line.specs.Layout.{lent}'
+OUTCOME = 'Rattle.line.specs.Event.{answered, outcome}'
+AGREE = 'Rattle.lent.specs.Agree.'
+CHIP = 'Rattle.chip.specs.Chip.'
+RECORD, OWN = ('c', '&mut Chip'), [('m', '&mut [u8]'), ('s', '&mut [u8]')]
+LIST = ('list', '&mut [u64]')
+SEEK = 'Rattle.lent.specs.Seek.'
+RUN = 'Rattle.machine.specs.Run.'
+MACHINE = 'Rattle.machine.specs.Machine.'
+ATTACHED = 'Rattle.search.specs.Search.{attached, wire}'
+TABLE, BUFFERS = ('table', '&mut [Chip]'), [('ms', '&mut [u8]'), ('ss', '&mut [u8]')]
+
+FNS = [
+    # what is called, by its contract
+    dict(name='lent::turns::first_look', params=[], result='Look', ensures='r ≡ firstLook'),
+    dict(name='lent::turns::look_at', params=[('c', 'Chip'), ('l', 'Look'), ('chip', 'u32')], result='Look', ensures='r ≡ lookAt chip c l'),
+    dict(name='lent::turns::first_sum', params=[('host', 'bool')], result='Sum', ensures='r ≡ firstSum host'),
+    dict(name='lent::turns::sum_at', params=[('c', 'Chip'), ('s', 'Sum'), ('ms', '&[u8]'), ('ss', '&[u8]')], result='Sum', ensures='r ≡ sumAt c s ms ss'),
+    dict(name='lent::turns::first_spot', params=[], result='Spot', ensures='r ≡ firstSpot'),
+    dict(name='lent::turns::act_turn', params=[('c', 'Chip'), ('p', 'Spot'), ('deed', 'Deed')] + BUFFERS, result='Turned',
+         ensures='turned (r .chip) (r .spot) ms′ ss′ ≡ turnOf deed c p ms ss'),
+    dict(name='lent::turns::host_bit', params=[('plan', 'Plan')], result='bool', ensures='r ≡ hostBit plan'),
+    dict(name='lent::turns::deed_of', params=[('plan', 'Plan'), ('value', 'bool')], result='Deed', ensures='r ≡ deedOf plan value'),
+    dict(name='lent::turns::answer_of', params=[('plan', 'Plan'), ('value', 'bool'), ('n', 'usize')], result='Answer', ensures='r ≡ answerOf plan value n'),
+    dict(name='lent::turns::plan_of', params=[('l', 'Look'), ('n', 'usize'), ('ev', 'Event'), ('images', 'usize'), ('pads', 'usize')], result='Plan',
+         ensures='r ≡ planOf l n ev images pads'),
+
+    # the three loops over the table
+    dict(name='look_over', walk=True, params=[('table', '&[Chip]'), ('chip', 'u32')], result='Look', ensures='r ≡ lookedOver chip table firstLook',
+         uses=[WALK + '{firstLook, lookAt, lookedOver}', NO_CHIP, 'Rattle.lent.proofs.Folds.{folded}'],
+         loop=dict(table='table', blank='noChip', state=[('seen', 'Look')],
+                   inv='walk-fold noChip (lookAt chip) table k i seen ≡ lookedOver chip table firstLook',
+                   inv0='walk-fold-is noChip (lookAt chip) table r ∙ folded chip table r ∙ ap (λ (l : Look). lookedOver chip table l) e',
+                   step='ap (λ (l : Look). walk-fold noChip (lookAt chip) table k (suc i) l) e ∙ inv')),
+    dict(name='line_value', walk=True, params=[('table', '&[Chip]'), ('host', 'bool'), ('ms', '&[u8]'), ('ss', '&[u8]')], result='bool',
+         ensures='r ≡ sums (length table) 0 table (firstSum host) ms ss', uses=[WALK + '{firstSum, sumAt, sums}', NO_CHIP],
+         loop=dict(table='table', blank='noChip', state=[('sum', 'Sum')],
+                   inv='sums k i table sum ms ss ≡ sums (length table) 0 table (firstSum host) ms ss',
+                   inv0='ap (λ (s : Sum). sums (length table) 0 table s ms ss) e',
+                   step='ap (λ (s : Sum). sums k (suc i) table s ms ss) e ∙ inv')),
+    dict(name='all_act', walk=True, params=[TABLE, ('deed', 'Deed')] + BUFFERS, result='unit',
+         ensures='lent table′ ms′ ss′ ≡ acts deed (length table) 0 firstSpot table ms ss', uses=[WALK + '{Turn, turned, turnOf, firstSpot, acts}', NO_CHIP, LENT],
+         loop=dict(table='table', blank='noChip', state=[('spot', 'Spot')],
+                   inv='acts deed k i spot table′ ms′ ss′ ≡ acts deed (length table) 0 firstSpot table ms ss',
+                   inv0='ap (λ (p : Spot). acts deed (length table) 0 p table ms ss) e',
+                   step='ap (λ (t : Turn). acts deed k (suc i) (t .spot) (set table′ i (t .chip)) (t .images) (t .pads)) e ∙ inv')),
+
+    # thin functions over the table
+    dict(name='carry_out', walk=True, params=[TABLE, ('plan', 'Plan')] + BUFFERS, result='Answer',
+         ensures='outcome (answered r) (length table′) (lent table′ ms′ ss′) ≡ carriedOut plan table ms ss',
+         uses=[WALK + '{firstSpot, firstSum, hostBit, deedOf, answerOf, sums, acts, carriedOut}', LENT, OUTCOME, AGREE + '{carried-out}'],
+         proof='carried-out plan table (ws4 .0) ms ss (ws4 .1 .1 .0) (ws4 .1 .1 .1 .0) r r2 r3 r5 e e2 e3 e4 e5 table-as-long4'),
+    dict(name='take_event', walk=True, params=[TABLE, ('ev', 'Event')] + BUFFERS, result='Answer',
+         ensures='outcome (answered r) (length table′) (lent table′ ms′ ss′) ≡ eventOf (length table) table ev ms ss',
+         uses=[WALK + '{firstLook, lookedOver, planOf, carriedOut}', LENT, OUTCOME, 'Rattle.line.specs.Event.{eventOf}', AGREE + '{event-planned}'],
+         proof='e3 ∙ event-planned table ev ms ss r r2 e e2'),
+
+    # one chip's record
+    dict(name='chip::takes', params=[('c', 'Chip'), ('v', 'bool')] + OWN, result='Chip', ensures='wholeChip r m′ s′ ≡ takesOf v (wholeChip c m s)'),
+    dict(name='chip::sends', params=[('c', 'Chip'), ('m', '&[u8]'), ('s', '&[u8]')], result='bool', ensures='r ≡ sendsOf (wholeChip c m s)'),
+    dict(name='chip::reset', params=[('c', 'Chip')], result='Chip', ensures='r ≡ resetChip c'),
+    dict(name='chip::power_on', params=[('c', 'Chip'), ('s', '&mut [u8]')], result='Chip', ensures='(r ≡ powerOnChip c) × (s′ ≡ powerOnPad (c .kind) s)'),
+    dict(name='chip::set_levels', params=[('c', 'Chip'), ('levels', 'u8')], result='Chip', ensures='r ≡ levelsChip levels c'),
+    dict(name='lent::record::takes', walk=True, params=[RECORD, ('v', 'bool')] + OWN, result='unit', ensures='wholeChip c′ m′ s′ ≡ takesOf v (wholeChip c m s)', uses=[CHIP + '{whole as wholeChip, takesOf}']),
+    dict(name='lent::record::sends', walk=True, params=[('c', '&Chip'), ('m', '&[u8]'), ('s', '&[u8]')], result='bool', ensures='r ≡ sendsOf (wholeChip c m s)', uses=[CHIP + '{whole as wholeChip, sendsOf}']),
+    dict(name='lent::record::reset', walk=True, params=[RECORD], result='unit', ensures='c′ ≡ resetChip c', uses=[CHIP + '{resetChip}']),
+    dict(name='lent::record::power_on', walk=True, params=[RECORD, ('s', '&mut [u8]')], result='unit', ensures='(c′ ≡ powerOnChip c) × (s′ ≡ powerOnPad (c .kind) s)', uses=[CHIP + '{powerOnChip, powerOnPad}']),
+    dict(name='lent::record::set_levels', walk=True, params=[RECORD, ('levels', 'u8')], result='unit', ensures='c′ ≡ levelsChip levels c', uses=[CHIP + '{levelsChip}']),
+
+    # the search
+    dict(name='machine::asks', params=[('h', 'Machine')], result='Ask', ensures='r ≡ asksOf h'),
+    dict(name='machine::hears', params=[('h', 'Machine'), ('a', 'Answer'), LIST], result='Machine', ensures='stand r list′ ≡ hearsOf h (answered a) list'),
+    dict(name='machine::begin', params=[('places', 'usize')], result='Machine', ensures='r ≡ beginOf places'),
+    dict(name='lent::turns::stands_by', params=[('l', 'Look'), ('n', 'usize'), ('images', 'usize'), ('pads', 'usize')], result='Standing', ensures='r ≡ standsBy l n images pads'),
+    dict(name='lent::seeking::chip_of', params=[('ask', 'Ask')], result='u32', ensures='r ≡ chipOf ask'),
+    dict(name='lent::seeking::plan_ask', params=[('ask', 'Ask'), ('l', 'Look'), ('n', 'usize'), ('images', 'usize'), ('pads', 'usize')], result='Plan', ensures='r ≡ planAsk ask l n images pads'),
+    dict(name='lent::seeking::turns_for', params=[('stands', 'Standing')], result='usize', ensures='r ≡ turnsFor stands'),
+    dict(name='lent::seeking::tell_by', params=[('stands', 'Standing'), ('h', 'Machine')], result='Told',
+         ensures='tale (searched (r .answer)) (r .listed) (r .resets .0) (r .slots .0) ≡ tellsBy stands h'),
+    dict(name='lent::seeking::ask_line', walk=True, params=[TABLE, ('ask', 'Ask')] + BUFFERS, result='Answer',
+         ensures='(answered r ≡ saysTo wire ask (attached (length table) table ms ss)) × (attached (length table′) table′ ms′ ss′ ≡ leavesTo wire ask (attached (length table) table ms ss))',
+         uses=[WALK + '{firstLook, lookedOver, carriedOut}', SEEK + '{chipOf, planAsk}', LENT, OUTCOME, RUN + '{saysTo, leavesTo}', ATTACHED, 'Rattle.lent.specs.Found.{asked}'],
+         proof='asked table ask ms ss r r2 r3 r4 (ws4 .0) (ws4 .1 .1 .0) (ws4 .1 .1 .1 .0) e e2 e3 e4'),
+    dict(name='lent::seeking::run_host', walk=True, params=[TABLE, ('turns', 'usize'), ('first', 'Machine'), LIST] + BUFFERS, result='Machine',
+         ensures='ran r list′ (attached (length table′) table′ ms′ ss′) ≡ machineRun wire turns first list (attached (length table) table ms ss)',
+         uses=[RUN + '{saysTo, leavesTo, ran, run as machineRun}', MACHINE + '{stand, asksOf, hearsOf}', ATTACHED, 'Rattle.line.specs.Event.{answered}', 'Rattle.lent.specs.Found.{run-on, run-over}'],
+         loop=dict(count='turns', state=[('host', 'Machine')],
+                   inv='machineRun wire k host list′ (attached (length table′) table′ ms′ ss′) ≡ machineRun wire turns first list (attached (length table) table ms ss)',
+                   inv0='refl',
+                   step='run-on k host list′ (attached (length table′) table′ ms′ ss′) r r3 (answered r2) (ws3 .1 .1 .0) (attached (length (ws2 .0)) (ws2 .0) (ws2 .1 .1 .0) (ws2 .1 .1 .1 .0)) e (e2 .0) (e2 .1) e3 ∙ inv',
+                   done='run-over host list′ (attached (length table′) table′ ms′ ss′) ∙ inv')),
+    dict(name='lent::seeking::search_line', walk=True, params=[TABLE, LIST] + BUFFERS, result='Told',
+         ensures='found (searched (r .answer)) (r .listed) list′ (r .resets .0) (r .slots .0) (attached (length table′) table′ ms′ ss′) ≡ searchOf list (attached (length table) table ms ss)',
+         uses=[WALK + '{firstLook, lookedOver, standsBy}', SEEK + '{turnsFor, tellsBy}', RUN + '{ran, run as machineRun}', MACHINE + '{beginOf, tale}', ATTACHED, 'Rattle.search.specs.Search.{searched, outcome as found, searchOf}', 'Rattle.lent.specs.Found.{searches}'],
+         proof='searches table list ms ss r r2 r3 r4 r5 (ws5 .1 .1 .1 .0) (attached (length (ws5 .0)) (ws5 .0) (ws5 .1 .1 .1 .1 .0) (ws5 .1 .1 .1 .1 .1 .0)) (searched (r6 .answer)) (r6 .listed) (r6 .resets .0) (r6 .slots .0) e e2 e3 e4 e5 e6'),
+
+    # set-up from a card
+    dict(name='lent::setting::judge', params=[('s', '&[u8]'), ('places', 'usize')], result='CardAnswer', ensures='carded r ≡ readAnswer (readFrom (capped places) s 0)'),
+    dict(name='lent::setting::fill_for', params=[('answer', 'CardAnswer')], result='Fill', ensures='r ≡ fillFor answer'),
+    dict(name='lent::setting::fill_turn', params=[('c', 'Chip'), ('f', 'Fill'), ('s', '&[u8]')], result='Filled', ensures='r ≡ fillTurn s c f'),
+    dict(name='lent::setting::fill_table', walk=True, params=[TABLE, ('answer', 'CardAnswer'), ('s', '&[u8]')], result='unit',
+         ensures='table′ ≡ fills s (length table) 0 (fillFor answer) table', uses=['Rattle.lent.specs.Fill.{fillFor, fillTurn, fills}', NO_CHIP],
+         loop=dict(table='table', blank='noChip', state=[('fill', 'Fill')],
+                   inv='fills s k i fill table′ ≡ fills s (length table) 0 (fillFor answer) table',
+                   inv0='ap (λ (f : Fill). fills s (length table) 0 f table) e',
+                   step='ap (λ (x : Filled). fills s k (suc i) (x .fill) (set table′ i (x .chip))) e ∙ inv')),
+    dict(name='lent::setting::set_up', walk=True, params=[('s', '&[u8]'), TABLE], result='CardAnswer',
+         ensures='(carded r ≡ setUpOf (length table) s 0 table .answer) × (table′ ≡ setUpOf (length table) s 0 table .table)',
+         uses=['Rattle.lent.specs.Fill.{readAnswer, fillFor, fills}', 'Rattle.lent.specs.Cards.{set-up-is}', 'Rattle.card.specs.Card.{carded, readFrom, setUpOf}', 'Rattle.line.specs.Layout.{capped}'],
+         proof='set-up-is s table (ws2 .0) r e e2'),
+]
