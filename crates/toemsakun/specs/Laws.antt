@@ -6,10 +6,11 @@ use mathlib.Core.List.{List, [], _∷_, _++_, append-nil}
 use mathlib.Core.Path.{_≡_, refl, _∙_, ap, sym}
 use lib.Dec.{leb}
 use lib.IntN.{ℤ, pos}
-use lib.ListN.{length, take, drop, drop-of-length-le}
+use lib.ListN.{length, take, drop, replicate, drop-of-length-le}
 use lib.Seq.{take-at}
 use borrow.Author.Tests.{leb-true, leb-false, le-leb, lt-leb}
 use Rattle.base.specs.Pick.{pick, pick-true, pick-false}
+use Rattle.chip.specs.Chip.{setUpChip}
 use Rattle.chip.specs.declared.Chip.{Chip}
 use Rattle.line.specs.Layout.{capped, imagesAsked, padsAsked, lent}
 use Rattle.line.specs.Event.{Answered, refused, tableInRange, Outcome, outcome, eventOf}
@@ -66,8 +67,12 @@ by-cases F G x true false cs t f g h = g
 by-cases F G x false true cs t f g h = g ∙ sym (h refl refl)
 by-cases F G x false false cs t f g h = g
 
--- bytes that were unpacked into a table that no call takes, since it has 17 chips
-module _ (bs : List ℕ) (t u : Table) (taken : t .n ≡ 17) (u-is : u ≡ tableFrom bs t) where
+-- a table that every call refuses by 8, or asks nothing for: it has 17 chips
+abbrev pub noTable : Table
+noTable = record { n = 17; chips = replicate 16 (setUpChip 0 0) }
+
+-- bytes that were unpacked, into a table that is refused where they are none
+module _ (bs : List ℕ) (u : Table) (u-is : u ≡ tableFrom bs noTable) where
   table-chips : length (unpackedTable bs) ≡ length bs / 24
   unfolding unpackedTable
   table-chips = from-length (length bs / 24) bs
@@ -82,9 +87,9 @@ module _ (bs : List ℕ) (t u : Table) (taken : t .n ≡ 17) (u-is : u ≡ table
   by-table F G x f g h =
       let k = table-chips in
       ap (λ (v : Table). F (v .n) (v .chips)) u-is
-      ∙ by-cases F G x (leb (length bs / 24) 16) (isTable bs) (unpackedTable bs) t
-      (λ p q. f (drop (length (unpackedTable bs)) (t .chips)) q (let m = leb-true (length bs / 24) 16 p in omega arith))
-      (g (t .n) (t .chips) (omega arith))
+      ∙ by-cases F G x (leb (length bs / 24) 16) (isTable bs) (unpackedTable bs) noTable
+      (λ p q. f (drop (length (unpackedTable bs)) (noTable .chips)) q (let m = leb-true (length bs / 24) 16 p in omega arith))
+      (g (noTable .n) (noTable .chips) (omega arith))
       (λ p q. h q (let m = leb-false (length bs / 24) 16 p in omega arith))
 
   pub images-found : imagesAsked (u .n) (u .chips) ≡ imagesBytes bs

@@ -6,9 +6,11 @@ use line::Table;
 ghost use mathlib.Core.Path.{_≡_};
 ghost use lib.ListN.{replicate};
 ghost use Rattle.chip.specs.Chip.{setUpChip};
+ghost use Rattle.packed.specs.Packed.{tableFrom};
+ghost use Rattle.toemsakun.specs.Laws.{noTable};
 ghost use Rattle.toemsakun.specs.Library.{tableSize, imagesBytes, padsBytes, cardLeft, cardBytes, eventWith, eventLeft, eventBytes, searchLeft, searchBytes};
 
-// A table for chips to be put in, with n for their number; 17 where every call is to refuse it.
+// A table for chips to be put in, with n for their number.
 fn blank(n: usize) -> Table
     ensures { λ r. ⌜ (r .n ≡ n) × (r .chips ≡ replicate 16 (setUpChip 0 0)) ⌝ }
 {
@@ -17,6 +19,14 @@ fn blank(n: usize) -> Table
         n: n,
         chips: [place; 16],
     }
+}
+
+// The table that bytes are, or one that every call refuses.
+fn unpack(table: &[u8]) -> Table
+    ensures { λ r. ⌜ r ≡ tableFrom (now (table .entry)) noTable ⌝ }
+{
+    let none = blank(17);
+    packed::table_of(table, none)
 }
 
 // The bytes of a table of so many chips, of at most 16.
@@ -33,8 +43,7 @@ pub extern "C" fn tk_table_size(chips: usize) -> usize
 pub extern "C" fn tk_images_size(table: &[u8]) -> usize
     ensures { λ r. ⌜ r ≡ imagesBytes (now (table .entry)) ⌝ }
 {
-    let none = blank(17);
-    let t = packed::table_of(table, none);
+    let t = unpack(table);
     line::images_asked(t)
 }
 
@@ -43,8 +52,7 @@ pub extern "C" fn tk_images_size(table: &[u8]) -> usize
 pub extern "C" fn tk_pads_size(table: &[u8]) -> usize
     ensures { λ r. ⌜ r ≡ padsBytes (now (table .entry)) ⌝ }
 {
-    let none = blank(17);
-    let t = packed::table_of(table, none);
+    let t = unpack(table);
     line::pads_asked(t)
 }
 
@@ -75,8 +83,7 @@ pub extern "C" fn tk_event(
     ensures { λ r. ⌜ eventLeft r (now (table .exit)) (now (images .exit)) (now (pads .exit))
         ≡ eventBytes (now (table .entry)) (eventWith event chip levels) (now (images .entry)) (now (pads .entry)) ⌝ }
 {
-    let none = blank(17);
-    let t = packed::table_of(table, none);
+    let t = unpack(table);
     let e = Event {
         number: event,
         chip: chip,
@@ -102,8 +109,7 @@ pub extern "C" fn tk_search(
     ensures { λ r. ⌜ searchLeft r (now (list .exit)) (now (table .exit)) (now (images .exit)) (now (pads .exit)) (now (resets .exit)) (now (slots .exit))
         ≡ searchBytes (now (table .entry)) (now (list .entry)) (now (images .entry)) (now (pads .entry)) ⌝ }
 {
-    let none = blank(17);
-    let t = packed::table_of(table, none);
+    let t = unpack(table);
     let f = search::search_line(t, list, images, pads);
     let answer = f.answer;
     let after = f.table;
