@@ -3,6 +3,8 @@
 
 #include <string.h>
 
+#include "line.h"
+
 _Static_assert(sizeof(struct chip) == TK_RECORD_SIZE, "a chip is as long as its record");
 _Static_assert(__BYTE_ORDER__ == __ORDER_LITTLE_ENDIAN__, "numbers in a record have the low byte first");
 

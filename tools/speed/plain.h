@@ -1,13 +1,12 @@
 /*
- * A straightforward model of the line in C, for comparison with libtoemsakun.a: the same functions under the names
- * plain_.., and the same line kept in structs of its own.
+ * A straightforward model of the line in C, for comparison with libtoemsakun.a: the same functions on the same bytes,
+ * under names that begin with plain_.
  *
  * A program that is compiled with -DUSE_PLAIN -include plain.h has this model in place of the library.
  */
 #ifndef PLAIN_H
 #define PLAIN_H
 
-#include "chip.h"
 #include "toemsakun.h"
 
 size_t plain_table_size(size_t chips);
@@ -18,21 +17,6 @@ int32_t plain_event(uint8_t *table, size_t table_size, uint32_t event, uint32_t 
                     size_t images_size, uint8_t *pads, size_t pads_size);
 int32_t plain_search(uint8_t *table, size_t table_size, uint64_t *list, size_t places, uint8_t *images,
                      size_t images_size, uint8_t *pads, size_t pads_size, uint64_t *resets, uint64_t *slots);
-
-/* A line in structs of its own. The images and scratchpads are the caller's. */
-struct plain_line {
-    size_t count;
-    struct chip chips[TK_MOST_CHIPS];
-    uint8_t *images;
-    uint8_t *pads;
-};
-
-/* Takes a line from the caller's bytes: 0, or minus refusal 8 or 5. */
-int32_t plain_line_take(struct plain_line *line, const uint8_t *table, size_t table_size, uint8_t *images,
-                        size_t images_size, uint8_t *pads, size_t pads_size);
-
-/* One event on a line in structs: no byte is read as a record, and no range is checked. */
-int32_t plain_line_event(struct plain_line *line, uint32_t event, uint32_t chip, uint32_t levels);
 
 #ifdef USE_PLAIN
 #define tk_table_size plain_table_size

@@ -1,6 +1,7 @@
 /* The plain model's search: a host that knows the line by its answers alone. */
 #include <string.h>
 
+#include "line.h"
 #include "plain.h"
 
 /* A search under way: the line, the code of the last pass, and the last place at which the 0 side was taken. */
