@@ -9,7 +9,6 @@
  * Read Memory of a page, and on a line with a switch PIO Access Write and Read; each session opens with reset and Match
  * ROM. Every way gets the same events, and must come to the same answers and the same bytes.
  */
-#define _POSIX_C_SOURCE 199309L
 #include <stdio.h>
 #include <stdlib.h>
 #include <string.h>
@@ -18,11 +17,11 @@
 #include "line.h"
 #include "plain.h"
 
-/* The most events of a round, and the seconds of one measurement. */
+/* The most events of a round. */
 #define MOST_EVENTS 4096
-#define SECONDS 0.4
-/* A measurement is the best of so many. */
-#define TRIES 5
+/* A figure is the best of so many tries of so many seconds, the ways in turn. */
+#define TRIES 10
+#define SECONDS 0.15
 /* What a slot and a reset take on a real line, in seconds (document 002). */
 #define REAL_SLOT 61e-6
 #define REAL_RESET 960e-6
@@ -163,28 +162,24 @@ static void set_up(unsigned chips)
     make_round(chips / 2, chips > 3, 3);
 }
 
+/* Seconds that this program has had of a processor: others may be at work on the machine. */
 static double now(void)
 {
     struct timespec time;
-    clock_gettime(CLOCK_MONOTONIC, &time);
+    clock_gettime(CLOCK_PROCESS_CPUTIME_ID, &time);
     return (double)time.tv_sec + (double)time.tv_nsec * 1e-9;
 }
 
-/* Seconds of one event, the best of some measurements. */
+/* Seconds of one event in one try. */
 static double seconds_of(const struct way *way)
 {
-    double best = 1;
-    for (int try = 0; try < TRIES; try++) {
-        size_t rounds = 0;
-        double start = now(), passed;
-        do {
-            way->run(4);
-            rounds += 4;
-        } while ((passed = now() - start) < SECONDS);
-        double one = passed / (double)(rounds * event_count);
-        best = one < best ? one : best;
-    }
-    return best;
+    size_t rounds = 0;
+    double start = now(), passed;
+    do {
+        way->run(4);
+        rounds += 4;
+    } while ((passed = now() - start) < SECONDS);
+    return passed / (double)(rounds * event_count);
 }
 
 /* Whether every way comes to the same answers and bytes in three rounds. */
@@ -207,10 +202,11 @@ static int all_agree(unsigned chips)
 /* Measures a line of so many chips, and prints its rows. */
 static void measure(unsigned chips)
 {
-    double seconds[3], real = 0;
-    for (int i = 0; i < 3; i++) {
+    double seconds[3] = {1, 1, 1}, real = 0;
+    for (int i = 0; i < 3 * TRIES; i++) {
         set_up(chips);
-        seconds[i] = seconds_of(&ways[i]);
+        double one = seconds_of(&ways[i % 3]);
+        seconds[i % 3] = one < seconds[i % 3] ? one : seconds[i % 3];
     }
     for (size_t i = 0; i < event_count; i++)
         real += events[i] == TK_RESET ? REAL_RESET : REAL_SLOT;
