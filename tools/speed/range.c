@@ -52,8 +52,6 @@ bool chip_is_record(const struct chip *chip)
     if (chip->step > PIO_STATUS || shapes[chip->step].kinds == 0 || chip->rc > 1 || !rest_is_zero(chip))
         return false;
     const struct shape *shape = &shapes[chip->step];
-    if (chip->step == SEARCH_ROM && chip->b > shape->b)
-        return false;
     if (chip->step == COPIED && chip->a > shape->a)
         return false;
     return (shape->w > 0 || chip->w == 0) && (shape->a > 0 || chip->a == 0) && (shape->b > 0 || chip->b == 0) &&

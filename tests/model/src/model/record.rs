@@ -70,19 +70,15 @@ pub fn word(record: &[u8], at: usize) -> u16 {
     u16::from_le_bytes([record[at], record[at + 1]])
 }
 
-/// Whether bytes are a record: a step that there is, flags and Search ROM's three steps told
-/// by their numbers, and 0 in every byte that the step does not use.
+/// Whether bytes are a record: a step that there is, RC and the bit after a copy 0 or 1, and 0
+/// in every byte that the step does not use. Ranges do not matter here.
 pub fn is_record(record: &[u8]) -> bool {
     let Some(shape) = shape(record[STEP]) else {
         return false;
     };
-    let told = match record[STEP] {
-        4 => record[B] <= shape.b,
-        24 => record[A] <= shape.a,
-        _ => true,
-    };
     let uses = [shape.a, shape.b, shape.c].map(|most| most > 0);
-    told && record[RC] <= 1
+    record[RC] <= 1
+        && (record[STEP] != 24 || record[A] <= 1)
         && record[UNUSED..] == [0, 0, 0]
         && (shape.w > 0 || word(record, W) == 0)
         && uses
