@@ -1,9 +1,10 @@
 /*
  * A morning in a heating plant, on a modelled line: two memories with setpoints and a switch for a valve.
  *
- * The host searches the line, writes a page of setpoints the careful way (write, read back, copy by the authorization that
- * was read), reads it, and opens the valve. Then it copies by an authorization that is out of date, as a host does that does
- * not read it back. Each step checks what came back; the exit status is 0 only where every step came out as it should.
+ * The host searches the line, writes a page of setpoints the careful way (write, read back, copy by the authorization
+ * that was read), reads it, and opens the valve. Then it copies by an authorization that is out of date, as a host does
+ * that does not read it back. Each step checks what came back; the exit status is 0 only where every step came out as
+ * it should.
  */
 #include <stdio.h>
 #include <string.h>
@@ -52,8 +53,7 @@ static void write_setpoints(struct host *host, const uint8_t page[PAGE_SIZE])
     step("the scratchpad holds the setpoints", memcmp(read.data, page, PAGE_SIZE) == 0);
     printf("       TA1 %02X, TA2 %02X, E/S %02X\n", read.ta1, read.ta2, read.es);
     step("the address is the one that was sent", read.ta1 == (SETPOINTS & 0xFF) && read.ta2 == SETPOINTS >> 8);
-    step("Copy Scratchpad: the chip answers 0 1 0 1",
-         host_copy_scratchpad(host, memory, read.ta1, read.ta2, read.es));
+    step("Copy Scratchpad: the chip answers 0 1 0 1", host_copy_scratchpad(host, memory, read.ta1, read.ta2, read.es));
     step("Read Memory", host_read_memory(host, memory, SETPOINTS, stored, PAGE_SIZE));
     step("the memory holds the setpoints", memcmp(stored, page, PAGE_SIZE) == 0);
 }
@@ -68,8 +68,8 @@ static void open_valve(struct host *host)
 }
 
 /*
- * New setpoints, fewer of them, copied by the authorization of the page before: its E/S is out of date. The chip refuses
- * the copy and its memory stays. By the E/S that it has now the copy is carried out.
+ * New setpoints, fewer of them, copied by the authorization of the page before: its E/S is out of date. The chip
+ * refuses the copy and its memory stays. By the E/S that it has now the copy is carried out.
  */
 static void copy_out_of_date(struct host *host, const uint8_t page[PAGE_SIZE])
 {
@@ -85,8 +85,7 @@ static void copy_out_of_date(struct host *host, const uint8_t page[PAGE_SIZE])
     step("Copy Scratchpad by E/S 03: the chip answers 0 1 0 1",
          host_copy_scratchpad(host, memory, read.ta1, read.ta2, read.es));
     step("the memory holds the four bytes, and the rest of the page as before",
-         host_read_memory(host, memory, SETPOINTS, stored, PAGE_SIZE) &&
-             memcmp(stored, fresh, sizeof fresh) == 0 &&
+         host_read_memory(host, memory, SETPOINTS, stored, PAGE_SIZE) && memcmp(stored, fresh, sizeof fresh) == 0 &&
              memcmp(stored + sizeof fresh, page + sizeof fresh, PAGE_SIZE - sizeof fresh) == 0);
 }
 

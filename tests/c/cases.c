@@ -52,8 +52,8 @@ static void test_case_5(void)
     check("case 5: nothing written", host.images[6] == 0xFF && host.images[7] == 0xFF);
     SKIP(&host, COPY_SCRATCHPAD, 0x06, 0x00, 0x07);
     check("case 5: copy 06 00 07, 0 1 0 1", host_read(&host) == 0xAA && read_es() == 0x87);
-    check("case 5: both written", host.images[5] == 0xFF && host.images[6] == 0x12 && host.images[7] == 0x34 &&
-                                      host.images[8] == 0xFF);
+    check("case 5: both written",
+          host.images[5] == 0xFF && host.images[6] == 0x12 && host.images[7] == 0x34 && host.images[8] == 0xFF);
 }
 
 static void test_case_6(void)
@@ -109,7 +109,8 @@ static void test_case_9(void)
     check("case 9: address only, E/S 00h", read_es() == 0x00);
     held = host;
     SKIP(&host, COPY_SCRATCHPAD, 0x20, 0x01, 0x00);
-    check("case 9: one old byte", host_read(&host) == 0xAA && host.images[0x0120] == 0x12 && host.images[0x0121] == 0xFF);
+    check("case 9: one old byte",
+          host_read(&host) == 0xAA && host.images[0x0120] == 0x12 && host.images[0x0121] == 0xFF);
     held.images[0x0A01] = 0x55;
     SKIP(&held, COPY_SCRATCHPAD, 0x20, 0x01, 0x00);
     check("case 9: a held byte stays", host_read(&held) == 0xAA && held.images[0x0120] == 0xFF);

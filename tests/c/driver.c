@@ -152,8 +152,8 @@ static void do_lend(void)
 static void do_event(void)
 {
     uint32_t event = (uint32_t)get_number(4), chip = (uint32_t)get_number(4), levels = (uint32_t)get_number(4);
-    int32_t answer = tk_event(table.bytes, table.size, event, chip, levels, images.bytes, images.size, pads.bytes,
-                              pads.size);
+    int32_t answer =
+        tk_event(table.bytes, table.size, event, chip, levels, images.bytes, images.size, pads.bytes, pads.size);
     put_number((uint32_t)answer, 4);
     put_line();
 }

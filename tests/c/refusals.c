@@ -92,13 +92,27 @@ static void test_no_records(void)
         const char *name;
         uint8_t at, value;
     } faults[] = {
-        {"8: kind 0", 8, 0},          {"8: kind 3", 8, 3},           {"8: RC 2", 9, 2},
-        {"8: E/S bit 6", 12, 0x40},   {"8: latches 4", 13, 4},       {"8: levels 4", 14, 4},
-        {"8: step 6", 15, 6},         {"8: step 15", 15, 15},        {"8: step 27", 15, 27},
-        {"8: step 31", 15, 31},       {"8: step 37", 15, 37},        {"8: step 255", 15, 255},
-        {"8: a step of a memory", 15, 16}, {"8: w, low byte", 16, 1}, {"8: w, high byte", 17, 1},
-        {"8: a", 18, 1},              {"8: b", 19, 1},               {"8: c", 20, 1},
-        {"8: byte 21", 21, 1},        {"8: byte 22", 22, 1},         {"8: byte 23", 23, 1},
+        {"8: kind 0",             8,  0   },
+        {"8: kind 3",             8,  3   },
+        {"8: RC 2",               9,  2   },
+        {"8: E/S bit 6",          12, 0x40},
+        {"8: latches 4",          13, 4   },
+        {"8: levels 4",           14, 4   },
+        {"8: step 6",             15, 6   },
+        {"8: step 15",            15, 15  },
+        {"8: step 27",            15, 27  },
+        {"8: step 31",            15, 31  },
+        {"8: step 37",            15, 37  },
+        {"8: step 255",           15, 255 },
+        {"8: a step of a memory", 15, 16  },
+        {"8: w, low byte",        16, 1   },
+        {"8: w, high byte",       17, 1   },
+        {"8: a",                  18, 1   },
+        {"8: b",                  19, 1   },
+        {"8: c",                  20, 1   },
+        {"8: byte 21",            21, 1   },
+        {"8: byte 22",            22, 1   },
+        {"8: byte 23",            23, 1   },
     };
     for (size_t i = 0; i < sizeof faults / sizeof *faults; i++) {
         set_up(&host, "121");

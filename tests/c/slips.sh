@@ -31,6 +31,8 @@ slips=(
     'plain.c|s/^            \*offset = at;/            *offset = at + 2;/|the offset of a refused card is that of the kind'
     'plain.c|s/    if (left < 4)/    if (left < 12)/|a cut record is refused before its kind is looked at'
     'plain.c|s/\.es = 0x20, /.es = 0x00, /|set-up leaves PF 0'
+    'plain.c|s/^    answer = plain_line_event(/    if (*(volatile uint8_t *)(table + table_size) == 7) return 0;\n&/|a byte past the table is read'
+    'plain.c|s/^    answer = plain_line_event(/    table[-1] ^= 1;\n&/|a byte before the table is written'
     'chip.c|s/chip->b == 2 ? 1 : bit_at/chip->b == 2 ? 0 : bit_at/|a chip that takes a bit of Search ROM pulls the line low'
     'chip.c|s/        return ~(unsigned)chip->w >>/        return (unsigned)chip->w >>/|the CRC-16 is not inverted'
     'chip.c|s/ \&\& chip->b > 0)/)/|a reset between data bytes sets PF'

@@ -48,7 +48,8 @@ struct chip {
     uint8_t unused[3];
 };
 
-/* Whether the bytes are a record: a step that there is, flags 0 or 1, and 0 in every byte that the step does not use. */
+/* Whether the bytes are a record: a step that there is, flags 0 or 1, and 0 in every byte that the step does not use.
+ */
 bool chip_is_record(const struct chip *chip);
 
 /* Whether the bytes are a record, and every field lies in its range. */

@@ -5,9 +5,9 @@
  *   speed WHO CHIPS ROUNDS       only runs the events, for a tool that counts instructions; WHO is a way's first letter
  *   speed events CHIPS           only prints how many events a round has
  *
- * A round is what a host does with one chip: Write Scratchpad of a page with its CRC-16, Read Scratchpad, Copy Scratchpad,
- * Read Memory of a page, and on a line with a switch PIO Access Write and Read; each session opens with reset and Match
- * ROM. Every way gets the same events, and must come to the same answers and the same bytes.
+ * A round is what a host does with one chip: Write Scratchpad of a page with its CRC-16, Read Scratchpad, Copy
+ * Scratchpad, Read Memory of a page, and on a line with a switch PIO Access Write and Read; each session opens with
+ * reset and Match ROM. Every way gets the same events, and must come to the same answers and the same bytes.
  */
 #include <stdio.h>
 #include <stdlib.h>
@@ -131,8 +131,8 @@ static const struct way {
     const char *name;
     uint64_t (*run)(size_t rounds);
 } ways[3] = {
-    {"library", run_library},
-    {"plain C, same bytes", run_bytes},
+    {"library",              run_library},
+    {"plain C, same bytes",  run_bytes  },
     {"own structs, plain C", run_structs},
 };
 
