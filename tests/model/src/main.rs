@@ -80,7 +80,7 @@ fn main() -> ExitCode {
 fn read_flags() -> Result<(Mode, Options, Option<Slip>), String> {
     let mut mode = Mode::Test;
     let mut slip = None;
-    let mut lines = 8000;
+    let mut lines = 5000;
     let mut options = Options {
         list: None,
         wire: None,
