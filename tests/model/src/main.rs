@@ -1,8 +1,9 @@
-//! Tries the list and wire programs against an independent model, or serves the model
-//! in their place.
+//! Tries the list and wire programs, or the library for C behind its driver, against an
+//! independent model, or serves the model in their place.
 
 mod cases;
 mod gen;
+mod library;
 mod model;
 mod program;
 mod report;
@@ -20,16 +21,21 @@ use tester::{run, Options};
 const USAGE: &str = "\
 wire-model [--list PROGRAM] [--wire PROGRAM] [--seed N|time] [--cards N] [--scripts N]
            [--long] [--seconds N] [--stop N] [--wait SECONDS] [--rules]
+wire-model --library DRIVER [--seed N|time] [--lines N]
+           [--long] [--seconds N] [--stop N] [--wait SECONDS] [--rules]
 wire-model --serve-list [--slip NAME]
 wire-model --serve-wire CARDFILE [--slip NAME]
+wire-model --serve-library [--slip NAME]
 wire-model --cases [--slip NAME]
 wire-model --slips";
 
 /// What is asked for.
 enum Mode {
     Test,
+    Library { command: String, lines: usize },
     ServeList,
     ServeWire(String),
+    ServeLibrary,
     Cases,
     Slips,
 }
@@ -44,8 +50,21 @@ fn main() -> ExitCode {
     };
     let done = match mode {
         Mode::Test => run_cases(None, false) && run(options),
+        Mode::Library { command, lines } => {
+            run_cases(None, false)
+                && library::run(library::Options {
+                    command,
+                    lines,
+                    seed: options.seed,
+                    stop: options.stop,
+                    wait: options.wait,
+                    seconds: options.seconds,
+                    rules: options.rules,
+                })
+        }
         Mode::ServeList => serve_list(slip).is_ok(),
         Mode::ServeWire(path) => serve_wire(&path, slip).is_ok(),
+        Mode::ServeLibrary => library::calls::serve(&mut Book::new(slip)).is_ok(),
         Mode::Cases => run_cases(slip, true),
         Mode::Slips => {
             for (_, name, text) in SLIPS {
@@ -61,6 +80,7 @@ fn main() -> ExitCode {
 fn read_flags() -> Result<(Mode, Options, Option<Slip>), String> {
     let mut mode = Mode::Test;
     let mut slip = None;
+    let mut lines = 5000;
     let mut options = Options {
         list: None,
         wire: None,
@@ -88,18 +108,30 @@ fn read_flags() -> Result<(Mode, Options, Option<Slip>), String> {
             "--long" => {
                 options.cards = 3000;
                 options.scripts = 20000;
+                lines = 60000;
                 options.seconds = None;
             }
             "--slip" => {
                 let name = value()?;
                 slip = Some(slip_named(&name).ok_or(format!("no slip is named {name}"))?);
             }
+            "--library" => {
+                mode = Mode::Library {
+                    command: value()?,
+                    lines: 0,
+                }
+            }
+            "--lines" => lines = number(&value()?)?,
+            "--serve-library" => mode = Mode::ServeLibrary,
             "--serve-list" => mode = Mode::ServeList,
             "--serve-wire" => mode = Mode::ServeWire(value()?),
             "--cases" => mode = Mode::Cases,
             "--slips" => mode = Mode::Slips,
             _ => return Err(format!("unknown flag {flag}")),
         }
+    }
+    if let Mode::Library { lines: asked, .. } = &mut mode {
+        *asked = lines;
     }
     if matches!(mode, Mode::Test) && options.list.is_none() && options.wire.is_none() {
         return Err("nothing to test".into());

@@ -46,10 +46,12 @@ pub enum Step {
     WriteAddress,
     /// 0Fh: takes the data byte for an offset.
     WriteData(usize),
-    /// 0Fh: sends the CRC-16.
-    WriteCrc,
-    /// AAh: sends registers, scratchpad and CRC-16.
-    SendPad,
+    /// AAh: sends TA1, TA2 and E/S.
+    SendRegisters,
+    /// AAh: sends the scratchpad byte at an offset.
+    SendPad(usize),
+    /// 0Fh and AAh: sends the CRC-16.
+    SendCrc,
     /// 55h: takes TA1, TA2 and E/S.
     CopyBytes,
     /// 55h: sends 0 and 1 in turn.
@@ -106,8 +108,12 @@ pub struct Chip {
     pub step: Step,
     /// Bits taken in a step that takes; bits still to send in one that sends.
     pub bits: VecDeque<u8>,
+    /// What a lent record has in its register below the bits taken; each bit taken drives one out.
+    pub(super) below: VecDeque<u8>,
+    /// The status byte that is being sent.
+    pub(super) sampled: u8,
     /// The bytes that a CRC-16 is taken of.
-    summed: Vec<u8>,
+    pub(super) summed: Vec<u8>,
     trace: Trace,
 }
 
@@ -142,6 +148,8 @@ impl Chip {
             levels: 3,
             step: Step::Wait,
             bits: VecDeque::new(),
+            below: VecDeque::new(),
+            sampled: 0,
             summed: Vec::new(),
             trace: Trace {
                 powered: true,
@@ -174,8 +182,9 @@ impl Chip {
             Step::SearchComplement(place) => Some(1 - code_bit(self.code, place)),
             Step::Ones => Some(1),
             Step::SendCode
-            | Step::WriteCrc
-            | Step::SendPad
+            | Step::SendRegisters
+            | Step::SendPad(_)
+            | Step::SendCrc
             | Step::CopyDone
             | Step::ReadData(_)
             | Step::PioRead
@@ -190,8 +199,9 @@ impl Chip {
         let own = match self.step {
             Step::WriteAddress
             | Step::WriteData(_)
-            | Step::WriteCrc
-            | Step::SendPad
+            | Step::SendRegisters
+            | Step::SendPad(_)
+            | Step::SendCrc
             | Step::CopyBytes
             | Step::CopyDone
             | Step::ReadAddress
@@ -205,19 +215,24 @@ impl Chip {
             Step::SearchBit(place) | Step::SearchComplement(place) | Step::SearchTake(place) => {
                 place < 64
             }
-            Step::WriteData(offset) => offset < PAD,
+            Step::WriteData(offset) | Step::SendPad(offset) => offset < PAD,
             Step::ReadData(address) => address <= LAST,
             _ => true,
         };
         let count = match (self.takes(), self.step) {
             (Some(most), _) => self.bits.len() < most,
             (None, Step::SendCode) => (1..=64).contains(&self.bits.len()),
-            (None, Step::WriteCrc) => (1..=16).contains(&self.bits.len()),
-            (None, Step::SendPad) => (1..=8 * (3 + PAD + 2)).contains(&self.bits.len()),
+            (None, Step::SendCrc) => (1..=16).contains(&self.bits.len()),
+            (None, Step::SendRegisters) => (1..=24).contains(&self.bits.len()),
             (None, Step::CopyDone) => self.bits.len() == 1,
-            (None, Step::ReadData(_) | Step::PioRead | Step::PioConfirm | Step::PioStatus) => {
-                (1..=8).contains(&self.bits.len())
-            }
+            (
+                None,
+                Step::SendPad(_)
+                | Step::ReadData(_)
+                | Step::PioRead
+                | Step::PioConfirm
+                | Step::PioStatus,
+            ) => (1..=8).contains(&self.bits.len()),
             _ => self.bits.is_empty(),
         };
         (self.kind == DS28EC20 || self.kind == DS2413)
@@ -238,6 +253,7 @@ impl Chip {
             Step::Wait
         };
         self.bits.clear();
+        self.below.clear();
         self.trace.powered = true;
         if !book.slips(Slip::PowerKeepsRc) {
             self.rc = false;
@@ -283,6 +299,7 @@ impl Chip {
         }
         self.step = Step::RomCommand;
         self.bits.clear();
+        self.below.clear();
         self.trace.powered = false;
         self.trace.searched = false;
     }
@@ -304,7 +321,7 @@ impl Chip {
             && fresh
             && matches!(self.step, Step::PioRead | Step::PioStatus)
         {
-            self.bits = bits_of(&[self.status(book)]);
+            self.send_status(self.step, self.status(book));
         }
     }
 
@@ -347,7 +364,7 @@ impl Chip {
                 if let Some(bytes) = self.take(value) {
                     book.saw_if(self.trace.searched, Rule::RomSearchFunction);
                     if self.kind == DS28EC20 {
-                        self.memory_command(bytes[0], pad, book);
+                        self.memory_command(bytes[0], book);
                     } else {
                         self.pio_command(bytes[0], book);
                     }
@@ -368,17 +385,21 @@ impl Chip {
                     self.write_byte(offset, bytes[0], memory, pad, book);
                 }
             }
-            Step::WriteCrc => {
+            Step::SendRegisters => {
                 if self.all_sent() {
-                    book.saw(Rule::WriteCrc);
-                    book.saw_if(self.trace.changed, Rule::WriteCrcAsTaken);
-                    self.ones(Rule::WriteOnes);
+                    let whole = book.slips(Slip::PadFromZero);
+                    let start = if whole { 0 } else { usize::from(self.t) % PAD };
+                    self.send(Step::SendPad(start), &pad[start..=start]);
                 }
             }
-            Step::SendPad => {
+            Step::SendPad(offset) => {
                 if self.all_sent() {
-                    book.saw(Rule::PadWhole);
-                    self.ones(Rule::PadOnes);
+                    self.pad_byte_sent(offset, pad, book);
+                }
+            }
+            Step::SendCrc => {
+                if self.all_sent() {
+                    self.crc_sent(book);
                 }
             }
             Step::CopyBytes => {
@@ -412,7 +433,7 @@ impl Chip {
             Step::PioRead => {
                 if self.all_sent() {
                     book.saw(Rule::PioReadNext);
-                    self.bits = bits_of(&[self.status(book)]);
+                    self.send_status(Step::PioRead, self.status(book));
                 }
             }
             Step::PioPair => {
@@ -441,6 +462,7 @@ impl Chip {
 
     /// Takes a bit; gives the bytes when the step's last bit is in.
     fn take(&mut self, value: u8) -> Option<Vec<u8>> {
+        self.below.pop_front();
         self.bits.push_back(value);
         if Some(self.bits.len()) != self.takes() {
             return None;
@@ -574,13 +596,13 @@ impl Chip {
     }
 
     /// A whole function command of a DS28EC20.
-    fn memory_command(&mut self, command: u8, pad: &[u8], book: &mut Book) {
+    fn memory_command(&mut self, command: u8, book: &mut Book) {
         match command {
             0x0F => {
                 self.summed = vec![0x0F];
                 self.step = Step::WriteAddress;
             }
-            0xAA => self.read_pad(pad, book),
+            0xAA => self.read_pad(book),
             0x55 => self.step = Step::CopyBytes,
             0xF0 => self.step = Step::ReadAddress,
             0xA5 if book.slips(Slip::ExtendedRead) => self.step = Step::ReadAddress,
@@ -672,29 +694,44 @@ impl Chip {
         if offset < 31 {
             self.step = Step::WriteData(offset + 1);
         } else {
-            self.send(Step::WriteCrc, &Self::crc_bytes(&self.summed, book));
+            self.send(Step::SendCrc, &Self::crc_bytes(&self.summed, book));
         }
     }
 
-    /// Read Scratchpad: all it will send.
-    fn read_pad(&mut self, pad: &[u8], book: &mut Book) {
+    /// Read Scratchpad: the command is in.
+    fn read_pad(&mut self, book: &mut Book) {
         let start = usize::from(self.t) % PAD;
         let e = usize::from(self.es & 0x1F);
         book.saw_if(start > 0, Rule::PadOffset);
         book.saw_if(e < 31, Rule::PadPastE);
         book.saw_if(self.es & PF != 0, Rule::PadPf);
         book.saw_if(self.es & AA != 0, Rule::PadAa);
-        let start = if book.slips(Slip::PadFromZero) {
-            0
-        } else {
-            start
-        };
-        let end = if book.slips(Slip::PadToE) { e } else { 31 };
         let [ta1, ta2] = self.t.to_le_bytes();
-        let mut bytes = vec![0xAA, ta1, ta2, self.es];
-        bytes.extend(pad.iter().take(end + 1).skip(start));
-        bytes.extend(Self::crc_bytes(&bytes, book));
-        self.send(Step::SendPad, &bytes[1..]);
+        self.summed = vec![0xAA, ta1, ta2, self.es];
+        self.send(Step::SendRegisters, &[ta1, ta2, self.es]);
+    }
+
+    /// Read Scratchpad: the byte at an offset is sent.
+    fn pad_byte_sent(&mut self, offset: usize, pad: &[u8], book: &mut Book) {
+        self.summed.push(pad[offset]);
+        let e = usize::from(self.es & 0x1F);
+        let end = if book.slips(Slip::PadToE) { e } else { 31 };
+        if offset < end {
+            self.send(Step::SendPad(offset + 1), &pad[offset + 1..=offset + 1]);
+        } else {
+            self.send(Step::SendCrc, &Self::crc_bytes(&self.summed, book));
+        }
+    }
+
+    /// The CRC-16 of Read or Write Scratchpad is sent.
+    fn crc_sent(&mut self, book: &mut Book) {
+        if self.summed.first() == Some(&0xAA) {
+            book.saw(Rule::PadWhole);
+            return self.ones(Rule::PadOnes);
+        }
+        book.saw(Rule::WriteCrc);
+        book.saw_if(self.trace.changed, Rule::WriteCrcAsTaken);
+        self.ones(Rule::WriteOnes);
     }
 
     /// Copy Scratchpad: all 24 bits are in.
@@ -814,7 +851,7 @@ impl Chip {
         match command {
             0xF5 => {
                 book.saw(Rule::PioRead);
-                self.send(Step::PioRead, &[self.status(book)]);
+                self.send_status(Step::PioRead, self.status(book));
             }
             0x5A => self.step = Step::PioPair,
             _ => self.ones(Rule::OtherPio),
@@ -874,7 +911,13 @@ impl Chip {
         } else {
             self.status(book)
         };
-        self.send(Step::PioStatus, &[status]);
+        self.send_status(Step::PioStatus, status);
+    }
+
+    /// Sends a status byte in this step.
+    fn send_status(&mut self, step: Step, status: u8) {
+        self.sampled = status;
+        self.send(step, &[status]);
     }
 
     /// Counts what a power on meets.

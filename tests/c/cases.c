@@ -1,0 +1,128 @@
+/* Bench cases 2 to 9 of document 01 through the library. */
+#include "check.h"
+
+static struct host host;
+
+/* E/S of the only memory, by Read Scratchpad. */
+static uint8_t read_es(void)
+{
+    SKIP(&host, READ_SCRATCHPAD);
+    host_read(&host);
+    host_read(&host);
+    return host_read(&host);
+}
+
+static void test_search_cases(void)
+{
+    static const uint8_t firsts[4] = {0xAC, 0x55, 0xAF, 0x88};
+    uint8_t card[48];
+    uint64_t list[16] = {0}, resets, slots;
+    for (size_t i = 0; i < 4; i++)
+        card_record(card + 12 * i, TK_DS28EC20, firsts[i]);
+    check("case 2: set-up", host_set_up(&host, card, sizeof card));
+    int32_t found = tk_search(host.table, host.table_size, list, 16, host.images, host.images_size, host.pads,
+                              host.pads_size, &resets, &slots);
+    check("case 2: 88h, ACh, 55h, AFh", found == 4 && list[0] == 0x88 && list[1] == 0xAC && list[2] == 0x55 &&
+                                            list[3] == 0xAF && resets == 4 && slots == 800);
+    memset(list, 0, sizeof list);
+    found = tk_search(host.table, host.table_size, list, 2, host.images, host.images_size, host.pads, host.pads_size,
+                      &resets, &slots);
+    check("case 3: two places, refusal 4",
+          found == -TK_TOO_FEW_PLACES && list[0] == 0x88 && list[1] == 0xAC && list[2] == 0 && slots == 400);
+}
+
+static void test_case_4(void)
+{
+    set_up(&host, "1");
+    SKIP(&host, COPY_SCRATCHPAD, 0x00, 0x00, 0x20);
+    check("case 4: ones", host_read(&host) == 0xFF);
+    bool erased = true;
+    for (size_t i = 0; i < host.images_size; i++)
+        erased = erased && host.images[i] == 0xFF;
+    check("case 4: nothing copied", erased && read_es() == 0x20);
+}
+
+static void test_case_5(void)
+{
+    set_up(&host, "1");
+    SKIP(&host, WRITE_SCRATCHPAD, 0x06, 0x00, 0x12, 0x34);
+    check("case 5: E/S 07h", read_es() == 0x07);
+    SKIP(&host, COPY_SCRATCHPAD, 0x06, 0x00, 0x06);
+    check("case 5: copy 06 00 06, ones", host_read(&host) == 0xFF && read_es() == 0x07);
+    check("case 5: nothing written", host.images[6] == 0xFF && host.images[7] == 0xFF);
+    SKIP(&host, COPY_SCRATCHPAD, 0x06, 0x00, 0x07);
+    check("case 5: copy 06 00 07, 0 1 0 1", host_read(&host) == 0xAA && read_es() == 0x87);
+    check("case 5: both written",
+          host.images[5] == 0xFF && host.images[6] == 0x12 && host.images[7] == 0x34 && host.images[8] == 0xFF);
+}
+
+static void test_case_6(void)
+{
+    set_up(&host, "1");
+    host.images[0x0A00] = 0x55;
+    SKIP(&host, WRITE_SCRATCHPAD, 0x06, 0x00, 0x12, 0x34);
+    SKIP(&host, COPY_SCRATCHPAD, 0x06, 0x00, 0x07);
+    check("case 6: a held block, 0 1 0 1 and AA", host_read(&host) == 0xAA && read_es() == 0x87);
+    check("case 6: FFh stays", host.images[6] == 0xFF && host.images[7] == 0xFF);
+    host.images[0x0A1E] = 0xAA;
+    SKIP(&host, WRITE_SCRATCHPAD, 0x06, 0x00, 0x12, 0x34);
+    SKIP(&host, COPY_SCRATCHPAD, 0x06, 0x00, 0x07);
+    check("case 6: closed, no copy", host_read(&host) == 0xFF && read_es() == 0x07);
+}
+
+static void test_case_7(void)
+{
+    set_up(&host, "1");
+    host.images[0x0A00] = 0xAA;
+    host.images[6] = 0xF0;
+    SKIP(&host, WRITE_SCRATCHPAD, 0x06, 0x00, 0x3C);
+    check("case 7: 30h in the scratchpad", host.pads[6] == 0x30);
+    SKIP(&host, COPY_SCRATCHPAD, 0x06, 0x00, 0x06);
+    check("case 7: 30h in the memory", host_read(&host) == 0xAA && host.images[6] == 0x30);
+}
+
+static void test_case_8(void)
+{
+    static const uint8_t first[CODE_SIZE] = {1};
+    set_up(&host, "22");
+    SKIP(&host, PIO_ACCESS_READ);
+    check("case 8: all open, 0Fh", host_read(&host) == 0x0F);
+    host_match(&host, first);
+    host_write(&host, PIO_ACCESS_WRITE);
+    host_write(&host, 0xFE);
+    host_write(&host, 0x01);
+    check("case 8: FEh 01h, AAh 3Ch", host_read(&host) == 0xAA && host_read(&host) == 0x3C);
+    SKIP(&host, PIO_ACCESS_READ);
+    check("case 8: 0Fh and 3Ch together, 0Ch", host_read(&host) == 0x0C);
+    set_up(&host, "2");
+    check("case 8: A held low outside", host_event(&host, TK_LEVELS, 0, 2) == 1);
+    SKIP(&host, PIO_ACCESS_READ);
+    check("case 8: A held low outside, 1Eh", host_read(&host) == 0x1E);
+}
+
+static void test_case_9(void)
+{
+    static struct host held;
+    set_up(&host, "1");
+    SKIP(&host, WRITE_SCRATCHPAD, 0x00, 0x00, 0x12);
+    SKIP(&host, WRITE_SCRATCHPAD, 0x20, 0x01);
+    check("case 9: address only, E/S 00h", read_es() == 0x00);
+    held = host;
+    SKIP(&host, COPY_SCRATCHPAD, 0x20, 0x01, 0x00);
+    check("case 9: one old byte",
+          host_read(&host) == 0xAA && host.images[0x0120] == 0x12 && host.images[0x0121] == 0xFF);
+    held.images[0x0A01] = 0x55;
+    SKIP(&held, COPY_SCRATCHPAD, 0x20, 0x01, 0x00);
+    check("case 9: a held byte stays", host_read(&held) == 0xAA && held.images[0x0120] == 0xFF);
+}
+
+void test_cases(void)
+{
+    test_search_cases();
+    test_case_4();
+    test_case_5();
+    test_case_6();
+    test_case_7();
+    test_case_8();
+    test_case_9();
+}

@@ -1,0 +1,209 @@
+/*
+ * The functions of toemsakun.h behind standard input and output, for a tester that is another program.
+ *
+ * Numbers have the low byte first. A piece of memory is its size (4 bytes) and its bytes. A call is a letter and what
+ * it needs; its answer comes at once.
+ *
+ *   letter  needs                                          answers
+ *   S       chips (8)                                      tk_table_size (8)
+ *   C       card, table                                    tk_card (4), offset (8), table
+ *   L       table, images, pads: the line from here on     tk_images_size (8), tk_pads_size (8)
+ *   E       event (4), chip (4), levels (4)                tk_event (4), the line
+ *   F       list, its size 8 times the places              tk_search (4), resets (8), slots (8), list, the line
+ *   M                                                      images
+ *
+ * "The line" is the table, the pads and the FNV-1a sum of the images (8). The line that L gave stays, so that a tester
+ * also sees what builds up over calls. Each lent piece ends where a page without access begins, so that a read or write
+ * past its end stops the program; what lies before it is looked at after each call. The input's end ends the program; a
+ * fault in the input, or a write outside the pieces, ends it with status 2.
+ */
+#include <stdio.h>
+#include <stdlib.h>
+#include <string.h>
+#include <sys/mman.h>
+#include <unistd.h>
+
+#include "toemsakun.h"
+
+/* The most bytes of a piece. */
+#define ROOM 65536
+/* What stands before a piece, and so many bytes of it. */
+#define GUARD 0xA7
+#define GUARDS 256
+
+/* A lent piece: its size, and its bytes at the end of its pages. */
+struct piece {
+    uint8_t *end;
+    uint8_t *bytes;
+    size_t size;
+};
+
+static void fail(const char *what)
+{
+    fprintf(stderr, "driver: %s\n", what);
+    exit(2);
+}
+
+/* Pages for a piece, with one without access after them. */
+static struct piece new_piece(void)
+{
+    size_t page = (size_t)sysconf(_SC_PAGESIZE), all = ROOM + page;
+    uint8_t *start = mmap(NULL, all + page, PROT_READ | PROT_WRITE, MAP_PRIVATE | MAP_ANONYMOUS, -1, 0);
+    if (start == MAP_FAILED || mprotect(start + all, page, PROT_NONE) != 0)
+        fail("no memory");
+    return (struct piece){start + all, start + all, 0};
+}
+
+static void get(void *bytes, size_t size)
+{
+    if (fread(bytes, 1, size, stdin) != size)
+        fail("the input ends inside a call");
+}
+
+static uint64_t get_number(size_t size)
+{
+    uint8_t bytes[8];
+    uint64_t number = 0;
+    get(bytes, size);
+    for (size_t i = 0; i < size; i++)
+        number |= (uint64_t)bytes[i] << 8 * i;
+    return number;
+}
+
+static void put(const void *bytes, size_t size)
+{
+    if (fwrite(bytes, 1, size, stdout) != size)
+        fail("the output is closed");
+}
+
+static void put_number(uint64_t number, size_t size)
+{
+    for (size_t i = 0; i < size; i++, number >>= 8)
+        putchar((int)(number & 0xFF));
+}
+
+/* Takes a piece from the input. */
+static void get_piece(struct piece *piece)
+{
+    piece->size = (size_t)get_number(4);
+    if (piece->size > ROOM)
+        fail("a piece is too large");
+    piece->bytes = piece->end - piece->size;
+    get(piece->bytes, piece->size);
+    memset(piece->bytes - GUARDS, GUARD, GUARDS);
+}
+
+/* Ends the program where something before a piece was written. */
+static void look_before(const struct piece *piece)
+{
+    for (size_t i = 1; i <= GUARDS; i++)
+        if (piece->bytes[-(ptrdiff_t)i] != GUARD)
+            fail("a call wrote before a piece");
+}
+
+static void put_piece(const struct piece *piece)
+{
+    look_before(piece);
+    put_number(piece->size, 4);
+    put(piece->bytes, piece->size);
+}
+
+static struct piece table, images, pads, card, list;
+
+/* Writes the line: table, pads, sum of the images. */
+static void put_line(void)
+{
+    uint64_t sum = 0xCBF29CE484222325u;
+    for (size_t i = 0; i < images.size; i++)
+        sum = (sum ^ images.bytes[i]) * 0x100000001B3u;
+    put_piece(&table);
+    put_piece(&pads);
+    look_before(&images);
+    put_number(sum, 8);
+}
+
+/* C: set-up from a card, which must stay as it was. */
+static void do_card(void)
+{
+    static uint8_t copy[ROOM];
+    size_t offset = SIZE_MAX;
+    get_piece(&card);
+    get_piece(&table);
+    memcpy(copy, card.bytes, card.size);
+    int32_t answer = tk_card(card.bytes, card.size, table.bytes, table.size, &offset);
+    if (memcmp(copy, card.bytes, card.size) != 0)
+        fail("a call wrote into the card");
+    put_number((uint32_t)answer, 4);
+    put_number(offset, 8);
+    put_piece(&table);
+}
+
+/* L: the line from here on, and what its table asks. */
+static void do_lend(void)
+{
+    get_piece(&table);
+    get_piece(&images);
+    get_piece(&pads);
+    put_number(tk_images_size(table.bytes, table.size), 8);
+    put_number(tk_pads_size(table.bytes, table.size), 8);
+}
+
+/* E: one event. */
+static void do_event(void)
+{
+    uint32_t event = (uint32_t)get_number(4), chip = (uint32_t)get_number(4), levels = (uint32_t)get_number(4);
+    int32_t answer =
+        tk_event(table.bytes, table.size, event, chip, levels, images.bytes, images.size, pads.bytes, pads.size);
+    put_number((uint32_t)answer, 4);
+    put_line();
+}
+
+/* F: a search. */
+static void do_search(void)
+{
+    uint64_t resets = UINT64_MAX, slots = UINT64_MAX;
+    get_piece(&list);
+    if (list.size % sizeof(uint64_t) != 0)
+        fail("a list of parts of places");
+    int32_t answer = tk_search(table.bytes, table.size, (uint64_t *)(void *)list.bytes, list.size / sizeof(uint64_t),
+                               images.bytes, images.size, pads.bytes, pads.size, &resets, &slots);
+    put_number((uint32_t)answer, 4);
+    put_number(resets, 8);
+    put_number(slots, 8);
+    put_piece(&list);
+    put_line();
+}
+
+int main(void)
+{
+    table = new_piece();
+    images = new_piece();
+    pads = new_piece();
+    card = new_piece();
+    list = new_piece();
+    for (int letter; (letter = getchar()) != EOF; fflush(stdout)) {
+        switch (letter) {
+        case 'S':
+            put_number(tk_table_size((size_t)get_number(8)), 8);
+            break;
+        case 'C':
+            do_card();
+            break;
+        case 'L':
+            do_lend();
+            break;
+        case 'E':
+            do_event();
+            break;
+        case 'F':
+            do_search();
+            break;
+        case 'M':
+            put_piece(&images);
+            break;
+        default:
+            fail("no such call");
+        }
+    }
+    return 0;
+}
