@@ -1,6 +1,9 @@
 # The walked functions of crates/lent, and the contracts of what they call. See README.md beside this file.
 CRATE = 'lent'
-TYPES = {'Chip': 'chip', 'Act': 'line', 'Answer': 'line', 'Event': 'line', 'Standing': 'line', 'CardAnswer': 'card', 'Ask': 'machine', 'Machine': 'machine', 'Told': 'machine'}
+TYPES = {
+    'Chip': 'chip', 'Spot': 'turns', 'Look': 'turns', 'Sum': 'turns', 'Plan': 'turns', 'Deed': 'turns', 'Turned': 'turns',
+    'Act': 'line', 'Answer': 'line', 'Event': 'line', 'Standing': 'line', 'CardAnswer': 'card', 'Ask': 'machine', 'Machine': 'machine', 'Told': 'machine',
+}
 ENUMS = ['Act', 'Answer', 'CardAnswer', 'Standing', 'Ask', 'Plan', 'Deed']
 STRUCTS = {
     'Event': [('number', 'u32'), ('chip', 'u32'), ('levels', 'u32')],
@@ -8,11 +11,11 @@ STRUCTS = {
     'Turned': [('chip', 'Chip'), ('spot', 'Spot')],
     'Filled': [('chip', 'Chip'), ('fill', 'Fill')],
 }
-WALK = 'Rattle.lent.specs.Walk.'
+WALK = 'Rattle.turns.specs.Walk.'
 NO_CHIP = 'Rattle.line.specs.Event.{noChip}'
 LENT = 'Rattle.line.specs.Layout.{lent}'
 OUTCOME = 'Rattle.line.specs.Event.{answered, outcome}'
-AGREE = 'Rattle.lent.specs.Agree.'
+AGREE = 'Rattle.turns.specs.Agree.'
 CHIP = 'Rattle.chip.specs.Chip.'
 RECORD, OWN = ('c', '&mut Chip'), [('m', '&mut [u8]'), ('s', '&mut [u8]')]
 LIST = ('list', '&mut [u64]')
@@ -24,17 +27,17 @@ TABLE, BUFFERS = ('table', '&mut [Chip]'), [('ms', '&mut [u8]'), ('ss', '&mut [u
 
 FNS = [
     # what is called, by its contract
-    dict(name='lent::turns::first_look', params=[], result='Look', ensures='r ≡ firstLook'),
-    dict(name='lent::turns::look_at', params=[('c', 'Chip'), ('l', 'Look'), ('chip', 'u32')], result='Look', ensures='r ≡ lookAt chip c l'),
-    dict(name='lent::turns::first_sum', params=[('host', 'bool')], result='Sum', ensures='r ≡ firstSum host'),
-    dict(name='lent::turns::sum_at', params=[('c', 'Chip'), ('s', 'Sum'), ('ms', '&[u8]'), ('ss', '&[u8]')], result='Sum', ensures='r ≡ sumAt c s ms ss'),
-    dict(name='lent::turns::first_spot', params=[], result='Spot', ensures='r ≡ firstSpot'),
-    dict(name='lent::turns::act_turn', params=[('c', 'Chip'), ('p', 'Spot'), ('deed', 'Deed')] + BUFFERS, result='Turned',
+    dict(name='turns::first_look', params=[], result='Look', ensures='r ≡ firstLook'),
+    dict(name='turns::look_at', params=[('c', 'Chip'), ('l', 'Look'), ('chip', 'u32')], result='Look', ensures='r ≡ lookAt chip c l'),
+    dict(name='turns::first_sum', params=[('host', 'bool')], result='Sum', ensures='r ≡ firstSum host'),
+    dict(name='turns::sum_at', params=[('c', 'Chip'), ('s', 'Sum'), ('ms', '&[u8]'), ('ss', '&[u8]')], result='Sum', ensures='r ≡ sumAt c s ms ss'),
+    dict(name='turns::first_spot', params=[], result='Spot', ensures='r ≡ firstSpot'),
+    dict(name='turns::act_turn', params=[('c', 'Chip'), ('p', 'Spot'), ('deed', 'Deed')] + BUFFERS, result='Turned',
          ensures='turned (r .chip) (r .spot) ms′ ss′ ≡ turnOf deed c p ms ss'),
-    dict(name='lent::turns::host_bit', params=[('plan', 'Plan')], result='bool', ensures='r ≡ hostBit plan'),
-    dict(name='lent::turns::deed_of', params=[('plan', 'Plan'), ('value', 'bool')], result='Deed', ensures='r ≡ deedOf plan value'),
-    dict(name='lent::turns::answer_of', params=[('plan', 'Plan'), ('value', 'bool'), ('n', 'usize')], result='Answer', ensures='r ≡ answerOf plan value n'),
-    dict(name='lent::turns::plan_of', params=[('l', 'Look'), ('n', 'usize'), ('ev', 'Event'), ('images', 'usize'), ('pads', 'usize')], result='Plan',
+    dict(name='turns::host_bit', params=[('plan', 'Plan')], result='bool', ensures='r ≡ hostBit plan'),
+    dict(name='turns::deed_of', params=[('plan', 'Plan'), ('value', 'bool')], result='Deed', ensures='r ≡ deedOf plan value'),
+    dict(name='turns::answer_of', params=[('plan', 'Plan'), ('value', 'bool'), ('n', 'usize')], result='Answer', ensures='r ≡ answerOf plan value n'),
+    dict(name='turns::plan_of', params=[('l', 'Look'), ('n', 'usize'), ('ev', 'Event'), ('images', 'usize'), ('pads', 'usize')], result='Plan',
          ensures='r ≡ planOf l n ev images pads'),
 
     # the three loops over the table
@@ -83,7 +86,7 @@ FNS = [
     dict(name='machine::asks', params=[('h', 'Machine')], result='Ask', ensures='r ≡ asksOf h'),
     dict(name='machine::hears', params=[('h', 'Machine'), ('a', 'Answer'), LIST], result='Machine', ensures='stand r list′ ≡ hearsOf h (answered a) list'),
     dict(name='machine::begin', params=[('places', 'usize')], result='Machine', ensures='r ≡ beginOf places'),
-    dict(name='lent::turns::stands_by', params=[('l', 'Look'), ('n', 'usize'), ('images', 'usize'), ('pads', 'usize')], result='Standing', ensures='r ≡ standsBy l n images pads'),
+    dict(name='turns::stands_by', params=[('l', 'Look'), ('n', 'usize'), ('images', 'usize'), ('pads', 'usize')], result='Standing', ensures='r ≡ standsBy l n images pads'),
     dict(name='lent::seeking::chip_of', params=[('ask', 'Ask')], result='u32', ensures='r ≡ chipOf ask'),
     dict(name='lent::seeking::plan_ask', params=[('ask', 'Ask'), ('l', 'Look'), ('n', 'usize'), ('images', 'usize'), ('pads', 'usize')], result='Plan', ensures='r ≡ planAsk ask l n images pads'),
     dict(name='lent::seeking::turns_for', params=[('stands', 'Standing')], result='usize', ensures='r ≡ turnsFor stands'),

@@ -4,8 +4,8 @@ use Prim.Native.Nat.{ℕ}
 use mathlib.Core.List.{List, [], _∷_}
 use Rattle.chip.specs.declared.Chip.{Chip}
 use Rattle.line.specs.Event.{noChip}
-use Rattle.lent.specs.Walk.{lookAt, lookedOver}
-use Rattle.lent.specs.declared.Look.{Look}
+use Rattle.turns.specs.Walk.{lookAt, lookedOver}
+use Rattle.turns.specs.declared.Look.{Look}
 use Rattle.lent.proofs.Rows.{fold}
 
 pub folded : (chip : ℕ) (cs : List Chip) (l : Look) → fold noChip (lookAt chip) cs l ≡ lookedOver chip cs l

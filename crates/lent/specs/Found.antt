@@ -21,12 +21,12 @@ use Rattle.machine.specs.Searches.{turns, shown, machine-searches}
 use Rattle.machine.specs.declared.Ask.{Ask}
 use Rattle.machine.specs.declared.Ask.the-variants as ask
 use Rattle.machine.specs.declared.Machine.{Machine}
-use Rattle.lent.specs.Agree.{refused-is, stands-is, event-planned}
+use Rattle.turns.specs.Agree.{refused-is, stands-is, event-planned}
 use Rattle.lent.specs.Seek.{chipOf, planAsk, turnsFor, tellsBy}
-use Rattle.lent.specs.Walk.{firstLook, lookedOver, standsBy, carriedOut}
-use Rattle.lent.specs.declared.Look.{Look}
-use Rattle.lent.specs.declared.Plan.{Plan}
-use Rattle.lent.specs.declared.Plan.the-variants as plan
+use Rattle.turns.specs.Walk.{firstLook, lookedOver, standsBy, carriedOut}
+use Rattle.turns.specs.declared.Look.{Look}
+use Rattle.turns.specs.declared.Plan.{Plan}
+use Rattle.turns.specs.declared.Plan.the-variants as plan
 
 -- what is asked of the line
 module _ (cs : List Chip) (ms ss : List ℕ) where

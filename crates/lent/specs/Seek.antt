@@ -11,10 +11,10 @@ use Rattle.machine.specs.Searches.{turns}
 use Rattle.machine.specs.declared.Ask.{Ask}
 use Rattle.machine.specs.declared.Ask.the-variants as ask
 use Rattle.machine.specs.declared.Machine.{Machine}
-use Rattle.lent.specs.Walk.{planOf}
-use Rattle.lent.specs.declared.Look.{Look}
-use Rattle.lent.specs.declared.Plan.{Plan}
-use Rattle.lent.specs.declared.Plan.the-variants as plan
+use Rattle.turns.specs.Walk.{planOf}
+use Rattle.turns.specs.declared.Look.{Look}
+use Rattle.turns.specs.declared.Plan.{Plan}
+use Rattle.turns.specs.declared.Plan.the-variants as plan
 
 abbrev pub chipOf : Ask → ℕ
 chipOf ask.Nothing = 0

@@ -2,65 +2,20 @@
 pub mod record;
 mod seeking;
 mod setting;
-mod turns;
 
 use chip::Chip;
-use line::Act;
 use line::Answer;
 use line::Event;
 pub use seeking::search_line;
 pub use setting::set_up;
+use turns::Deed;
+use turns::Look;
+use turns::Plan;
 ghost use mathlib.Core.Path.{_≡_};
 ghost use lib.ListN.{length};
 ghost use Rattle.line.specs.Event.{answered, outcome, eventOf};
 ghost use Rattle.line.specs.Layout.{lent};
-ghost use Rattle.lent.specs.Walk.{firstSpot, firstLook, firstSum, lookedOver, sums, hostBit, acts, carriedOut};
-
-// Where the next chip of a walk stands: its number, and where its parts of the buffers begin.
-pub struct Spot {
-    pub place: usize,
-    pub image: usize,
-    pub pad: usize,
-}
-
-// What a look over a table has found: whether the chips are in range, the kind of the chip that an event names, and
-// where the walk has come to, which is also the sizes that the chips so far ask.
-pub struct Look {
-    pub fine: bool,
-    pub kind: u8,
-    pub spot: Spot,
-}
-
-// The value of the line so far.
-pub struct Sum {
-    pub value: bool,
-    pub spot: Spot,
-}
-
-// What an event comes to on a table that was looked over.
-pub enum Plan {
-    // nothing happens, and this is answered
-    Nothing(Answer),
-    // a slot, with the host's bit
-    Slot(bool),
-    Reset,
-    PowerOn,
-    Levels { place: usize, levels: u8 },
-}
-
-// What the chips do.
-pub enum Deed {
-    Nothing,
-    Every(Act),
-    // new outside levels of one chip
-    Levels { place: usize, levels: u8 },
-}
-
-// A chip after a turn, and where the next one stands.
-pub struct Turned {
-    pub chip: Chip,
-    pub spot: Spot,
-}
+ghost use Rattle.turns.specs.Walk.{firstSpot, firstLook, firstSum, lookedOver, sums, hostBit, acts, carriedOut};
 
 // How many chips of a card are still to come, and where in the card the next one stands.
 pub struct Fill {

@@ -1,9 +1,6 @@
 // The search over a lent table: the host's machine puts one event a turn on the line.
-use crate::Look;
-use crate::Plan;
 use crate::carry_out;
 use crate::look_over;
-use crate::turns;
 use chip::Chip;
 use line::Answer;
 use line::Standing;
@@ -13,6 +10,8 @@ use machine::Told;
 use search::Resets;
 use search::SearchAnswer;
 use search::Slots;
+use turns::Look;
+use turns::Plan;
 ghost use mathlib.Core.Path.{_≡_};
 ghost use lib.ListN.{length};
 ghost use Rattle.line.specs.Event.{answered};

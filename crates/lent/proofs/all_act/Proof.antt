@@ -49,30 +49,30 @@ use denote.Triple.Walked.{says, Stays, stay-slice, stay-none, walkOf, goes-none,
 use denote.Triple.Clauses.{ensured, Lasts, lasts}
 use denote.Exit.{yes}
 use Rattle.chip.specs.declared.Chip.{Chip}
-use Rattle.lent.specs.declared.Deed.{Deed}
-use Rattle.lent.specs.declared.Spot.{Spot}
-use Rattle.lent.specs.declared.Turned.{Turned}
-use Rattle.lent.specs.Walk.{Turn, turned, turnOf, firstSpot, acts}
+use Rattle.turns.specs.declared.Deed.{Deed}
+use Rattle.turns.specs.declared.Spot.{Spot}
+use Rattle.turns.specs.declared.Turned.{Turned}
+use Rattle.turns.specs.Walk.{Turn, turned, turnOf, firstSpot, acts}
 use Rattle.line.specs.Event.{noChip}
 use Rattle.line.specs.Layout.{lent}
 use Rattle.lent.proofs.Again.{LentAgain, lends-at, back-at}
 use Rattle.lent.proofs.Rows.{holds, fails}
 use Rattle.chip.proofs.Chip as Chip-row
 use Rattle.chip.proofs.Chip.Laws as Chip-laws
-use Rattle.lent.proofs.Deed as Deed-row
-use Rattle.lent.proofs.Deed.Laws as Deed-laws
-use Rattle.lent.proofs.Spot as Spot-row
-use Rattle.lent.proofs.Spot.Laws as Spot-laws
-use Rattle.lent.proofs.Turned as Turned-row
-use Rattle.lent.proofs.Turned.Laws as Turned-laws
-use Rattle.lent.proofs.turns.first_spot as lent-turns-first-spot′
-use Rattle.lent.proofs.turns.first_spot.Symbol as lent-turns-first-spot-def
-use Rattle.lent.proofs.turns.first_spot.Symbol.{name as #lent-turns-first-spot}
-use Rattle.lent.proofs.turns.first_spot.Met as lent-turns-first-spot-thm
-use Rattle.lent.proofs.turns.act_turn as lent-turns-act-turn′
-use Rattle.lent.proofs.turns.act_turn.Symbol as lent-turns-act-turn-def
-use Rattle.lent.proofs.turns.act_turn.Symbol.{name as #lent-turns-act-turn}
-use Rattle.lent.proofs.turns.act_turn.Met as lent-turns-act-turn-thm
+use Rattle.turns.proofs.Deed as Deed-row
+use Rattle.turns.proofs.Deed.Laws as Deed-laws
+use Rattle.turns.proofs.Spot as Spot-row
+use Rattle.turns.proofs.Spot.Laws as Spot-laws
+use Rattle.turns.proofs.Turned as Turned-row
+use Rattle.turns.proofs.Turned.Laws as Turned-laws
+use Rattle.turns.proofs.first_spot as turns-first-spot′
+use Rattle.turns.proofs.first_spot.Symbol as turns-first-spot-def
+use Rattle.turns.proofs.first_spot.Symbol.{name as #turns-first-spot}
+use Rattle.turns.proofs.first_spot.Met as turns-first-spot-thm
+use Rattle.turns.proofs.act_turn as turns-act-turn′
+use Rattle.turns.proofs.act_turn.Symbol as turns-act-turn-def
+use Rattle.turns.proofs.act_turn.Symbol.{name as #turns-act-turn}
+use Rattle.turns.proofs.act_turn.Met as turns-act-turn-thm
 use Rattle.lent.proofs.all_act.Key.{name as #all-act}
 use Rattle.lent.proofs.all_act as f
 use Rattle.lent.proofs.all_act.Statement as stated
@@ -101,11 +101,11 @@ over i n e l = omega (arith, e, l)
 abbrev stayed : Stays (f.ended .signature .params) (f.ended .kept)
 stayed = (stay-slice (0 ∷ []) tt (plain (λ _. Chip-row.the-row)), (stay-none (λ _. Deed-row.the-row) yes, (stay-slice (1 ∷ []) tt (plain (λ _. u8)), (stay-slice (2 ∷ []) tt (plain (λ _. u8)), tt))))
 
-abbrev lent-turns-first-spot-says : {M : Type 1} (𝓤 : URA M) (H : Heap 𝓤) (A : Atoms 𝓤) (at-mem : Memory → SProp 𝓤) (run : Routine → Fun 𝓤) → Contract 𝓤
-lent-turns-first-spot-says 𝓤 H A at-mem run = tripleOf 𝓤 H A lent-turns-first-spot′.signature (lent-turns-first-spot′.spec 𝓤 H A at-mem run)
+abbrev turns-first-spot-says : {M : Type 1} (𝓤 : URA M) (H : Heap 𝓤) (A : Atoms 𝓤) (at-mem : Memory → SProp 𝓤) (run : Routine → Fun 𝓤) → Contract 𝓤
+turns-first-spot-says 𝓤 H A at-mem run = tripleOf 𝓤 H A turns-first-spot′.signature (turns-first-spot′.spec 𝓤 H A at-mem run)
 
-abbrev lent-turns-act-turn-says : {M : Type 1} (𝓤 : URA M) (H : Heap 𝓤) (A : Atoms 𝓤) (at-mem : Memory → SProp 𝓤) (run : Routine → Fun 𝓤) → Contract 𝓤
-lent-turns-act-turn-says 𝓤 H A at-mem run = tripleOf 𝓤 H A lent-turns-act-turn′.signature (lent-turns-act-turn′.spec 𝓤 H A at-mem run)
+abbrev turns-act-turn-says : {M : Type 1} (𝓤 : URA M) (H : Heap 𝓤) (A : Atoms 𝓤) (at-mem : Memory → SProp 𝓤) (run : Routine → Fun 𝓤) → Contract 𝓤
+turns-act-turn-says 𝓤 H A at-mem run = tripleOf 𝓤 H A turns-act-turn′.signature (turns-act-turn′.spec 𝓤 H A at-mem run)
 
 module _ {M : Type 1} (𝓤 : URA M) (H : Heap 𝓤) (A : Atoms 𝓤) (W : Given 𝓤 H A) (at-mem : Memory → SProp 𝓤) (run : Routine → Fun 𝓤) (κ-table : Lft) (q-table : Share) (κ-ms : Lft) (q-ms : Share) (κ-ss : Lft) (q-ss : Share) (table-b table-o : ℕ) (table-γ : GName) (table : List Chip) (table-room : Room Chip-row.the-row (length table)) (deed : Deed) (deed-is : Is Deed-row.the-row deed ((EL.vals Deed-row.the-type Deed-laws.the-laws) deed)) (ms-b ms-o : ℕ) (ms-γ : GName) (ms : List ℕ) (ms-room : Room u8 (length ms)) (ss-b ss-o : ℕ) (ss-γ : GName) (ss : List ℕ) (ss-room : Room u8 (length ss)) where
   abbrev Post : Val → SProp 𝓤
@@ -115,7 +115,7 @@ module _ {M : Type 1} (𝓤 : URA M) (H : Heap 𝓤) (A : Atoms 𝓤) (W : Given
   exits r r-is table′ table-len ms′ ms-len ss′ ss-len e =
       qed W (‵ (MutSlice (named 0) κ-table Chip-row.the-row .own (record { ptr = (table-b, table-o); name = table-γ; now = table′ }) ((sliceVal (table-b, table-o) (length table)) ∷ [])) ∷ ‵ (flft κ-table q-table) ∷ ‵ (MutSlice (named 1) κ-ms u8 .own (record { ptr = (ms-b, ms-o); name = ms-γ; now = ms′ }) ((sliceVal (ms-b, ms-o) (length ms)) ∷ [])) ∷ ‵ (flft κ-ms q-ms) ∷ ‵ (MutSlice (named 2) κ-ss u8 .own (record { ptr = (ss-b, ss-o); name = ss-γ; now = ss′ }) ((sliceVal (ss-b, ss-o) (length ss)) ∷ [])) ∷ ‵ (flft κ-ss q-ss) ∷ []) ∵ suffices ! _ (ends-at 𝓤 H A f.ended stayed (f.clauses 𝓤 H A at-mem run) W (((κ-table, (κ-ms, (κ-ss, tt))), (q-table, (q-ms, (q-ss, tt))), tt, ((record { ptr = (table-b, table-o); name = table-γ; now = table }), (deed, ((record { ptr = (ms-b, ms-o); name = ms-γ; now = ms }), ((record { ptr = (ss-b, ss-o); name = ss-γ; now = ss }), tt)))), ((sliceVal (table-b, table-o) (length table)) ∷ [], (((EL.vals Deed-row.the-type Deed-laws.the-laws) deed), ((sliceVal (ms-b, ms-o) (length ms)) ∷ [], ((sliceVal (ss-b, ss-o) (length ss)) ∷ [], tt))))), tt) vunit r (table′, (_, (ms′, (ss′, tt)))) (table-len, (tt, (ms-len, (ss-len, tt))))) $ says ! e $ nothing ! $ move ! (6 ∷ 0 ∷ []) $ join ! $ move ! (4 ∷ 0 ∷ []) $ join ! $ move ! (2 ∷ 0 ∷ []) $ join ! $ frame ! $ nothing ! $ move ! (3 ∷ 0 ∷ []) $ fjoin ! $ move ! (2 ∷ 0 ∷ []) $ fjoin ! $ owned ! Deed-row.the-row (Is Deed-row.the-row) (EL.makes Deed-row.the-type Deed-laws.the-plain 𝓤 H A) deed _ deed-is $ fjoin ! $ move ! (1 ∷ 0 ∷ []) $ fjoin ! $ frame ! $ owned ! unit (Is unit) (nothing-makes 𝓤 H A W) r _ r-is $ done !
 
-  module _ (𝓣 : Tables 𝓤 H) (known-lent-turns-first-spot : Triple 𝓤 (𝓣 .C #lent-turns-first-spot) (lent-turns-first-spot-says 𝓤 H A at-mem run)) (known-lent-turns-act-turn : Triple 𝓤 (𝓣 .C #lent-turns-act-turn) (lent-turns-act-turn-says 𝓤 H A at-mem run)) (l₀ l₁ l₂ l₃ l₄ l₅ l₆ l₇ l₈ l₉ l₁₀ l₁₁ l₁₂ l₁₃ l₁₄ l₁₅ l₁₆ : ℕ) where
+  module _ (𝓣 : Tables 𝓤 H) (known-turns-first-spot : Triple 𝓤 (𝓣 .C #turns-first-spot) (turns-first-spot-says 𝓤 H A at-mem run)) (known-turns-act-turn : Triple 𝓤 (𝓣 .C #turns-act-turn) (turns-act-turn-says 𝓤 H A at-mem run)) (l₀ l₁ l₂ l₃ l₄ l₅ l₆ l₇ l₈ l₉ l₁₀ l₁₁ l₁₂ l₁₃ l₁₄ l₁₅ l₁₆ : ℕ) where
     abbrev C : Calls 𝓤 H
     C = 𝓣 .C
 
@@ -183,10 +183,10 @@ module _ {M : Type 1} (𝓤 : URA M) (H : Heap 𝓤) (A : Atoms 𝓤) (W : Given
         owned ! Spot-row.the-row (Is Spot-row.the-row) (LL.makes Spot-row.the-type Spot-laws.the-plain 𝓤 H A) spot ((LL.vals Spot-row.the-type Spot-laws.the-laws) spot) spot-is $ fjoin ! $
         owned ! Chip-row.the-row (Is Chip-row.the-row) (LL.makes Chip-row.the-type Chip-laws.the-plain 𝓤 H A) (getD table′ i noChip) ((LL.vals Chip-row.the-type Chip-laws.the-laws) (getD table′ i noChip)) table-was $ fjoin ! $
         nothing ! $ move ! (3 ∷ 0 ∷ []) $ join ! $ move ! (4 ∷ 0 ∷ []) $ join ! $ join ! $
-        use1 W (raw (lent-turns-act-turn-says 𝓤 H A at-mem run .pre ((((ν-ms ∷ []), ((ν-ss ∷ []), tt)), (fullShare, (fullShare, tt)), tt, ((getD table′ i noChip), (spot, (deed, ((record { ptr = (ms-b, ms-o); name = δ-ms; now = ms′ }), ((record { ptr = (ss-b, ss-o); name = δ-ss; now = ss′ }), tt))))), (((LL.vals Chip-row.the-type Chip-laws.the-laws) (getD table′ i noChip)), (((LL.vals Spot-row.the-type Spot-laws.the-laws) spot), (((EL.vals Deed-row.the-type Deed-laws.the-laws) deed), (((sliceVal (ms-b, ms-o) (length ms)) ∷ []), (((sliceVal (ss-b, ss-o) (length ss)) ∷ []), tt)))))), tt))) (qed W (((‵ (flft (ν-ms ∷ []) fullShare) ⊛ ‵ (flft (ν-ss ∷ []) fullShare) ⊛ ‵ ftrue) ⊛ ‵ (owns (Chip-row.the-row ∷ Spot-row.the-row ∷ Deed-row.the-row ∷ MutSlice (named 0) (ν-ms ∷ []) u8 ∷ MutSlice (named 1) (ν-ss ∷ []) u8 ∷ []) ((getD table′ i noChip), (spot, (deed, ((record { ptr = (ms-b, ms-o); name = δ-ms; now = ms′ }), ((record { ptr = (ss-b, ss-o); name = δ-ss; now = ss′ }), tt))))) (((LL.vals Chip-row.the-type Chip-laws.the-laws) (getD table′ i noChip)), (((LL.vals Spot-row.the-type Spot-laws.the-laws) spot), (((EL.vals Deed-row.the-type Deed-laws.the-laws) deed), (((sliceVal (ms-b, ms-o) (length ms)) ∷ []), (((sliceVal (ss-b, ss-o) (length ss)) ∷ []), tt))))))) ∷ []) ∵ nothing ! $ move ! (1 ∷ 0 ∷ []) $ split ! $ join ! $ frame ! $ done !) $
-        calls-at ! fm (lent-turns-act-turn-says 𝓤 H A at-mem run) known-lent-turns-act-turn ((((ν-ms ∷ []), ((ν-ss ∷ []), tt)), (fullShare, (fullShare, tt)), tt, ((getD table′ i noChip), (spot, (deed, ((record { ptr = (ms-b, ms-o); name = δ-ms; now = ms′ }), ((record { ptr = (ss-b, ss-o); name = δ-ss; now = ss′ }), tt))))), (((LL.vals Chip-row.the-type Chip-laws.the-laws) (getD table′ i noChip)), (((LL.vals Spot-row.the-type Spot-laws.the-laws) spot), (((EL.vals Deed-row.the-type Deed-laws.the-laws) deed), (((sliceVal (ms-b, ms-o) (length ms)) ∷ []), (((sliceVal (ss-b, ss-o) (length ss)) ∷ []), tt)))))), tt) (and-then ! (load ! (from ! (stop !)) (look ! 18 refl)) (and-then ! (load ! (from ! (stop !)) (look ! 30 refl)) (and-then ! (load ! (from ! (stop !)) (look ! 36 refl)) (and-then ! (load ! (from ! (stop !)) (look ! 14 refl)) (and-then ! (load ! (from ! (stop !)) (look ! 10 refl)) (no-more !)))))) (λ w.
-        use1 W (later (some (λ (r : Turned). ((‵ (flft (ν-ms ∷ []) fullShare) ⊛ ‵ (flft (ν-ss ∷ []) fullShare) ⊛ ‵ ftrue) ⊛ ‵ (Turned-row.the-row .own r (w ∷ []))) ⊛ raw (ensured 𝓤 H A lent-turns-act-turn′.ended (lent-turns-act-turn′.clauses 𝓤 H A at-mem run) ((ν-ms ∷ []), ((ν-ss ∷ []), tt)) ((getD table′ i noChip), (spot, (deed, ((record { ptr = (ms-b, ms-o); name = δ-ms; now = ms′ }), ((record { ptr = (ss-b, ss-o); name = δ-ss; now = ss′ }), tt))))) tt r)))) (id⊢ 𝓤 _) $ await ! tt $ pick ! (λ r. split ! $ move ! (1 ∷ []) $
-        use1 W (some (λ (ws : Lasts lent-turns-act-turn′.ended ((ν-ms ∷ []), ((ν-ss ∷ []), tt)) ((getD table′ i noChip), (spot, (deed, ((record { ptr = (ms-b, ms-o); name = δ-ms; now = ms′ }), ((record { ptr = (ss-b, ss-o); name = δ-ss; now = ss′ }), tt)))))). ‵ (lasts lent-turns-act-turn′.ended ((ν-ms ∷ []), ((ν-ss ∷ []), tt)) ((getD table′ i noChip), (spot, (deed, ((record { ptr = (ms-b, ms-o); name = δ-ms; now = ms′ }), ((record { ptr = (ss-b, ss-o); name = δ-ss; now = ss′ }), tt))))) ws) ⊛ raw (fact 𝓤 (turned (r .chip) (r .spot) (ws .1 .1 .1 .0) (ws .1 .1 .1 .1 .0) ≡ turnOf deed (getD table′ i noChip) spot ms′ ss′)))) (id⊢ 𝓤 _) $ pick ! (λ ws. split ! $ move ! (1 ∷ []) $
+        use1 W (raw (turns-act-turn-says 𝓤 H A at-mem run .pre ((((ν-ms ∷ []), ((ν-ss ∷ []), tt)), (fullShare, (fullShare, tt)), tt, ((getD table′ i noChip), (spot, (deed, ((record { ptr = (ms-b, ms-o); name = δ-ms; now = ms′ }), ((record { ptr = (ss-b, ss-o); name = δ-ss; now = ss′ }), tt))))), (((LL.vals Chip-row.the-type Chip-laws.the-laws) (getD table′ i noChip)), (((LL.vals Spot-row.the-type Spot-laws.the-laws) spot), (((EL.vals Deed-row.the-type Deed-laws.the-laws) deed), (((sliceVal (ms-b, ms-o) (length ms)) ∷ []), (((sliceVal (ss-b, ss-o) (length ss)) ∷ []), tt)))))), tt))) (qed W (((‵ (flft (ν-ms ∷ []) fullShare) ⊛ ‵ (flft (ν-ss ∷ []) fullShare) ⊛ ‵ ftrue) ⊛ ‵ (owns (Chip-row.the-row ∷ Spot-row.the-row ∷ Deed-row.the-row ∷ MutSlice (named 0) (ν-ms ∷ []) u8 ∷ MutSlice (named 1) (ν-ss ∷ []) u8 ∷ []) ((getD table′ i noChip), (spot, (deed, ((record { ptr = (ms-b, ms-o); name = δ-ms; now = ms′ }), ((record { ptr = (ss-b, ss-o); name = δ-ss; now = ss′ }), tt))))) (((LL.vals Chip-row.the-type Chip-laws.the-laws) (getD table′ i noChip)), (((LL.vals Spot-row.the-type Spot-laws.the-laws) spot), (((EL.vals Deed-row.the-type Deed-laws.the-laws) deed), (((sliceVal (ms-b, ms-o) (length ms)) ∷ []), (((sliceVal (ss-b, ss-o) (length ss)) ∷ []), tt))))))) ∷ []) ∵ nothing ! $ move ! (1 ∷ 0 ∷ []) $ split ! $ join ! $ frame ! $ done !) $
+        calls-at ! fm (turns-act-turn-says 𝓤 H A at-mem run) known-turns-act-turn ((((ν-ms ∷ []), ((ν-ss ∷ []), tt)), (fullShare, (fullShare, tt)), tt, ((getD table′ i noChip), (spot, (deed, ((record { ptr = (ms-b, ms-o); name = δ-ms; now = ms′ }), ((record { ptr = (ss-b, ss-o); name = δ-ss; now = ss′ }), tt))))), (((LL.vals Chip-row.the-type Chip-laws.the-laws) (getD table′ i noChip)), (((LL.vals Spot-row.the-type Spot-laws.the-laws) spot), (((EL.vals Deed-row.the-type Deed-laws.the-laws) deed), (((sliceVal (ms-b, ms-o) (length ms)) ∷ []), (((sliceVal (ss-b, ss-o) (length ss)) ∷ []), tt)))))), tt) (and-then ! (load ! (from ! (stop !)) (look ! 18 refl)) (and-then ! (load ! (from ! (stop !)) (look ! 30 refl)) (and-then ! (load ! (from ! (stop !)) (look ! 36 refl)) (and-then ! (load ! (from ! (stop !)) (look ! 14 refl)) (and-then ! (load ! (from ! (stop !)) (look ! 10 refl)) (no-more !)))))) (λ w.
+        use1 W (later (some (λ (r : Turned). ((‵ (flft (ν-ms ∷ []) fullShare) ⊛ ‵ (flft (ν-ss ∷ []) fullShare) ⊛ ‵ ftrue) ⊛ ‵ (Turned-row.the-row .own r (w ∷ []))) ⊛ raw (ensured 𝓤 H A turns-act-turn′.ended (turns-act-turn′.clauses 𝓤 H A at-mem run) ((ν-ms ∷ []), ((ν-ss ∷ []), tt)) ((getD table′ i noChip), (spot, (deed, ((record { ptr = (ms-b, ms-o); name = δ-ms; now = ms′ }), ((record { ptr = (ss-b, ss-o); name = δ-ss; now = ss′ }), tt))))) tt r)))) (id⊢ 𝓤 _) $ await ! tt $ pick ! (λ r. split ! $ move ! (1 ∷ []) $
+        use1 W (some (λ (ws : Lasts turns-act-turn′.ended ((ν-ms ∷ []), ((ν-ss ∷ []), tt)) ((getD table′ i noChip), (spot, (deed, ((record { ptr = (ms-b, ms-o); name = δ-ms; now = ms′ }), ((record { ptr = (ss-b, ss-o); name = δ-ss; now = ss′ }), tt)))))). ‵ (lasts turns-act-turn′.ended ((ν-ms ∷ []), ((ν-ss ∷ []), tt)) ((getD table′ i noChip), (spot, (deed, ((record { ptr = (ms-b, ms-o); name = δ-ms; now = ms′ }), ((record { ptr = (ss-b, ss-o); name = δ-ss; now = ss′ }), tt))))) ws) ⊛ raw (fact 𝓤 (turned (r .chip) (r .spot) (ws .1 .1 .1 .0) (ws .1 .1 .1 .1 .0) ≡ turnOf deed (getD table′ i noChip) spot ms′ ss′)))) (id⊢ 𝓤 _) $ pick ! (λ ws. split ! $ move ! (1 ∷ []) $
         heard ! (turned (r .chip) (r .spot) (ws .1 .1 .1 .0) (ws .1 .1 .1 .1 .0) ≡ turnOf deed (getD table′ i noChip) spot ms′ ss′) (λ e. fsplit ! $ drop ! $ fsplit ! $ drop ! $ fsplit ! $ drop ! $ fsplit ! $ fsplit ! $
         move ! (1 ∷ []) $ feqL ! (λ ms-as-long. move ! (1 ∷ []) $ fsplit ! $ fsplit ! $ move ! (1 ∷ []) $ feqL ! (λ ss-as-long. move ! (1 ∷ []) $ drop ! $ move ! (2 ∷ []) $ split ! $ split ! $ move ! (1 ∷ []) $ split ! $
         move ! (1 ∷ []) $ drop ! $ move ! (2 ∷ []) $ peeks ! Turned-row.the-row (Is Turned-row.the-row) (shows 𝓤 H A Turned-row.the-row) r (w ∷ []) (λ is. drop ! $
@@ -225,11 +225,11 @@ module _ {M : Type 1} (𝓤 : URA M) (H : Heap 𝓤) (A : Atoms 𝓤) (W : Given
         move ! (1 ∷ []) $ drop ! $
         -- [lft ss; lft ms; lft table; own ss; own ms; own table | _16 (6); _15 (8); _14 (10); _13 (12); _12 (14); _11 (16); _10 (18); _9 (20); _8 (22); _7 (24); _6 (26); _5 (28); _4 (30); _3 (32); _2 (34); _1 (36); _0 (38)]
         nothing ! $ nothing ! $ join ! $
-        use1 W (raw (lent-turns-first-spot-says 𝓤 H A at-mem run .pre ((tt, tt, tt, tt, tt), tt))) (qed W (((‵ ftrue) ⊛ ‵ (owns ([]) tt tt)) ∷ []) ∵ nothing ! $ move ! (1 ∷ 0 ∷ []) $ split ! $ join ! $ frame ! $ done !) $
-        calls-at ! fm (lent-turns-first-spot-says 𝓤 H A at-mem run) known-lent-turns-first-spot ((tt, tt, tt, tt, tt), tt) (no-more !) (λ w.
-        use1 W (later (some (λ (r : Spot). ((‵ ftrue) ⊛ ‵ (Spot-row.the-row .own r (w ∷ []))) ⊛ raw (ensured 𝓤 H A lent-turns-first-spot′.ended (lent-turns-first-spot′.clauses 𝓤 H A at-mem run) tt tt tt r)))) (id⊢ 𝓤 _) $ await ! tt $ pick ! (λ r. split ! $ move ! (1 ∷ []) $
-        use1 W (some (λ (ws : Lasts lent-turns-first-spot′.ended tt tt). ‵ (lasts lent-turns-first-spot′.ended tt tt ws) ⊛ raw (fact 𝓤 (r ≡ firstSpot)))) (id⊢ 𝓤 _) $ pick ! (λ ws. split ! $ move ! (1 ∷ []) $
-        heard ! (r ≡ firstSpot) (λ e. drop ! $ split ! $ drop ! $ peeks ! Spot-row.the-row (Is Spot-row.the-row) (shows 𝓤 H A Spot-row.the-row) r (w ∷ []) (λ is. drop ! $
+        use1 W (raw (turns-first-spot-says 𝓤 H A at-mem run .pre ((tt, tt, tt, tt, tt), tt))) (qed W (((‵ ftrue) ⊛ ‵ (owns ([]) tt tt)) ∷ []) ∵ nothing ! $ move ! (1 ∷ 0 ∷ []) $ split ! $ join ! $ frame ! $ done !) $
+        calls-at ! fm (turns-first-spot-says 𝓤 H A at-mem run) known-turns-first-spot ((tt, tt, tt, tt, tt), tt) (no-more !) (λ w.
+        use1 W (later (some (λ (r : Spot). ((‵ ftrue) ⊛ ‵ (Spot-row.the-row .own r (w ∷ []))) ⊛ raw (ensured 𝓤 H A turns-first-spot′.ended (turns-first-spot′.clauses 𝓤 H A at-mem run) tt tt tt r)))) (id⊢ 𝓤 _) $ await ! tt $ pick ! (λ r. split ! $ move ! (1 ∷ []) $
+        use1 W (some (λ (ws : Lasts turns-first-spot′.ended tt tt). ‵ (lasts turns-first-spot′.ended tt tt ws) ⊛ raw (fact 𝓤 (r ≡ firstSpot)))) (id⊢ 𝓤 _) $ pick ! (λ ws. split ! $ move ! (1 ∷ []) $ heard ! (r ≡ firstSpot) (λ e.
+        drop ! $ split ! $ drop ! $ peeks ! Spot-row.the-row (Is Spot-row.the-row) (shows 𝓤 H A Spot-row.the-row) r (w ∷ []) (λ is. drop ! $
         land ! (from ! (stop !)) (init ! 28 refl ((LL.lawful Spot-row.the-type Spot-laws.the-laws 𝓤 H A W) .typed r _ is .0)) $
         rewrite ! 28 (λ (u : Val). ‵ (fat fullShare Spot-laws.mir l₅ 0 u)) (ap only ((LL.tells Spot-row.the-type Spot-laws.the-laws) r _ is)) refl $
         -- [lft ss; lft ms; lft table; own ss; own ms; own table | _16 (6); _15 (8); _14 (10); _13 (12); _12 (14); _11 (16); _10 (18); _9 (20); _8 (22); _7 (24); _6 (26); _5 (28); _4 (30); _3 (32); _2 (34); _1 (36); _0 (38)]
@@ -237,20 +237,20 @@ module _ {M : Type 1} (𝓤 : URA M) (H : Heap 𝓤) (A : Atoms 𝓤) (W : Given
         opens-slice ! tt Chip-row.the-row table table-b table-o $
         by ! (loops table r ms ss refl (subst (λ (us : List Val). Is Spot-row.the-row r us) ((LL.tells Spot-row.the-type Spot-laws.the-laws) r _ is) is) refl refl (ap (λ (p : Spot). acts deed (length table) 0 p table ms ss) e)))))))
 
-  walk : (𝓣 : Tables 𝓤 H) → Triple 𝓤 (𝓣 .C #lent-turns-first-spot) (lent-turns-first-spot-says 𝓤 H A at-mem run) → Triple 𝓤 (𝓣 .C #lent-turns-act-turn) (lent-turns-act-turn-says 𝓤 H A at-mem run) → ent 𝓤 (onEntry 𝓤 H A f.signature (κ-table, (κ-ms, (κ-ss, tt))) (q-table, (q-ms, (q-ss, tt))) ((record { ptr = (table-b, table-o); name = table-γ; now = table }), (deed, ((record { ptr = (ms-b, ms-o); name = ms-γ; now = ms }), ((record { ptr = (ss-b, ss-o); name = ss-γ; now = ss }), tt)))) ((sliceVal (table-b, table-o) (length table)) ∷ [], (((EL.vals Deed-row.the-type Deed-laws.the-laws) deed), ((sliceVal (ms-b, ms-o) (length ms)) ∷ [], ((sliceVal (ss-b, ss-o) (length ss)) ∷ [], tt))))) (WpFn 𝓤 H (𝓣 .C) (𝓣 .Λ) code.function ((sliceVal (table-b, table-o) (length table)) ∷ (EL.val Deed-row.the-type Deed-laws.the-laws deed) ∷ (sliceVal (ms-b, ms-o) (length ms)) ∷ (sliceVal (ss-b, ss-o) (length ss)) ∷ []) Post)
-  walk 𝓣 known-lent-turns-first-spot known-lent-turns-act-turn =
+  walk : (𝓣 : Tables 𝓤 H) → Triple 𝓤 (𝓣 .C #turns-first-spot) (turns-first-spot-says 𝓤 H A at-mem run) → Triple 𝓤 (𝓣 .C #turns-act-turn) (turns-act-turn-says 𝓤 H A at-mem run) → ent 𝓤 (onEntry 𝓤 H A f.signature (κ-table, (κ-ms, (κ-ss, tt))) (q-table, (q-ms, (q-ss, tt))) ((record { ptr = (table-b, table-o); name = table-γ; now = table }), (deed, ((record { ptr = (ms-b, ms-o); name = ms-γ; now = ms }), ((record { ptr = (ss-b, ss-o); name = ss-γ; now = ss }), tt)))) ((sliceVal (table-b, table-o) (length table)) ∷ [], (((EL.vals Deed-row.the-type Deed-laws.the-laws) deed), ((sliceVal (ms-b, ms-o) (length ms)) ∷ [], ((sliceVal (ss-b, ss-o) (length ss)) ∷ [], tt))))) (WpFn 𝓤 H (𝓣 .C) (𝓣 .Λ) code.function ((sliceVal (table-b, table-o) (length table)) ∷ (EL.val Deed-row.the-type Deed-laws.the-laws deed) ∷ (sliceVal (ms-b, ms-o) (length ms)) ∷ (sliceVal (ss-b, ss-o) (length ss)) ∷ []) Post)
+  walk 𝓣 known-turns-first-spot known-turns-act-turn =
       qed W ((‵ (flft κ-table q-table) ⊛ ‵ (flft κ-ms q-ms) ⊛ ‵ (flft κ-ss q-ss) ⊛ ‵ ftrue) ∷ ‵ (owns (MutSlice (named 0) κ-table Chip-row.the-row ∷ Deed-row.the-row ∷ MutSlice (named 1) κ-ms u8 ∷ MutSlice (named 2) κ-ss u8 ∷ []) ((record { ptr = (table-b, table-o); name = table-γ; now = table }), (deed, ((record { ptr = (ms-b, ms-o); name = ms-γ; now = ms }), ((record { ptr = (ss-b, ss-o); name = ss-γ; now = ss }), tt)))) ((sliceVal (table-b, table-o) (length table)) ∷ [], (((EL.vals Deed-row.the-type Deed-laws.the-laws) deed), ((sliceVal (ms-b, ms-o) (length ms)) ∷ [], ((sliceVal (ss-b, ss-o) (length ss)) ∷ [], tt))))) ∷ []) ∵ enter ! (𝓣 .C) (𝓣 .Λ) code.function ((sliceVal (table-b, table-o) (length table)) ∷ (EL.val Deed-row.the-type Deed-laws.the-laws deed) ∷ (sliceVal (ms-b, ms-o) (length ms)) ∷ (sliceVal (ss-b, ss-o) (length ss)) ∷ []) _ $
       alloc1 ! (λ l₀. alloc1 ! (λ l₁. alloc1 ! (λ l₂. alloc1 ! (λ l₃. alloc1 ! (λ l₄. alloc1 ! (λ l₅. alloc1 ! (λ l₆. alloc1 ! (λ l₇. alloc1 ! (λ l₈. alloc1 ! (λ l₉. alloc1 ! (λ l₁₀. alloc1 ! (λ l₁₁. alloc1 ! (λ l₁₂. alloc1 ! (λ l₁₃. alloc1 ! (λ l₁₄. alloc1 ! (λ l₁₅. alloc1 ! (λ l₁₆. alloc0 ! $ params1 ! $ pass1 ! (init ! 30 refl (tt, (tt, (record { fits = table-room .0 }, tt)))) $ pass1 ! (init ! 28 refl ((EL.lawful Deed-row.the-type Deed-laws.the-laws 𝓤 H A W tt) .typed deed ((EL.vals Deed-row.the-type Deed-laws.the-laws) deed) deed-is .0)) $ pass1 ! (init ! 26 refl (tt, (tt, (record { fits = ms-room .0 }, tt)))) $ pass1 ! (init ! 24 refl (tt, (tt, (record { fits = ss-room .0 }, tt)))) $ pass0 ! $
-      starts 𝓣 known-lent-turns-first-spot known-lent-turns-act-turn l₀ l₁ l₂ l₃ l₄ l₅ l₆ l₇ l₈ l₉ l₁₀ l₁₁ l₁₂ l₁₃ l₁₄ l₁₅ l₁₆)))))))))))))))))
+      starts 𝓣 known-turns-first-spot known-turns-act-turn l₀ l₁ l₂ l₃ l₄ l₅ l₆ l₇ l₈ l₉ l₁₀ l₁₁ l₁₂ l₁₃ l₁₄ l₁₅ l₁₆)))))))))))))))))
 
 module _ {M : Type 1} (𝓤 : URA M) (H : Heap 𝓤) (A : Atoms 𝓤) (W : Given 𝓤 H A) (at-mem : Memory → SProp 𝓤) (run : Routine → Fun 𝓤) where
-  walks : (𝓣 : Tables 𝓤 H) → Triple 𝓤 (𝓣 .C #lent-turns-first-spot) (lent-turns-first-spot-says 𝓤 H A at-mem run) → Triple 𝓤 (𝓣 .C #lent-turns-act-turn) (lent-turns-act-turn-says 𝓤 H A at-mem run) → Walks 𝓤 H A f.ended stayed (WpFn 𝓤 H (𝓣 .C) (𝓣 .Λ) code.function) (f.clauses 𝓤 H A at-mem run)
-  walks 𝓣 known-lent-turns-first-spot known-lent-turns-act-turn = walked 𝓤 H A f.ended stayed (f.clauses 𝓤 H A at-mem run) (WpFn 𝓤 H (𝓣 .C) (𝓣 .Λ) code.function) (λ κs. (slice-vals, ((EL.vals Deed-row.the-type Deed-laws.the-laws), (slice-vals, (slice-vals, tt))))) (λ κs. (mut-slice-tells (named 0) (κs .0) Chip-row.the-row, ((EL.tells Deed-row.the-type Deed-laws.the-laws), (mut-slice-tells (named 1) (κs .1 .0) u8, (mut-slice-tells (named 2) (κs .1 .1 .0) u8, tt)))))
-      (λ κs qs bounds a _ are. via 𝓤 _ (fst∗ 𝓤 _ (emp 𝓤)) (walk 𝓤 H A W at-mem run (κs .0) (qs .0) (κs .1 .0) (qs .1 .0) (κs .1 .1 .0) (qs .1 .1 .0) (a .0 .ptr .0) (a .0 .ptr .1) (a .0 .name) (a .0 .now) (are .0 .0 .1) (a .1 .0) (are .1 .0) (a .1 .1 .0 .ptr .0) (a .1 .1 .0 .ptr .1) (a .1 .1 .0 .name) (a .1 .1 .0 .now) (are .1 .1 .0 .0 .1) (a .1 .1 .1 .0 .ptr .0) (a .1 .1 .1 .0 .ptr .1) (a .1 .1 .1 .0 .name) (a .1 .1 .1 .0 .now) (are .1 .1 .1 .0 .0 .1) 𝓣 known-lent-turns-first-spot known-lent-turns-act-turn))
+  walks : (𝓣 : Tables 𝓤 H) → Triple 𝓤 (𝓣 .C #turns-first-spot) (turns-first-spot-says 𝓤 H A at-mem run) → Triple 𝓤 (𝓣 .C #turns-act-turn) (turns-act-turn-says 𝓤 H A at-mem run) → Walks 𝓤 H A f.ended stayed (WpFn 𝓤 H (𝓣 .C) (𝓣 .Λ) code.function) (f.clauses 𝓤 H A at-mem run)
+  walks 𝓣 known-turns-first-spot known-turns-act-turn = walked 𝓤 H A f.ended stayed (f.clauses 𝓤 H A at-mem run) (WpFn 𝓤 H (𝓣 .C) (𝓣 .Λ) code.function) (λ κs. (slice-vals, ((EL.vals Deed-row.the-type Deed-laws.the-laws), (slice-vals, (slice-vals, tt))))) (λ κs. (mut-slice-tells (named 0) (κs .0) Chip-row.the-row, ((EL.tells Deed-row.the-type Deed-laws.the-laws), (mut-slice-tells (named 1) (κs .1 .0) u8, (mut-slice-tells (named 2) (κs .1 .1 .0) u8, tt)))))
+      (λ κs qs bounds a _ are. via 𝓤 _ (fst∗ 𝓤 _ (emp 𝓤)) (walk 𝓤 H A W at-mem run (κs .0) (qs .0) (κs .1 .0) (qs .1 .0) (κs .1 .1 .0) (qs .1 .1 .0) (a .0 .ptr .0) (a .0 .ptr .1) (a .0 .name) (a .0 .now) (are .0 .0 .1) (a .1 .0) (are .1 .0) (a .1 .1 .0 .ptr .0) (a .1 .1 .0 .ptr .1) (a .1 .1 .0 .name) (a .1 .1 .0 .now) (are .1 .1 .0 .0 .1) (a .1 .1 .1 .0 .ptr .0) (a .1 .1 .1 .0 .ptr .1) (a .1 .1 .1 .0 .name) (a .1 .1 .1 .0 .now) (are .1 .1 .1 .0 .0 .1) 𝓣 known-turns-first-spot known-turns-act-turn))
 
-  meets : (𝓣 : Tables 𝓤 H) → Triple 𝓤 (𝓣 .C #lent-turns-first-spot) (lent-turns-first-spot-says 𝓤 H A at-mem run) → Triple 𝓤 (𝓣 .C #lent-turns-act-turn) (lent-turns-act-turn-says 𝓤 H A at-mem run) → Meets 𝓤 H A f.signature (WpFn 𝓤 H (𝓣 .C) (𝓣 .Λ) code.function) (f.spec 𝓤 H A at-mem run)
-  meets 𝓣 known-lent-turns-first-spot known-lent-turns-act-turn = walk-meets 𝓤 H A f.ended stayed W (goes-slice 𝓤 H A W 3 0 tt (plain (λ _. Chip-row.the-row)), (goes-none 𝓤 H A W 3 (λ _. Deed-row.the-row) yes (λ κs x f. refl), (goes-slice 𝓤 H A W 3 1 tt (plain (λ _. u8)), (goes-slice 𝓤 H A W 3 2 tt (plain (λ _. u8)), tt)))) (f.clauses 𝓤 H A at-mem run)
-      (WpFn 𝓤 H (𝓣 .C) (𝓣 .Λ) code.function) (WpFn-mono 𝓤 H (W .laws) 𝓣 code.function) (walks 𝓣 known-lent-turns-first-spot known-lent-turns-act-turn)
+  meets : (𝓣 : Tables 𝓤 H) → Triple 𝓤 (𝓣 .C #turns-first-spot) (turns-first-spot-says 𝓤 H A at-mem run) → Triple 𝓤 (𝓣 .C #turns-act-turn) (turns-act-turn-says 𝓤 H A at-mem run) → Meets 𝓤 H A f.signature (WpFn 𝓤 H (𝓣 .C) (𝓣 .Λ) code.function) (f.spec 𝓤 H A at-mem run)
+  meets 𝓣 known-turns-first-spot known-turns-act-turn = walk-meets 𝓤 H A f.ended stayed W (goes-slice 𝓤 H A W 3 0 tt (plain (λ _. Chip-row.the-row)), (goes-none 𝓤 H A W 3 (λ _. Deed-row.the-row) yes (λ κs x f. refl), (goes-slice 𝓤 H A W 3 1 tt (plain (λ _. u8)), (goes-slice 𝓤 H A W 3 2 tt (plain (λ _. u8)), tt)))) (f.clauses 𝓤 H A at-mem run)
+      (WpFn 𝓤 H (𝓣 .C) (𝓣 .Λ) code.function) (WpFn-mono 𝓤 H (W .laws) 𝓣 code.function) (walks 𝓣 known-turns-first-spot known-turns-act-turn)
 
 pub all-act-spec : {M : Type 1} → stated.statement M
 unfolding code.routine tablesOf
@@ -258,5 +258,5 @@ all-act-spec 𝓤 H 𝓜 𝓖 𝓡 =
     entered 𝓤 H (tripleOf 𝓤 H (𝓖 .A) f.signature (f.spec 𝓤 H (𝓖 .A) (𝓜 .mem) (𝓡 .run)))
     (tables 𝓤 H 𝓜 𝓡 code.env .C) (tables 𝓤 H 𝓜 𝓡 code.env .Λ) #all-act code.function (code.unfolded 𝓤 H 𝓜 𝓡)
     (meets 𝓤 H (𝓖 .A) (givenOf 𝓤 H 𝓜 𝓖) (𝓜 .mem) (𝓡 .run) (tablesOf 𝓤 H 𝓜 (tables 𝓤 H 𝓜 𝓡 code.env))
-    (cited 𝓤 H (lent-turns-first-spot-says 𝓤 H (𝓖 .A) (𝓜 .mem) (𝓡 .run)) 𝓜 𝓡 code.env #lent-turns-first-spot lent-turns-first-spot-def.routine code.calls-lent·turns·first-spot (lent-turns-first-spot-thm.met 𝓤 H 𝓜 𝓖 𝓡))
-    (cited 𝓤 H (lent-turns-act-turn-says 𝓤 H (𝓖 .A) (𝓜 .mem) (𝓡 .run)) 𝓜 𝓡 code.env #lent-turns-act-turn lent-turns-act-turn-def.routine code.calls-lent·turns·act-turn (lent-turns-act-turn-thm.met 𝓤 H 𝓜 𝓖 𝓡)))
+    (cited 𝓤 H (turns-first-spot-says 𝓤 H (𝓖 .A) (𝓜 .mem) (𝓡 .run)) 𝓜 𝓡 code.env #turns-first-spot turns-first-spot-def.routine code.calls-turns·first-spot (turns-first-spot-thm.met 𝓤 H 𝓜 𝓖 𝓡))
+    (cited 𝓤 H (turns-act-turn-says 𝓤 H (𝓖 .A) (𝓜 .mem) (𝓡 .run)) 𝓜 𝓡 code.env #turns-act-turn turns-act-turn-def.routine code.calls-turns·act-turn (turns-act-turn-thm.met 𝓤 H 𝓜 𝓖 𝓡)))

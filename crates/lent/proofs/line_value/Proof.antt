@@ -47,22 +47,22 @@ use denote.Triple.Walked.{says, Stays, stay-none-slice, stay-none, walkOf, goes-
 use denote.Triple.Clauses.{ensured, Lasts, lasts}
 use denote.Exit.{yes}
 use Rattle.chip.specs.declared.Chip.{Chip}
-use Rattle.lent.specs.declared.Sum.{Sum}
-use Rattle.lent.specs.Walk.{firstSum, sumAt, sums}
+use Rattle.turns.specs.declared.Sum.{Sum}
+use Rattle.turns.specs.Walk.{firstSum, sumAt, sums}
 use Rattle.line.specs.Event.{noChip}
 use Rattle.lent.proofs.Rows.{holds, fails}
 use Rattle.chip.proofs.Chip as Chip-row
 use Rattle.chip.proofs.Chip.Laws as Chip-laws
-use Rattle.lent.proofs.Sum as Sum-row
-use Rattle.lent.proofs.Sum.Laws as Sum-laws
-use Rattle.lent.proofs.turns.first_sum as lent-turns-first-sum′
-use Rattle.lent.proofs.turns.first_sum.Symbol as lent-turns-first-sum-def
-use Rattle.lent.proofs.turns.first_sum.Symbol.{name as #lent-turns-first-sum}
-use Rattle.lent.proofs.turns.first_sum.Met as lent-turns-first-sum-thm
-use Rattle.lent.proofs.turns.sum_at as lent-turns-sum-at′
-use Rattle.lent.proofs.turns.sum_at.Symbol as lent-turns-sum-at-def
-use Rattle.lent.proofs.turns.sum_at.Symbol.{name as #lent-turns-sum-at}
-use Rattle.lent.proofs.turns.sum_at.Met as lent-turns-sum-at-thm
+use Rattle.turns.proofs.Sum as Sum-row
+use Rattle.turns.proofs.Sum.Laws as Sum-laws
+use Rattle.turns.proofs.first_sum as turns-first-sum′
+use Rattle.turns.proofs.first_sum.Symbol as turns-first-sum-def
+use Rattle.turns.proofs.first_sum.Symbol.{name as #turns-first-sum}
+use Rattle.turns.proofs.first_sum.Met as turns-first-sum-thm
+use Rattle.turns.proofs.sum_at as turns-sum-at′
+use Rattle.turns.proofs.sum_at.Symbol as turns-sum-at-def
+use Rattle.turns.proofs.sum_at.Symbol.{name as #turns-sum-at}
+use Rattle.turns.proofs.sum_at.Met as turns-sum-at-thm
 use Rattle.lent.proofs.line_value.Key.{name as #line-value}
 use Rattle.lent.proofs.line_value as f
 use Rattle.lent.proofs.line_value.Statement as stated
@@ -91,11 +91,11 @@ over i n e l = omega (arith, e, l)
 abbrev stayed : Stays (f.ended .signature .params) (f.ended .kept)
 stayed = (stay-none-slice (0 ∷ []) tt (plain (λ _. Chip-row.the-row)) yes, (stay-none (λ _. bool) yes, (stay-none-slice (1 ∷ []) tt (plain (λ _. u8)) yes, (stay-none-slice (2 ∷ []) tt (plain (λ _. u8)) yes, tt))))
 
-abbrev lent-turns-first-sum-says : {M : Type 1} (𝓤 : URA M) (H : Heap 𝓤) (A : Atoms 𝓤) (at-mem : Memory → SProp 𝓤) (run : Routine → Fun 𝓤) → Contract 𝓤
-lent-turns-first-sum-says 𝓤 H A at-mem run = tripleOf 𝓤 H A lent-turns-first-sum′.signature (lent-turns-first-sum′.spec 𝓤 H A at-mem run)
+abbrev turns-first-sum-says : {M : Type 1} (𝓤 : URA M) (H : Heap 𝓤) (A : Atoms 𝓤) (at-mem : Memory → SProp 𝓤) (run : Routine → Fun 𝓤) → Contract 𝓤
+turns-first-sum-says 𝓤 H A at-mem run = tripleOf 𝓤 H A turns-first-sum′.signature (turns-first-sum′.spec 𝓤 H A at-mem run)
 
-abbrev lent-turns-sum-at-says : {M : Type 1} (𝓤 : URA M) (H : Heap 𝓤) (A : Atoms 𝓤) (at-mem : Memory → SProp 𝓤) (run : Routine → Fun 𝓤) → Contract 𝓤
-lent-turns-sum-at-says 𝓤 H A at-mem run = tripleOf 𝓤 H A lent-turns-sum-at′.signature (lent-turns-sum-at′.spec 𝓤 H A at-mem run)
+abbrev turns-sum-at-says : {M : Type 1} (𝓤 : URA M) (H : Heap 𝓤) (A : Atoms 𝓤) (at-mem : Memory → SProp 𝓤) (run : Routine → Fun 𝓤) → Contract 𝓤
+turns-sum-at-says 𝓤 H A at-mem run = tripleOf 𝓤 H A turns-sum-at′.signature (turns-sum-at′.spec 𝓤 H A at-mem run)
 
 module _ {M : Type 1} (𝓤 : URA M) (H : Heap 𝓤) (A : Atoms 𝓤) (W : Given 𝓤 H A) (at-mem : Memory → SProp 𝓤) (run : Routine → Fun 𝓤) (κ-table : Lft) (q-table : Share) (κ-ms : Lft) (q-ms : Share) (κ-ss : Lft) (q-ss : Share) (table-b table-o : ℕ) (table-γ : GName) (table : List Chip) (table-room : Room Chip-row.the-row (length table)) (host : Bool) (host-is : Is bool host (bool-vals host)) (ms-b ms-o : ℕ) (ms-γ : GName) (ms : List ℕ) (ms-room : Room u8 (length ms)) (ss-b ss-o : ℕ) (ss-γ : GName) (ss : List ℕ) (ss-room : Room u8 (length ss)) where
   abbrev Post : Val → SProp 𝓤
@@ -105,7 +105,7 @@ module _ {M : Type 1} (𝓤 : URA M) (H : Heap 𝓤) (A : Atoms 𝓤) (W : Given
   exits r r-is e =
       qed W (‵ (ShrSlice (named 0) κ-table Chip-row.the-row .own (record { ptr = (table-b, table-o); name = table-γ; now = table }) ((sliceVal (table-b, table-o) (length table)) ∷ [])) ∷ ‵ (flft κ-table q-table) ∷ ‵ (ShrSlice (named 1) κ-ms u8 .own (record { ptr = (ms-b, ms-o); name = ms-γ; now = ms }) ((sliceVal (ms-b, ms-o) (length ms)) ∷ [])) ∷ ‵ (flft κ-ms q-ms) ∷ ‵ (ShrSlice (named 2) κ-ss u8 .own (record { ptr = (ss-b, ss-o); name = ss-γ; now = ss }) ((sliceVal (ss-b, ss-o) (length ss)) ∷ [])) ∷ ‵ (flft κ-ss q-ss) ∷ []) ∵ suffices ! _ (ends-at 𝓤 H A f.ended stayed (f.clauses 𝓤 H A at-mem run) W (((κ-table, (κ-ms, (κ-ss, tt))), (q-table, (q-ms, (q-ss, tt))), tt, ((record { ptr = (table-b, table-o); name = table-γ; now = table }), (host, ((record { ptr = (ms-b, ms-o); name = ms-γ; now = ms }), ((record { ptr = (ss-b, ss-o); name = ss-γ; now = ss }), tt)))), ((sliceVal (table-b, table-o) (length table)) ∷ [], ((bool-vals host), ((sliceVal (ms-b, ms-o) (length ms)) ∷ [], ((sliceVal (ss-b, ss-o) (length ss)) ∷ [], tt))))), tt) (vbool r) r (tt, (tt, (tt, (tt, tt)))) (tt, (tt, (tt, (tt, tt))))) $ says ! e $ nothing ! $ move ! (6 ∷ 0 ∷ []) $ join ! $ move ! (4 ∷ 0 ∷ []) $ join ! $ move ! (2 ∷ 0 ∷ []) $ join ! $ frame ! $ nothing ! $ move ! (3 ∷ 0 ∷ []) $ fjoin ! $ move ! (2 ∷ 0 ∷ []) $ fjoin ! $ owned ! bool (Is bool) (bool-makes 𝓤 H A W) host _ host-is $ fjoin ! $ move ! (1 ∷ 0 ∷ []) $ fjoin ! $ frame ! $ owned ! bool (Is bool) (bool-makes 𝓤 H A W) r _ r-is $ done !
 
-  module _ (𝓣 : Tables 𝓤 H) (known-lent-turns-first-sum : Triple 𝓤 (𝓣 .C #lent-turns-first-sum) (lent-turns-first-sum-says 𝓤 H A at-mem run)) (known-lent-turns-sum-at : Triple 𝓤 (𝓣 .C #lent-turns-sum-at) (lent-turns-sum-at-says 𝓤 H A at-mem run)) (l₀ l₁ l₂ l₃ l₄ l₅ l₆ l₇ l₈ l₉ l₁₀ : ℕ) where
+  module _ (𝓣 : Tables 𝓤 H) (known-turns-first-sum : Triple 𝓤 (𝓣 .C #turns-first-sum) (turns-first-sum-says 𝓤 H A at-mem run)) (known-turns-sum-at : Triple 𝓤 (𝓣 .C #turns-sum-at) (turns-sum-at-says 𝓤 H A at-mem run)) (l₀ l₁ l₂ l₃ l₄ l₅ l₆ l₇ l₈ l₉ l₁₀ : ℕ) where
     abbrev C : Calls 𝓤 H
     C = 𝓣 .C
 
@@ -168,10 +168,10 @@ module _ {M : Type 1} (𝓤 : URA M) (H : Heap 𝓤) (A : Atoms 𝓤) (W : Given
         owned ! Sum-row.the-row (Is Sum-row.the-row) (LL.makes Sum-row.the-type Sum-laws.the-plain 𝓤 H A) sum ((LL.vals Sum-row.the-type Sum-laws.the-laws) sum) sum-is $ fjoin ! $
         owned ! Chip-row.the-row (Is Chip-row.the-row) (LL.makes Chip-row.the-type Chip-laws.the-plain 𝓤 H A) (getD table i noChip) ((LL.vals Chip-row.the-type Chip-laws.the-laws) (getD table i noChip)) table-was $ fjoin ! $
         nothing ! $ move ! (9 ∷ 0 ∷ []) $ join ! $ move ! (9 ∷ 0 ∷ []) $ join ! $ join ! $
-        use1 W (raw (lent-turns-sum-at-says 𝓤 H A at-mem run .pre (((κ-ms, (κ-ss, tt)), (q-ms, (q-ss, tt)), tt, ((getD table i noChip), (sum, ((record { ptr = (ms-b, ms-o); name = ms-γ; now = ms }), ((record { ptr = (ss-b, ss-o); name = ss-γ; now = ss }), tt)))), (((LL.vals Chip-row.the-type Chip-laws.the-laws) (getD table i noChip)), (((LL.vals Sum-row.the-type Sum-laws.the-laws) sum), (((sliceVal (ms-b, ms-o) (length ms)) ∷ []), (((sliceVal (ss-b, ss-o) (length ss)) ∷ []), tt))))), tt))) (qed W (((‵ (flft κ-ms q-ms) ⊛ ‵ (flft κ-ss q-ss) ⊛ ‵ ftrue) ⊛ ‵ (owns (Chip-row.the-row ∷ Sum-row.the-row ∷ ShrSlice (named 0) κ-ms u8 ∷ ShrSlice (named 1) κ-ss u8 ∷ []) ((getD table i noChip), (sum, ((record { ptr = (ms-b, ms-o); name = ms-γ; now = ms }), ((record { ptr = (ss-b, ss-o); name = ss-γ; now = ss }), tt)))) (((LL.vals Chip-row.the-type Chip-laws.the-laws) (getD table i noChip)), (((LL.vals Sum-row.the-type Sum-laws.the-laws) sum), (((sliceVal (ms-b, ms-o) (length ms)) ∷ []), (((sliceVal (ss-b, ss-o) (length ss)) ∷ []), tt)))))) ∷ []) ∵ nothing ! $ move ! (1 ∷ 0 ∷ []) $ split ! $ join ! $ frame ! $ done !) $
-        calls-at ! fm (lent-turns-sum-at-says 𝓤 H A at-mem run) known-lent-turns-sum-at (((κ-ms, (κ-ss, tt)), (q-ms, (q-ss, tt)), tt, ((getD table i noChip), (sum, ((record { ptr = (ms-b, ms-o); name = ms-γ; now = ms }), ((record { ptr = (ss-b, ss-o); name = ss-γ; now = ss }), tt)))), (((LL.vals Chip-row.the-type Chip-laws.the-laws) (getD table i noChip)), (((LL.vals Sum-row.the-type Sum-laws.the-laws) sum), (((sliceVal (ms-b, ms-o) (length ms)) ∷ []), (((sliceVal (ss-b, ss-o) (length ss)) ∷ []), tt))))), tt) (and-then ! (load ! (from ! (stop !)) (look ! 8 refl)) (and-then ! (load ! (from ! (stop !)) (look ! 18 refl)) (and-then ! (load ! (from ! (stop !)) (look ! 22 refl)) (and-then ! (load ! (from ! (stop !)) (look ! 20 refl)) (no-more !))))) (λ w.
-        use1 W (later (some (λ (r : Sum). ((‵ (flft κ-ms q-ms) ⊛ ‵ (flft κ-ss q-ss) ⊛ ‵ ftrue) ⊛ ‵ (Sum-row.the-row .own r (w ∷ []))) ⊛ raw (ensured 𝓤 H A lent-turns-sum-at′.ended (lent-turns-sum-at′.clauses 𝓤 H A at-mem run) (κ-ms, (κ-ss, tt)) ((getD table i noChip), (sum, ((record { ptr = (ms-b, ms-o); name = ms-γ; now = ms }), ((record { ptr = (ss-b, ss-o); name = ss-γ; now = ss }), tt)))) tt r)))) (id⊢ 𝓤 _) $ await ! tt $ pick ! (λ r. split ! $ move ! (1 ∷ []) $
-        use1 W (some (λ (ws : Lasts lent-turns-sum-at′.ended (κ-ms, (κ-ss, tt)) ((getD table i noChip), (sum, ((record { ptr = (ms-b, ms-o); name = ms-γ; now = ms }), ((record { ptr = (ss-b, ss-o); name = ss-γ; now = ss }), tt))))). ‵ (lasts lent-turns-sum-at′.ended (κ-ms, (κ-ss, tt)) ((getD table i noChip), (sum, ((record { ptr = (ms-b, ms-o); name = ms-γ; now = ms }), ((record { ptr = (ss-b, ss-o); name = ss-γ; now = ss }), tt)))) ws) ⊛ raw (fact 𝓤 (r ≡ sumAt (getD table i noChip) sum ms ss)))) (id⊢ 𝓤 _) $ pick ! (λ ws. split ! $ move ! (1 ∷ []) $
+        use1 W (raw (turns-sum-at-says 𝓤 H A at-mem run .pre (((κ-ms, (κ-ss, tt)), (q-ms, (q-ss, tt)), tt, ((getD table i noChip), (sum, ((record { ptr = (ms-b, ms-o); name = ms-γ; now = ms }), ((record { ptr = (ss-b, ss-o); name = ss-γ; now = ss }), tt)))), (((LL.vals Chip-row.the-type Chip-laws.the-laws) (getD table i noChip)), (((LL.vals Sum-row.the-type Sum-laws.the-laws) sum), (((sliceVal (ms-b, ms-o) (length ms)) ∷ []), (((sliceVal (ss-b, ss-o) (length ss)) ∷ []), tt))))), tt))) (qed W (((‵ (flft κ-ms q-ms) ⊛ ‵ (flft κ-ss q-ss) ⊛ ‵ ftrue) ⊛ ‵ (owns (Chip-row.the-row ∷ Sum-row.the-row ∷ ShrSlice (named 0) κ-ms u8 ∷ ShrSlice (named 1) κ-ss u8 ∷ []) ((getD table i noChip), (sum, ((record { ptr = (ms-b, ms-o); name = ms-γ; now = ms }), ((record { ptr = (ss-b, ss-o); name = ss-γ; now = ss }), tt)))) (((LL.vals Chip-row.the-type Chip-laws.the-laws) (getD table i noChip)), (((LL.vals Sum-row.the-type Sum-laws.the-laws) sum), (((sliceVal (ms-b, ms-o) (length ms)) ∷ []), (((sliceVal (ss-b, ss-o) (length ss)) ∷ []), tt)))))) ∷ []) ∵ nothing ! $ move ! (1 ∷ 0 ∷ []) $ split ! $ join ! $ frame ! $ done !) $
+        calls-at ! fm (turns-sum-at-says 𝓤 H A at-mem run) known-turns-sum-at (((κ-ms, (κ-ss, tt)), (q-ms, (q-ss, tt)), tt, ((getD table i noChip), (sum, ((record { ptr = (ms-b, ms-o); name = ms-γ; now = ms }), ((record { ptr = (ss-b, ss-o); name = ss-γ; now = ss }), tt)))), (((LL.vals Chip-row.the-type Chip-laws.the-laws) (getD table i noChip)), (((LL.vals Sum-row.the-type Sum-laws.the-laws) sum), (((sliceVal (ms-b, ms-o) (length ms)) ∷ []), (((sliceVal (ss-b, ss-o) (length ss)) ∷ []), tt))))), tt) (and-then ! (load ! (from ! (stop !)) (look ! 8 refl)) (and-then ! (load ! (from ! (stop !)) (look ! 18 refl)) (and-then ! (load ! (from ! (stop !)) (look ! 22 refl)) (and-then ! (load ! (from ! (stop !)) (look ! 20 refl)) (no-more !))))) (λ w.
+        use1 W (later (some (λ (r : Sum). ((‵ (flft κ-ms q-ms) ⊛ ‵ (flft κ-ss q-ss) ⊛ ‵ ftrue) ⊛ ‵ (Sum-row.the-row .own r (w ∷ []))) ⊛ raw (ensured 𝓤 H A turns-sum-at′.ended (turns-sum-at′.clauses 𝓤 H A at-mem run) (κ-ms, (κ-ss, tt)) ((getD table i noChip), (sum, ((record { ptr = (ms-b, ms-o); name = ms-γ; now = ms }), ((record { ptr = (ss-b, ss-o); name = ss-γ; now = ss }), tt)))) tt r)))) (id⊢ 𝓤 _) $ await ! tt $ pick ! (λ r. split ! $ move ! (1 ∷ []) $
+        use1 W (some (λ (ws : Lasts turns-sum-at′.ended (κ-ms, (κ-ss, tt)) ((getD table i noChip), (sum, ((record { ptr = (ms-b, ms-o); name = ms-γ; now = ms }), ((record { ptr = (ss-b, ss-o); name = ss-γ; now = ss }), tt))))). ‵ (lasts turns-sum-at′.ended (κ-ms, (κ-ss, tt)) ((getD table i noChip), (sum, ((record { ptr = (ms-b, ms-o); name = ms-γ; now = ms }), ((record { ptr = (ss-b, ss-o); name = ss-γ; now = ss }), tt)))) ws) ⊛ raw (fact 𝓤 (r ≡ sumAt (getD table i noChip) sum ms ss)))) (id⊢ 𝓤 _) $ pick ! (λ ws. split ! $ move ! (1 ∷ []) $
         heard ! (r ≡ sumAt (getD table i noChip) sum ms ss) (λ e. fsplit ! $ drop ! $ fsplit ! $ drop ! $ fsplit ! $ drop ! $ fsplit ! $ drop ! $ drop ! $ split ! $ split ! $ move ! (1 ∷ []) $ split ! $ move ! (1 ∷ []) $ drop ! $
         move ! (2 ∷ []) $ peeks ! Sum-row.the-row (Is Sum-row.the-row) (shows 𝓤 H A Sum-row.the-row) r (w ∷ []) (λ is. drop ! $
         land ! (from ! (stop !)) (store ! 19 refl ((LL.lawful Sum-row.the-type Sum-laws.the-laws 𝓤 H A W) .typed r _ is .0)) $
@@ -199,10 +199,10 @@ module _ {M : Type 1} (𝓤 : URA M) (H : Heap 𝓤) (A : Atoms 𝓤) (W : Given
         move ! (1 ∷ []) $ drop ! $
         -- [lft ss; lft ms; lft table; own ss; own ms; own table | _10 (6); _9 (8); _8 (10); _7 (12); _6 (14); _5 (16); _4 (18); _3 (20); _2 (22); _1 (24); _0 (26)]
         nothing ! $ owned ! bool (Is bool) (bool-makes 𝓤 H A W) host (bool-vals host) host-is $ fjoin ! $ nothing ! $ join ! $
-        use1 W (raw (lent-turns-first-sum-says 𝓤 H A at-mem run .pre ((tt, tt, tt, (host, tt), ((bool-vals host), tt)), tt))) (qed W (((‵ ftrue) ⊛ ‵ (owns (bool ∷ []) (host, tt) ((bool-vals host), tt))) ∷ []) ∵ nothing ! $ move ! (1 ∷ 0 ∷ []) $ split ! $ join ! $ frame ! $ done !) $
-        calls-at ! fm (lent-turns-first-sum-says 𝓤 H A at-mem run) known-lent-turns-first-sum ((tt, tt, tt, (host, tt), ((bool-vals host), tt)), tt) (and-then ! (load ! (from ! (stop !)) (look ! 23 refl)) (no-more !)) (λ w.
-        use1 W (later (some (λ (r : Sum). ((‵ ftrue) ⊛ ‵ (Sum-row.the-row .own r (w ∷ []))) ⊛ raw (ensured 𝓤 H A lent-turns-first-sum′.ended (lent-turns-first-sum′.clauses 𝓤 H A at-mem run) tt (host, tt) tt r)))) (id⊢ 𝓤 _) $ await ! tt $ pick ! (λ r. split ! $ move ! (1 ∷ []) $
-        use1 W (some (λ (ws : Lasts lent-turns-first-sum′.ended tt (host, tt)). ‵ (lasts lent-turns-first-sum′.ended tt (host, tt) ws) ⊛ raw (fact 𝓤 (r ≡ firstSum host)))) (id⊢ 𝓤 _) $ pick ! (λ ws. split ! $ move ! (1 ∷ []) $
+        use1 W (raw (turns-first-sum-says 𝓤 H A at-mem run .pre ((tt, tt, tt, (host, tt), ((bool-vals host), tt)), tt))) (qed W (((‵ ftrue) ⊛ ‵ (owns (bool ∷ []) (host, tt) ((bool-vals host), tt))) ∷ []) ∵ nothing ! $ move ! (1 ∷ 0 ∷ []) $ split ! $ join ! $ frame ! $ done !) $
+        calls-at ! fm (turns-first-sum-says 𝓤 H A at-mem run) known-turns-first-sum ((tt, tt, tt, (host, tt), ((bool-vals host), tt)), tt) (and-then ! (load ! (from ! (stop !)) (look ! 23 refl)) (no-more !)) (λ w.
+        use1 W (later (some (λ (r : Sum). ((‵ ftrue) ⊛ ‵ (Sum-row.the-row .own r (w ∷ []))) ⊛ raw (ensured 𝓤 H A turns-first-sum′.ended (turns-first-sum′.clauses 𝓤 H A at-mem run) tt (host, tt) tt r)))) (id⊢ 𝓤 _) $ await ! tt $ pick ! (λ r. split ! $ move ! (1 ∷ []) $
+        use1 W (some (λ (ws : Lasts turns-first-sum′.ended tt (host, tt)). ‵ (lasts turns-first-sum′.ended tt (host, tt) ws) ⊛ raw (fact 𝓤 (r ≡ firstSum host)))) (id⊢ 𝓤 _) $ pick ! (λ ws. split ! $ move ! (1 ∷ []) $
         heard ! (r ≡ firstSum host) (λ e. fsplit ! $ drop ! $ drop ! $ split ! $ drop ! $ peeks ! Sum-row.the-row (Is Sum-row.the-row) (shows 𝓤 H A Sum-row.the-row) r (w ∷ []) (λ is. drop ! $
         land ! (from ! (stop !)) (init ! 16 refl ((LL.lawful Sum-row.the-type Sum-laws.the-laws 𝓤 H A W) .typed r _ is .0)) $
         rewrite ! 16 (λ (u : Val). ‵ (fat fullShare Sum-laws.mir l₅ 0 u)) (ap only ((LL.tells Sum-row.the-type Sum-laws.the-laws) r _ is)) refl $
@@ -211,20 +211,20 @@ module _ {M : Type 1} (𝓤 : URA M) (H : Heap 𝓤) (A : Atoms 𝓤) (W : Given
         looks-slice ! tt Chip-row.the-row (Is Chip-row.the-row) (shows 𝓤 H A Chip-row.the-row) (LL.vals Chip-row.the-type Chip-laws.the-laws) (LL.tells Chip-row.the-type Chip-laws.the-laws) (LL.copy Chip-row.the-type Chip-laws.the-copy 𝓤 H A W) table table-b table-o (λ z-table.
         by ! (loops z-table r (subst (λ (us : List Val). Is Sum-row.the-row r us) ((LL.tells Sum-row.the-type Sum-laws.the-laws) r _ is) is) (ap (λ (s : Sum). sums (length table) 0 table s ms ss) e))))))))
 
-  walk : (𝓣 : Tables 𝓤 H) → Triple 𝓤 (𝓣 .C #lent-turns-first-sum) (lent-turns-first-sum-says 𝓤 H A at-mem run) → Triple 𝓤 (𝓣 .C #lent-turns-sum-at) (lent-turns-sum-at-says 𝓤 H A at-mem run) → ent 𝓤 (onEntry 𝓤 H A f.signature (κ-table, (κ-ms, (κ-ss, tt))) (q-table, (q-ms, (q-ss, tt))) ((record { ptr = (table-b, table-o); name = table-γ; now = table }), (host, ((record { ptr = (ms-b, ms-o); name = ms-γ; now = ms }), ((record { ptr = (ss-b, ss-o); name = ss-γ; now = ss }), tt)))) ((sliceVal (table-b, table-o) (length table)) ∷ [], ((bool-vals host), ((sliceVal (ms-b, ms-o) (length ms)) ∷ [], ((sliceVal (ss-b, ss-o) (length ss)) ∷ [], tt))))) (WpFn 𝓤 H (𝓣 .C) (𝓣 .Λ) code.function ((sliceVal (table-b, table-o) (length table)) ∷ (vbool host) ∷ (sliceVal (ms-b, ms-o) (length ms)) ∷ (sliceVal (ss-b, ss-o) (length ss)) ∷ []) Post)
-  walk 𝓣 known-lent-turns-first-sum known-lent-turns-sum-at =
+  walk : (𝓣 : Tables 𝓤 H) → Triple 𝓤 (𝓣 .C #turns-first-sum) (turns-first-sum-says 𝓤 H A at-mem run) → Triple 𝓤 (𝓣 .C #turns-sum-at) (turns-sum-at-says 𝓤 H A at-mem run) → ent 𝓤 (onEntry 𝓤 H A f.signature (κ-table, (κ-ms, (κ-ss, tt))) (q-table, (q-ms, (q-ss, tt))) ((record { ptr = (table-b, table-o); name = table-γ; now = table }), (host, ((record { ptr = (ms-b, ms-o); name = ms-γ; now = ms }), ((record { ptr = (ss-b, ss-o); name = ss-γ; now = ss }), tt)))) ((sliceVal (table-b, table-o) (length table)) ∷ [], ((bool-vals host), ((sliceVal (ms-b, ms-o) (length ms)) ∷ [], ((sliceVal (ss-b, ss-o) (length ss)) ∷ [], tt))))) (WpFn 𝓤 H (𝓣 .C) (𝓣 .Λ) code.function ((sliceVal (table-b, table-o) (length table)) ∷ (vbool host) ∷ (sliceVal (ms-b, ms-o) (length ms)) ∷ (sliceVal (ss-b, ss-o) (length ss)) ∷ []) Post)
+  walk 𝓣 known-turns-first-sum known-turns-sum-at =
       qed W ((‵ (flft κ-table q-table) ⊛ ‵ (flft κ-ms q-ms) ⊛ ‵ (flft κ-ss q-ss) ⊛ ‵ ftrue) ∷ ‵ (owns (ShrSlice (named 0) κ-table Chip-row.the-row ∷ bool ∷ ShrSlice (named 1) κ-ms u8 ∷ ShrSlice (named 2) κ-ss u8 ∷ []) ((record { ptr = (table-b, table-o); name = table-γ; now = table }), (host, ((record { ptr = (ms-b, ms-o); name = ms-γ; now = ms }), ((record { ptr = (ss-b, ss-o); name = ss-γ; now = ss }), tt)))) ((sliceVal (table-b, table-o) (length table)) ∷ [], ((bool-vals host), ((sliceVal (ms-b, ms-o) (length ms)) ∷ [], ((sliceVal (ss-b, ss-o) (length ss)) ∷ [], tt))))) ∷ []) ∵ enter ! (𝓣 .C) (𝓣 .Λ) code.function ((sliceVal (table-b, table-o) (length table)) ∷ (vbool host) ∷ (sliceVal (ms-b, ms-o) (length ms)) ∷ (sliceVal (ss-b, ss-o) (length ss)) ∷ []) _ $
       alloc1 ! (λ l₀. alloc1 ! (λ l₁. alloc1 ! (λ l₂. alloc1 ! (λ l₃. alloc1 ! (λ l₄. alloc1 ! (λ l₅. alloc1 ! (λ l₆. alloc1 ! (λ l₇. alloc1 ! (λ l₈. alloc1 ! (λ l₉. alloc1 ! (λ l₁₀. alloc0 ! $ params1 ! $ pass1 ! (init ! 18 refl (tt, (tt, (record { fits = table-room .0 }, tt)))) $ pass1 ! (init ! 16 refl ((bool-lawful 𝓤 H A W) .typed host (bool-vals host) host-is .0)) $ pass1 ! (init ! 14 refl (tt, (tt, (record { fits = ms-room .0 }, tt)))) $ pass1 ! (init ! 12 refl (tt, (tt, (record { fits = ss-room .0 }, tt)))) $ pass0 ! $
-      starts 𝓣 known-lent-turns-first-sum known-lent-turns-sum-at l₀ l₁ l₂ l₃ l₄ l₅ l₆ l₇ l₈ l₉ l₁₀)))))))))))
+      starts 𝓣 known-turns-first-sum known-turns-sum-at l₀ l₁ l₂ l₃ l₄ l₅ l₆ l₇ l₈ l₉ l₁₀)))))))))))
 
 module _ {M : Type 1} (𝓤 : URA M) (H : Heap 𝓤) (A : Atoms 𝓤) (W : Given 𝓤 H A) (at-mem : Memory → SProp 𝓤) (run : Routine → Fun 𝓤) where
-  walks : (𝓣 : Tables 𝓤 H) → Triple 𝓤 (𝓣 .C #lent-turns-first-sum) (lent-turns-first-sum-says 𝓤 H A at-mem run) → Triple 𝓤 (𝓣 .C #lent-turns-sum-at) (lent-turns-sum-at-says 𝓤 H A at-mem run) → Walks 𝓤 H A f.ended stayed (WpFn 𝓤 H (𝓣 .C) (𝓣 .Λ) code.function) (f.clauses 𝓤 H A at-mem run)
-  walks 𝓣 known-lent-turns-first-sum known-lent-turns-sum-at = walked 𝓤 H A f.ended stayed (f.clauses 𝓤 H A at-mem run) (WpFn 𝓤 H (𝓣 .C) (𝓣 .Λ) code.function) (λ κs. (slice-vals, (bool-vals, (slice-vals, (slice-vals, tt))))) (λ κs. (shr-slice-tells (named 0) (κs .0) Chip-row.the-row, (bool-tells, (shr-slice-tells (named 1) (κs .1 .0) u8, (shr-slice-tells (named 2) (κs .1 .1 .0) u8, tt)))))
-      (λ κs qs bounds a _ are. via 𝓤 _ (fst∗ 𝓤 _ (emp 𝓤)) (walk 𝓤 H A W at-mem run (κs .0) (qs .0) (κs .1 .0) (qs .1 .0) (κs .1 .1 .0) (qs .1 .1 .0) (a .0 .ptr .0) (a .0 .ptr .1) (a .0 .name) (a .0 .now) (are .0 .0 .1) (a .1 .0) (are .1 .0) (a .1 .1 .0 .ptr .0) (a .1 .1 .0 .ptr .1) (a .1 .1 .0 .name) (a .1 .1 .0 .now) (are .1 .1 .0 .0 .1) (a .1 .1 .1 .0 .ptr .0) (a .1 .1 .1 .0 .ptr .1) (a .1 .1 .1 .0 .name) (a .1 .1 .1 .0 .now) (are .1 .1 .1 .0 .0 .1) 𝓣 known-lent-turns-first-sum known-lent-turns-sum-at))
+  walks : (𝓣 : Tables 𝓤 H) → Triple 𝓤 (𝓣 .C #turns-first-sum) (turns-first-sum-says 𝓤 H A at-mem run) → Triple 𝓤 (𝓣 .C #turns-sum-at) (turns-sum-at-says 𝓤 H A at-mem run) → Walks 𝓤 H A f.ended stayed (WpFn 𝓤 H (𝓣 .C) (𝓣 .Λ) code.function) (f.clauses 𝓤 H A at-mem run)
+  walks 𝓣 known-turns-first-sum known-turns-sum-at = walked 𝓤 H A f.ended stayed (f.clauses 𝓤 H A at-mem run) (WpFn 𝓤 H (𝓣 .C) (𝓣 .Λ) code.function) (λ κs. (slice-vals, (bool-vals, (slice-vals, (slice-vals, tt))))) (λ κs. (shr-slice-tells (named 0) (κs .0) Chip-row.the-row, (bool-tells, (shr-slice-tells (named 1) (κs .1 .0) u8, (shr-slice-tells (named 2) (κs .1 .1 .0) u8, tt)))))
+      (λ κs qs bounds a _ are. via 𝓤 _ (fst∗ 𝓤 _ (emp 𝓤)) (walk 𝓤 H A W at-mem run (κs .0) (qs .0) (κs .1 .0) (qs .1 .0) (κs .1 .1 .0) (qs .1 .1 .0) (a .0 .ptr .0) (a .0 .ptr .1) (a .0 .name) (a .0 .now) (are .0 .0 .1) (a .1 .0) (are .1 .0) (a .1 .1 .0 .ptr .0) (a .1 .1 .0 .ptr .1) (a .1 .1 .0 .name) (a .1 .1 .0 .now) (are .1 .1 .0 .0 .1) (a .1 .1 .1 .0 .ptr .0) (a .1 .1 .1 .0 .ptr .1) (a .1 .1 .1 .0 .name) (a .1 .1 .1 .0 .now) (are .1 .1 .1 .0 .0 .1) 𝓣 known-turns-first-sum known-turns-sum-at))
 
-  meets : (𝓣 : Tables 𝓤 H) → Triple 𝓤 (𝓣 .C #lent-turns-first-sum) (lent-turns-first-sum-says 𝓤 H A at-mem run) → Triple 𝓤 (𝓣 .C #lent-turns-sum-at) (lent-turns-sum-at-says 𝓤 H A at-mem run) → Meets 𝓤 H A f.signature (WpFn 𝓤 H (𝓣 .C) (𝓣 .Λ) code.function) (f.spec 𝓤 H A at-mem run)
-  meets 𝓣 known-lent-turns-first-sum known-lent-turns-sum-at = walk-meets 𝓤 H A f.ended stayed W (goes-none-slice 𝓤 H A W 3 (0 ∷ []) tt (plain (λ _. Chip-row.the-row)) yes, (goes-none 𝓤 H A W 3 (λ _. bool) yes (λ κs x f. refl), (goes-none-slice 𝓤 H A W 3 (1 ∷ []) tt (plain (λ _. u8)) yes, (goes-none-slice 𝓤 H A W 3 (2 ∷ []) tt (plain (λ _. u8)) yes, tt)))) (f.clauses 𝓤 H A at-mem run)
-      (WpFn 𝓤 H (𝓣 .C) (𝓣 .Λ) code.function) (WpFn-mono 𝓤 H (W .laws) 𝓣 code.function) (walks 𝓣 known-lent-turns-first-sum known-lent-turns-sum-at)
+  meets : (𝓣 : Tables 𝓤 H) → Triple 𝓤 (𝓣 .C #turns-first-sum) (turns-first-sum-says 𝓤 H A at-mem run) → Triple 𝓤 (𝓣 .C #turns-sum-at) (turns-sum-at-says 𝓤 H A at-mem run) → Meets 𝓤 H A f.signature (WpFn 𝓤 H (𝓣 .C) (𝓣 .Λ) code.function) (f.spec 𝓤 H A at-mem run)
+  meets 𝓣 known-turns-first-sum known-turns-sum-at = walk-meets 𝓤 H A f.ended stayed W (goes-none-slice 𝓤 H A W 3 (0 ∷ []) tt (plain (λ _. Chip-row.the-row)) yes, (goes-none 𝓤 H A W 3 (λ _. bool) yes (λ κs x f. refl), (goes-none-slice 𝓤 H A W 3 (1 ∷ []) tt (plain (λ _. u8)) yes, (goes-none-slice 𝓤 H A W 3 (2 ∷ []) tt (plain (λ _. u8)) yes, tt)))) (f.clauses 𝓤 H A at-mem run)
+      (WpFn 𝓤 H (𝓣 .C) (𝓣 .Λ) code.function) (WpFn-mono 𝓤 H (W .laws) 𝓣 code.function) (walks 𝓣 known-turns-first-sum known-turns-sum-at)
 
 pub line-value-spec : {M : Type 1} → stated.statement M
 unfolding code.routine tablesOf
@@ -232,5 +232,5 @@ line-value-spec 𝓤 H 𝓜 𝓖 𝓡 =
     entered 𝓤 H (tripleOf 𝓤 H (𝓖 .A) f.signature (f.spec 𝓤 H (𝓖 .A) (𝓜 .mem) (𝓡 .run)))
     (tables 𝓤 H 𝓜 𝓡 code.env .C) (tables 𝓤 H 𝓜 𝓡 code.env .Λ) #line-value code.function (code.unfolded 𝓤 H 𝓜 𝓡)
     (meets 𝓤 H (𝓖 .A) (givenOf 𝓤 H 𝓜 𝓖) (𝓜 .mem) (𝓡 .run) (tablesOf 𝓤 H 𝓜 (tables 𝓤 H 𝓜 𝓡 code.env))
-    (cited 𝓤 H (lent-turns-first-sum-says 𝓤 H (𝓖 .A) (𝓜 .mem) (𝓡 .run)) 𝓜 𝓡 code.env #lent-turns-first-sum lent-turns-first-sum-def.routine code.calls-lent·turns·first-sum (lent-turns-first-sum-thm.met 𝓤 H 𝓜 𝓖 𝓡))
-    (cited 𝓤 H (lent-turns-sum-at-says 𝓤 H (𝓖 .A) (𝓜 .mem) (𝓡 .run)) 𝓜 𝓡 code.env #lent-turns-sum-at lent-turns-sum-at-def.routine code.calls-lent·turns·sum-at (lent-turns-sum-at-thm.met 𝓤 H 𝓜 𝓖 𝓡)))
+    (cited 𝓤 H (turns-first-sum-says 𝓤 H (𝓖 .A) (𝓜 .mem) (𝓡 .run)) 𝓜 𝓡 code.env #turns-first-sum turns-first-sum-def.routine code.calls-turns·first-sum (turns-first-sum-thm.met 𝓤 H 𝓜 𝓖 𝓡))
+    (cited 𝓤 H (turns-sum-at-says 𝓤 H (𝓖 .A) (𝓜 .mem) (𝓡 .run)) 𝓜 𝓡 code.env #turns-sum-at turns-sum-at-def.routine code.calls-turns·sum-at (turns-sum-at-thm.met 𝓤 H 𝓜 𝓖 𝓡)))

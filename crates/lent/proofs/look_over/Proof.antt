@@ -47,23 +47,23 @@ use denote.Triple.Walked.{says, Stays, stay-none-slice, stay-none, walkOf, goes-
 use denote.Triple.Clauses.{ensured, Lasts, lasts}
 use denote.Exit.{yes}
 use Rattle.chip.specs.declared.Chip.{Chip}
-use Rattle.lent.specs.declared.Look.{Look}
-use Rattle.lent.specs.Walk.{firstLook, lookAt, lookedOver}
+use Rattle.turns.specs.declared.Look.{Look}
+use Rattle.turns.specs.Walk.{firstLook, lookAt, lookedOver}
 use Rattle.line.specs.Event.{noChip}
 use Rattle.lent.proofs.Folds.{folded}
 use Rattle.lent.proofs.Rows.{holds, fails, walk-fold, walk-fold-is}
 use Rattle.chip.proofs.Chip as Chip-row
 use Rattle.chip.proofs.Chip.Laws as Chip-laws
-use Rattle.lent.proofs.Look as Look-row
-use Rattle.lent.proofs.Look.Laws as Look-laws
-use Rattle.lent.proofs.turns.first_look as lent-turns-first-look′
-use Rattle.lent.proofs.turns.first_look.Symbol as lent-turns-first-look-def
-use Rattle.lent.proofs.turns.first_look.Symbol.{name as #lent-turns-first-look}
-use Rattle.lent.proofs.turns.first_look.Met as lent-turns-first-look-thm
-use Rattle.lent.proofs.turns.look_at as lent-turns-look-at′
-use Rattle.lent.proofs.turns.look_at.Symbol as lent-turns-look-at-def
-use Rattle.lent.proofs.turns.look_at.Symbol.{name as #lent-turns-look-at}
-use Rattle.lent.proofs.turns.look_at.Met as lent-turns-look-at-thm
+use Rattle.turns.proofs.Look as Look-row
+use Rattle.turns.proofs.Look.Laws as Look-laws
+use Rattle.turns.proofs.first_look as turns-first-look′
+use Rattle.turns.proofs.first_look.Symbol as turns-first-look-def
+use Rattle.turns.proofs.first_look.Symbol.{name as #turns-first-look}
+use Rattle.turns.proofs.first_look.Met as turns-first-look-thm
+use Rattle.turns.proofs.look_at as turns-look-at′
+use Rattle.turns.proofs.look_at.Symbol as turns-look-at-def
+use Rattle.turns.proofs.look_at.Symbol.{name as #turns-look-at}
+use Rattle.turns.proofs.look_at.Met as turns-look-at-thm
 use Rattle.lent.proofs.look_over.Key.{name as #look-over}
 use Rattle.lent.proofs.look_over as f
 use Rattle.lent.proofs.look_over.Statement as stated
@@ -92,11 +92,11 @@ over i n e l = omega (arith, e, l)
 abbrev stayed : Stays (f.ended .signature .params) (f.ended .kept)
 stayed = (stay-none-slice (0 ∷ []) tt (plain (λ _. Chip-row.the-row)) yes, (stay-none (λ _. u32) yes, tt))
 
-abbrev lent-turns-first-look-says : {M : Type 1} (𝓤 : URA M) (H : Heap 𝓤) (A : Atoms 𝓤) (at-mem : Memory → SProp 𝓤) (run : Routine → Fun 𝓤) → Contract 𝓤
-lent-turns-first-look-says 𝓤 H A at-mem run = tripleOf 𝓤 H A lent-turns-first-look′.signature (lent-turns-first-look′.spec 𝓤 H A at-mem run)
+abbrev turns-first-look-says : {M : Type 1} (𝓤 : URA M) (H : Heap 𝓤) (A : Atoms 𝓤) (at-mem : Memory → SProp 𝓤) (run : Routine → Fun 𝓤) → Contract 𝓤
+turns-first-look-says 𝓤 H A at-mem run = tripleOf 𝓤 H A turns-first-look′.signature (turns-first-look′.spec 𝓤 H A at-mem run)
 
-abbrev lent-turns-look-at-says : {M : Type 1} (𝓤 : URA M) (H : Heap 𝓤) (A : Atoms 𝓤) (at-mem : Memory → SProp 𝓤) (run : Routine → Fun 𝓤) → Contract 𝓤
-lent-turns-look-at-says 𝓤 H A at-mem run = tripleOf 𝓤 H A lent-turns-look-at′.signature (lent-turns-look-at′.spec 𝓤 H A at-mem run)
+abbrev turns-look-at-says : {M : Type 1} (𝓤 : URA M) (H : Heap 𝓤) (A : Atoms 𝓤) (at-mem : Memory → SProp 𝓤) (run : Routine → Fun 𝓤) → Contract 𝓤
+turns-look-at-says 𝓤 H A at-mem run = tripleOf 𝓤 H A turns-look-at′.signature (turns-look-at′.spec 𝓤 H A at-mem run)
 
 module _ {M : Type 1} (𝓤 : URA M) (H : Heap 𝓤) (A : Atoms 𝓤) (W : Given 𝓤 H A) (at-mem : Memory → SProp 𝓤) (run : Routine → Fun 𝓤) (κ-table : Lft) (q-table : Share) (table-b table-o : ℕ) (table-γ : GName) (table : List Chip) (table-room : Room Chip-row.the-row (length table)) (chip : ℕ) (chip-is : Is u32 chip ((uint-vals w32) chip)) where
   abbrev Post : Val → SProp 𝓤
@@ -106,7 +106,7 @@ module _ {M : Type 1} (𝓤 : URA M) (H : Heap 𝓤) (A : Atoms 𝓤) (W : Given
   exits r r-is e =
       qed W (‵ (ShrSlice (named 0) κ-table Chip-row.the-row .own (record { ptr = (table-b, table-o); name = table-γ; now = table }) ((sliceVal (table-b, table-o) (length table)) ∷ [])) ∷ ‵ (flft κ-table q-table) ∷ []) ∵ suffices ! _ (ends-at 𝓤 H A f.ended stayed (f.clauses 𝓤 H A at-mem run) W (((κ-table, tt), (q-table, tt), tt, ((record { ptr = (table-b, table-o); name = table-γ; now = table }), (chip, tt)), ((sliceVal (table-b, table-o) (length table)) ∷ [], (((uint-vals w32) chip), tt))), tt) (LL.val Look-row.the-type Look-laws.the-laws r) r (tt, (tt, tt)) (tt, (tt, tt))) $ says ! e $ nothing ! $ move ! (2 ∷ 0 ∷ []) $ join ! $ frame ! $ nothing ! $ owned ! u32 (Is u32) (uint-makes 𝓤 H A W w32) chip _ chip-is $ fjoin ! $ move ! (1 ∷ 0 ∷ []) $ fjoin ! $ frame ! $ owned ! Look-row.the-row (Is Look-row.the-row) (LL.makes Look-row.the-type Look-laws.the-plain 𝓤 H A) r _ r-is $ done !
 
-  module _ (𝓣 : Tables 𝓤 H) (known-lent-turns-first-look : Triple 𝓤 (𝓣 .C #lent-turns-first-look) (lent-turns-first-look-says 𝓤 H A at-mem run)) (known-lent-turns-look-at : Triple 𝓤 (𝓣 .C #lent-turns-look-at) (lent-turns-look-at-says 𝓤 H A at-mem run)) (l₀ l₁ l₂ l₃ l₄ l₅ l₆ l₇ l₈ : ℕ) where
+  module _ (𝓣 : Tables 𝓤 H) (known-turns-first-look : Triple 𝓤 (𝓣 .C #turns-first-look) (turns-first-look-says 𝓤 H A at-mem run)) (known-turns-look-at : Triple 𝓤 (𝓣 .C #turns-look-at) (turns-look-at-says 𝓤 H A at-mem run)) (l₀ l₁ l₂ l₃ l₄ l₅ l₆ l₇ l₈ : ℕ) where
     abbrev C : Calls 𝓤 H
     C = 𝓣 .C
 
@@ -164,10 +164,10 @@ module _ {M : Type 1} (𝓤 : URA M) (H : Heap 𝓤) (A : Atoms 𝓤) (W : Given
         owned ! Look-row.the-row (Is Look-row.the-row) (LL.makes Look-row.the-type Look-laws.the-plain 𝓤 H A) seen ((LL.vals Look-row.the-type Look-laws.the-laws) seen) seen-is $ fjoin ! $
         owned ! Chip-row.the-row (Is Chip-row.the-row) (LL.makes Chip-row.the-type Chip-laws.the-plain 𝓤 H A) (getD table i noChip) ((LL.vals Chip-row.the-type Chip-laws.the-laws) (getD table i noChip)) table-was $ fjoin ! $
         nothing ! $ join ! $
-        use1 W (raw (lent-turns-look-at-says 𝓤 H A at-mem run .pre ((tt, tt, tt, ((getD table i noChip), (seen, (chip, tt))), (((LL.vals Chip-row.the-type Chip-laws.the-laws) (getD table i noChip)), (((LL.vals Look-row.the-type Look-laws.the-laws) seen), (((uint-vals w32) chip), tt)))), tt))) (qed W (((‵ ftrue) ⊛ ‵ (owns (Chip-row.the-row ∷ Look-row.the-row ∷ u32 ∷ []) ((getD table i noChip), (seen, (chip, tt))) (((LL.vals Chip-row.the-type Chip-laws.the-laws) (getD table i noChip)), (((LL.vals Look-row.the-type Look-laws.the-laws) seen), (((uint-vals w32) chip), tt))))) ∷ []) ∵ nothing ! $ move ! (1 ∷ 0 ∷ []) $ split ! $ join ! $ frame ! $ done !) $
-        calls-at ! fm (lent-turns-look-at-says 𝓤 H A at-mem run) known-lent-turns-look-at ((tt, tt, tt, ((getD table i noChip), (seen, (chip, tt))), (((LL.vals Chip-row.the-type Chip-laws.the-laws) (getD table i noChip)), (((LL.vals Look-row.the-type Look-laws.the-laws) seen), (((uint-vals w32) chip), tt)))), tt) (and-then ! (load ! (from ! (stop !)) (look ! 6 refl)) (and-then ! (load ! (from ! (stop !)) (look ! 16 refl)) (and-then ! (load ! (from ! (stop !)) (look ! 18 refl)) (no-more !)))) (λ w.
-        use1 W (later (some (λ (r : Look). ((‵ ftrue) ⊛ ‵ (Look-row.the-row .own r (w ∷ []))) ⊛ raw (ensured 𝓤 H A lent-turns-look-at′.ended (lent-turns-look-at′.clauses 𝓤 H A at-mem run) tt ((getD table i noChip), (seen, (chip, tt))) tt r)))) (id⊢ 𝓤 _) $ await ! tt $ pick ! (λ r. split ! $ move ! (1 ∷ []) $
-        use1 W (some (λ (ws : Lasts lent-turns-look-at′.ended tt ((getD table i noChip), (seen, (chip, tt)))). ‵ (lasts lent-turns-look-at′.ended tt ((getD table i noChip), (seen, (chip, tt))) ws) ⊛ raw (fact 𝓤 (r ≡ lookAt chip (getD table i noChip) seen)))) (id⊢ 𝓤 _) $ pick ! (λ ws. split ! $ move ! (1 ∷ []) $
+        use1 W (raw (turns-look-at-says 𝓤 H A at-mem run .pre ((tt, tt, tt, ((getD table i noChip), (seen, (chip, tt))), (((LL.vals Chip-row.the-type Chip-laws.the-laws) (getD table i noChip)), (((LL.vals Look-row.the-type Look-laws.the-laws) seen), (((uint-vals w32) chip), tt)))), tt))) (qed W (((‵ ftrue) ⊛ ‵ (owns (Chip-row.the-row ∷ Look-row.the-row ∷ u32 ∷ []) ((getD table i noChip), (seen, (chip, tt))) (((LL.vals Chip-row.the-type Chip-laws.the-laws) (getD table i noChip)), (((LL.vals Look-row.the-type Look-laws.the-laws) seen), (((uint-vals w32) chip), tt))))) ∷ []) ∵ nothing ! $ move ! (1 ∷ 0 ∷ []) $ split ! $ join ! $ frame ! $ done !) $
+        calls-at ! fm (turns-look-at-says 𝓤 H A at-mem run) known-turns-look-at ((tt, tt, tt, ((getD table i noChip), (seen, (chip, tt))), (((LL.vals Chip-row.the-type Chip-laws.the-laws) (getD table i noChip)), (((LL.vals Look-row.the-type Look-laws.the-laws) seen), (((uint-vals w32) chip), tt)))), tt) (and-then ! (load ! (from ! (stop !)) (look ! 6 refl)) (and-then ! (load ! (from ! (stop !)) (look ! 16 refl)) (and-then ! (load ! (from ! (stop !)) (look ! 18 refl)) (no-more !)))) (λ w.
+        use1 W (later (some (λ (r : Look). ((‵ ftrue) ⊛ ‵ (Look-row.the-row .own r (w ∷ []))) ⊛ raw (ensured 𝓤 H A turns-look-at′.ended (turns-look-at′.clauses 𝓤 H A at-mem run) tt ((getD table i noChip), (seen, (chip, tt))) tt r)))) (id⊢ 𝓤 _) $ await ! tt $ pick ! (λ r. split ! $ move ! (1 ∷ []) $
+        use1 W (some (λ (ws : Lasts turns-look-at′.ended tt ((getD table i noChip), (seen, (chip, tt)))). ‵ (lasts turns-look-at′.ended tt ((getD table i noChip), (seen, (chip, tt))) ws) ⊛ raw (fact 𝓤 (r ≡ lookAt chip (getD table i noChip) seen)))) (id⊢ 𝓤 _) $ pick ! (λ ws. split ! $ move ! (1 ∷ []) $
         heard ! (r ≡ lookAt chip (getD table i noChip) seen) (λ e. fsplit ! $ drop ! $ fsplit ! $ drop ! $ fsplit ! $ drop ! $ drop ! $ split ! $ drop ! $
         peeks ! Look-row.the-row (Is Look-row.the-row) (shows 𝓤 H A Look-row.the-row) r (w ∷ []) (λ is. drop ! $
         land ! (from ! (stop !)) (store ! 15 refl ((LL.lawful Look-row.the-type Look-laws.the-laws 𝓤 H A W) .typed r _ is .0)) $
@@ -194,11 +194,11 @@ module _ {M : Type 1} (𝓤 : URA M) (H : Heap 𝓤) (A : Atoms 𝓤) (W : Given
         move ! (19 ∷ []) $ fsplit ! $ move ! (1 ∷ []) $ fsplit ! $ drop ! $ drop ! $ move ! (19 ∷ []) $ split ! $ move ! (1 ∷ []) $ drop ! $
         -- [lft table; own table | _8 (2); _7 (4); _6 (6); _5 (8); _4 (10); _3 (12); _2 (14); _1 (16); _0 (18)]
         nothing ! $ nothing ! $ join ! $
-        use1 W (raw (lent-turns-first-look-says 𝓤 H A at-mem run .pre ((tt, tt, tt, tt, tt), tt))) (qed W (((‵ ftrue) ⊛ ‵ (owns ([]) tt tt)) ∷ []) ∵ nothing ! $ move ! (1 ∷ 0 ∷ []) $ split ! $ join ! $ frame ! $ done !) $
-        calls-at ! fm (lent-turns-first-look-says 𝓤 H A at-mem run) known-lent-turns-first-look ((tt, tt, tt, tt, tt), tt) (no-more !) (λ w.
-        use1 W (later (some (λ (r : Look). ((‵ ftrue) ⊛ ‵ (Look-row.the-row .own r (w ∷ []))) ⊛ raw (ensured 𝓤 H A lent-turns-first-look′.ended (lent-turns-first-look′.clauses 𝓤 H A at-mem run) tt tt tt r)))) (id⊢ 𝓤 _) $ await ! tt $ pick ! (λ r. split ! $ move ! (1 ∷ []) $
-        use1 W (some (λ (ws : Lasts lent-turns-first-look′.ended tt tt). ‵ (lasts lent-turns-first-look′.ended tt tt ws) ⊛ raw (fact 𝓤 (r ≡ firstLook)))) (id⊢ 𝓤 _) $ pick ! (λ ws. split ! $ move ! (1 ∷ []) $
-        heard ! (r ≡ firstLook) (λ e. drop ! $ split ! $ drop ! $ peeks ! Look-row.the-row (Is Look-row.the-row) (shows 𝓤 H A Look-row.the-row) r (w ∷ []) (λ is. drop ! $
+        use1 W (raw (turns-first-look-says 𝓤 H A at-mem run .pre ((tt, tt, tt, tt, tt), tt))) (qed W (((‵ ftrue) ⊛ ‵ (owns ([]) tt tt)) ∷ []) ∵ nothing ! $ move ! (1 ∷ 0 ∷ []) $ split ! $ join ! $ frame ! $ done !) $
+        calls-at ! fm (turns-first-look-says 𝓤 H A at-mem run) known-turns-first-look ((tt, tt, tt, tt, tt), tt) (no-more !) (λ w.
+        use1 W (later (some (λ (r : Look). ((‵ ftrue) ⊛ ‵ (Look-row.the-row .own r (w ∷ []))) ⊛ raw (ensured 𝓤 H A turns-first-look′.ended (turns-first-look′.clauses 𝓤 H A at-mem run) tt tt tt r)))) (id⊢ 𝓤 _) $ await ! tt $ pick ! (λ r. split ! $ move ! (1 ∷ []) $
+        use1 W (some (λ (ws : Lasts turns-first-look′.ended tt tt). ‵ (lasts turns-first-look′.ended tt tt ws) ⊛ raw (fact 𝓤 (r ≡ firstLook)))) (id⊢ 𝓤 _) $ pick ! (λ ws. split ! $ move ! (1 ∷ []) $ heard ! (r ≡ firstLook) (λ e.
+        drop ! $ split ! $ drop ! $ peeks ! Look-row.the-row (Is Look-row.the-row) (shows 𝓤 H A Look-row.the-row) r (w ∷ []) (λ is. drop ! $
         land ! (from ! (stop !)) (init ! 12 refl ((LL.lawful Look-row.the-type Look-laws.the-laws 𝓤 H A W) .typed r _ is .0)) $
         rewrite ! 12 (λ (u : Val). ‵ (fat fullShare Look-laws.mir l₃ 0 u)) (ap only ((LL.tells Look-row.the-type Look-laws.the-laws) r _ is)) refl $
         -- [lft table; own table | _8 (2); _7 (4); _6 (6); _5 (8); _4 (10); _3 (12); _2 (14); _1 (16); _0 (18)]
@@ -206,20 +206,20 @@ module _ {M : Type 1} (𝓤 : URA M) (H : Heap 𝓤) (A : Atoms 𝓤) (W : Given
         looks-slice ! tt Chip-row.the-row (Is Chip-row.the-row) (shows 𝓤 H A Chip-row.the-row) (LL.vals Chip-row.the-type Chip-laws.the-laws) (LL.tells Chip-row.the-type Chip-laws.the-laws) (LL.copy Chip-row.the-type Chip-laws.the-copy 𝓤 H A W) table table-b table-o (λ z-table.
         by ! (loops z-table r (subst (λ (us : List Val). Is Look-row.the-row r us) ((LL.tells Look-row.the-type Look-laws.the-laws) r _ is) is) (walk-fold-is noChip (lookAt chip) table r ∙ folded chip table r ∙ ap (λ (l : Look). lookedOver chip table l) e))))))))
 
-  walk : (𝓣 : Tables 𝓤 H) → Triple 𝓤 (𝓣 .C #lent-turns-first-look) (lent-turns-first-look-says 𝓤 H A at-mem run) → Triple 𝓤 (𝓣 .C #lent-turns-look-at) (lent-turns-look-at-says 𝓤 H A at-mem run) → ent 𝓤 (onEntry 𝓤 H A f.signature (κ-table, tt) (q-table, tt) ((record { ptr = (table-b, table-o); name = table-γ; now = table }), (chip, tt)) ((sliceVal (table-b, table-o) (length table)) ∷ [], (((uint-vals w32) chip), tt))) (WpFn 𝓤 H (𝓣 .C) (𝓣 .Λ) code.function ((sliceVal (table-b, table-o) (length table)) ∷ (vint w32 chip) ∷ []) Post)
-  walk 𝓣 known-lent-turns-first-look known-lent-turns-look-at =
+  walk : (𝓣 : Tables 𝓤 H) → Triple 𝓤 (𝓣 .C #turns-first-look) (turns-first-look-says 𝓤 H A at-mem run) → Triple 𝓤 (𝓣 .C #turns-look-at) (turns-look-at-says 𝓤 H A at-mem run) → ent 𝓤 (onEntry 𝓤 H A f.signature (κ-table, tt) (q-table, tt) ((record { ptr = (table-b, table-o); name = table-γ; now = table }), (chip, tt)) ((sliceVal (table-b, table-o) (length table)) ∷ [], (((uint-vals w32) chip), tt))) (WpFn 𝓤 H (𝓣 .C) (𝓣 .Λ) code.function ((sliceVal (table-b, table-o) (length table)) ∷ (vint w32 chip) ∷ []) Post)
+  walk 𝓣 known-turns-first-look known-turns-look-at =
       qed W ((‵ (flft κ-table q-table) ⊛ ‵ ftrue) ∷ ‵ (owns (ShrSlice (named 0) κ-table Chip-row.the-row ∷ u32 ∷ []) ((record { ptr = (table-b, table-o); name = table-γ; now = table }), (chip, tt)) ((sliceVal (table-b, table-o) (length table)) ∷ [], (((uint-vals w32) chip), tt))) ∷ []) ∵ enter ! (𝓣 .C) (𝓣 .Λ) code.function ((sliceVal (table-b, table-o) (length table)) ∷ (vint w32 chip) ∷ []) _ $
       alloc1 ! (λ l₀. alloc1 ! (λ l₁. alloc1 ! (λ l₂. alloc1 ! (λ l₃. alloc1 ! (λ l₄. alloc1 ! (λ l₅. alloc1 ! (λ l₆. alloc1 ! (λ l₇. alloc1 ! (λ l₈. alloc0 ! $ params1 ! $ pass1 ! (init ! 14 refl (tt, (tt, (record { fits = table-room .0 }, tt)))) $ pass1 ! (init ! 12 refl ((uint-lawful 𝓤 H A W w32) .typed chip ((uint-vals w32) chip) chip-is .0)) $ pass0 ! $
-      starts 𝓣 known-lent-turns-first-look known-lent-turns-look-at l₀ l₁ l₂ l₃ l₄ l₅ l₆ l₇ l₈)))))))))
+      starts 𝓣 known-turns-first-look known-turns-look-at l₀ l₁ l₂ l₃ l₄ l₅ l₆ l₇ l₈)))))))))
 
 module _ {M : Type 1} (𝓤 : URA M) (H : Heap 𝓤) (A : Atoms 𝓤) (W : Given 𝓤 H A) (at-mem : Memory → SProp 𝓤) (run : Routine → Fun 𝓤) where
-  walks : (𝓣 : Tables 𝓤 H) → Triple 𝓤 (𝓣 .C #lent-turns-first-look) (lent-turns-first-look-says 𝓤 H A at-mem run) → Triple 𝓤 (𝓣 .C #lent-turns-look-at) (lent-turns-look-at-says 𝓤 H A at-mem run) → Walks 𝓤 H A f.ended stayed (WpFn 𝓤 H (𝓣 .C) (𝓣 .Λ) code.function) (f.clauses 𝓤 H A at-mem run)
-  walks 𝓣 known-lent-turns-first-look known-lent-turns-look-at = walked 𝓤 H A f.ended stayed (f.clauses 𝓤 H A at-mem run) (WpFn 𝓤 H (𝓣 .C) (𝓣 .Λ) code.function) (λ κs. (slice-vals, ((uint-vals w32), tt))) (λ κs. (shr-slice-tells (named 0) (κs .0) Chip-row.the-row, ((uint-tells w32), tt)))
-      (λ κs qs bounds a _ are. via 𝓤 _ (fst∗ 𝓤 _ (emp 𝓤)) (walk 𝓤 H A W at-mem run (κs .0) (qs .0) (a .0 .ptr .0) (a .0 .ptr .1) (a .0 .name) (a .0 .now) (are .0 .0 .1) (a .1 .0) (are .1 .0) 𝓣 known-lent-turns-first-look known-lent-turns-look-at))
+  walks : (𝓣 : Tables 𝓤 H) → Triple 𝓤 (𝓣 .C #turns-first-look) (turns-first-look-says 𝓤 H A at-mem run) → Triple 𝓤 (𝓣 .C #turns-look-at) (turns-look-at-says 𝓤 H A at-mem run) → Walks 𝓤 H A f.ended stayed (WpFn 𝓤 H (𝓣 .C) (𝓣 .Λ) code.function) (f.clauses 𝓤 H A at-mem run)
+  walks 𝓣 known-turns-first-look known-turns-look-at = walked 𝓤 H A f.ended stayed (f.clauses 𝓤 H A at-mem run) (WpFn 𝓤 H (𝓣 .C) (𝓣 .Λ) code.function) (λ κs. (slice-vals, ((uint-vals w32), tt))) (λ κs. (shr-slice-tells (named 0) (κs .0) Chip-row.the-row, ((uint-tells w32), tt)))
+      (λ κs qs bounds a _ are. via 𝓤 _ (fst∗ 𝓤 _ (emp 𝓤)) (walk 𝓤 H A W at-mem run (κs .0) (qs .0) (a .0 .ptr .0) (a .0 .ptr .1) (a .0 .name) (a .0 .now) (are .0 .0 .1) (a .1 .0) (are .1 .0) 𝓣 known-turns-first-look known-turns-look-at))
 
-  meets : (𝓣 : Tables 𝓤 H) → Triple 𝓤 (𝓣 .C #lent-turns-first-look) (lent-turns-first-look-says 𝓤 H A at-mem run) → Triple 𝓤 (𝓣 .C #lent-turns-look-at) (lent-turns-look-at-says 𝓤 H A at-mem run) → Meets 𝓤 H A f.signature (WpFn 𝓤 H (𝓣 .C) (𝓣 .Λ) code.function) (f.spec 𝓤 H A at-mem run)
-  meets 𝓣 known-lent-turns-first-look known-lent-turns-look-at = walk-meets 𝓤 H A f.ended stayed W (goes-none-slice 𝓤 H A W 1 (0 ∷ []) tt (plain (λ _. Chip-row.the-row)) yes, (goes-none 𝓤 H A W 1 (λ _. u32) yes (λ κs x f. refl), tt)) (f.clauses 𝓤 H A at-mem run)
-      (WpFn 𝓤 H (𝓣 .C) (𝓣 .Λ) code.function) (WpFn-mono 𝓤 H (W .laws) 𝓣 code.function) (walks 𝓣 known-lent-turns-first-look known-lent-turns-look-at)
+  meets : (𝓣 : Tables 𝓤 H) → Triple 𝓤 (𝓣 .C #turns-first-look) (turns-first-look-says 𝓤 H A at-mem run) → Triple 𝓤 (𝓣 .C #turns-look-at) (turns-look-at-says 𝓤 H A at-mem run) → Meets 𝓤 H A f.signature (WpFn 𝓤 H (𝓣 .C) (𝓣 .Λ) code.function) (f.spec 𝓤 H A at-mem run)
+  meets 𝓣 known-turns-first-look known-turns-look-at = walk-meets 𝓤 H A f.ended stayed W (goes-none-slice 𝓤 H A W 1 (0 ∷ []) tt (plain (λ _. Chip-row.the-row)) yes, (goes-none 𝓤 H A W 1 (λ _. u32) yes (λ κs x f. refl), tt)) (f.clauses 𝓤 H A at-mem run)
+      (WpFn 𝓤 H (𝓣 .C) (𝓣 .Λ) code.function) (WpFn-mono 𝓤 H (W .laws) 𝓣 code.function) (walks 𝓣 known-turns-first-look known-turns-look-at)
 
 pub look-over-spec : {M : Type 1} → stated.statement M
 unfolding code.routine tablesOf
@@ -227,5 +227,5 @@ look-over-spec 𝓤 H 𝓜 𝓖 𝓡 =
     entered 𝓤 H (tripleOf 𝓤 H (𝓖 .A) f.signature (f.spec 𝓤 H (𝓖 .A) (𝓜 .mem) (𝓡 .run)))
     (tables 𝓤 H 𝓜 𝓡 code.env .C) (tables 𝓤 H 𝓜 𝓡 code.env .Λ) #look-over code.function (code.unfolded 𝓤 H 𝓜 𝓡)
     (meets 𝓤 H (𝓖 .A) (givenOf 𝓤 H 𝓜 𝓖) (𝓜 .mem) (𝓡 .run) (tablesOf 𝓤 H 𝓜 (tables 𝓤 H 𝓜 𝓡 code.env))
-    (cited 𝓤 H (lent-turns-first-look-says 𝓤 H (𝓖 .A) (𝓜 .mem) (𝓡 .run)) 𝓜 𝓡 code.env #lent-turns-first-look lent-turns-first-look-def.routine code.calls-lent·turns·first-look (lent-turns-first-look-thm.met 𝓤 H 𝓜 𝓖 𝓡))
-    (cited 𝓤 H (lent-turns-look-at-says 𝓤 H (𝓖 .A) (𝓜 .mem) (𝓡 .run)) 𝓜 𝓡 code.env #lent-turns-look-at lent-turns-look-at-def.routine code.calls-lent·turns·look-at (lent-turns-look-at-thm.met 𝓤 H 𝓜 𝓖 𝓡)))
+    (cited 𝓤 H (turns-first-look-says 𝓤 H (𝓖 .A) (𝓜 .mem) (𝓡 .run)) 𝓜 𝓡 code.env #turns-first-look turns-first-look-def.routine code.calls-turns·first-look (turns-first-look-thm.met 𝓤 H 𝓜 𝓖 𝓡))
+    (cited 𝓤 H (turns-look-at-says 𝓤 H (𝓖 .A) (𝓜 .mem) (𝓡 .run)) 𝓜 𝓡 code.env #turns-look-at turns-look-at-def.routine code.calls-turns·look-at (turns-look-at-thm.met 𝓤 H 𝓜 𝓖 𝓡)))

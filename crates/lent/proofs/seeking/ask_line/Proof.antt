@@ -42,9 +42,9 @@ use denote.Exit.{yes}
 use Rattle.line.specs.declared.Answer.{Answer}
 use Rattle.machine.specs.declared.Ask.{Ask}
 use Rattle.chip.specs.declared.Chip.{Chip}
-use Rattle.lent.specs.declared.Look.{Look}
-use Rattle.lent.specs.declared.Plan.{Plan}
-use Rattle.lent.specs.Walk.{firstLook, lookedOver, carriedOut}
+use Rattle.turns.specs.declared.Look.{Look}
+use Rattle.turns.specs.declared.Plan.{Plan}
+use Rattle.turns.specs.Walk.{firstLook, lookedOver, carriedOut}
 use Rattle.lent.specs.Seek.{chipOf, planAsk}
 use Rattle.line.specs.Layout.{lent}
 use Rattle.line.specs.Event.{answered, outcome}
@@ -57,10 +57,10 @@ use Rattle.line.proofs.Answer.Laws as Answer-laws
 use Rattle.machine.proofs.Ask as Ask-row
 use Rattle.machine.proofs.Ask.Laws as Ask-laws
 use Rattle.chip.proofs.Chip as Chip-row
-use Rattle.lent.proofs.Look as Look-row
-use Rattle.lent.proofs.Look.Laws as Look-laws
-use Rattle.lent.proofs.Plan as Plan-row
-use Rattle.lent.proofs.Plan.Laws as Plan-laws
+use Rattle.turns.proofs.Look as Look-row
+use Rattle.turns.proofs.Look.Laws as Look-laws
+use Rattle.turns.proofs.Plan as Plan-row
+use Rattle.turns.proofs.Plan.Laws as Plan-laws
 use Rattle.lent.proofs.seeking.chip_of as lent-seeking-chip-of′
 use Rattle.lent.proofs.seeking.chip_of.Symbol as lent-seeking-chip-of-def
 use Rattle.lent.proofs.seeking.chip_of.Symbol.{name as #lent-seeking-chip-of}

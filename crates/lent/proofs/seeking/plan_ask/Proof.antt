@@ -5,7 +5,7 @@ use Rattle.lent.proofs.seeking.plan_ask.Statement.{statement}
 use Rattle.lent.proofs.seeking.plan_ask.Tie as tie
 use Rattle.lent.proofs.seeking.plan_ask.Reads as reads
 use Rattle.lent.proofs.seeking.plan_ask.Lts as lts
-use Rattle.lent.proofs.turns.plan_of.Reads as plan-of-reads
+use Rattle.turns.proofs.plan_of.Reads as plan-of-reads
 
 -- src/seeking.rt:39:39
 enum-told : tie.Need-enum-told

@@ -40,11 +40,11 @@ use denote.Triple.Table.{entered, cited}
 use denote.Triple.Walked.{says, Stays, stay-slice, walkOf, goes-slice, Walks, ends-at, walked, walk-meets}
 use denote.Triple.Clauses.{ensured, Lasts, lasts}
 use Rattle.chip.specs.declared.Chip.{Chip}
-use Rattle.lent.specs.declared.Look.{Look}
+use Rattle.turns.specs.declared.Look.{Look}
 use Rattle.machine.specs.declared.Machine.{Machine}
 use Rattle.line.specs.declared.Standing.{Standing}
 use Rattle.machine.specs.declared.Told.{Told}
-use Rattle.lent.specs.Walk.{firstLook, lookedOver, standsBy}
+use Rattle.turns.specs.Walk.{firstLook, lookedOver, standsBy}
 use Rattle.lent.specs.Seek.{turnsFor, tellsBy}
 use Rattle.machine.specs.Run.{ran, run as machineRun}
 use Rattle.machine.specs.Machine.{beginOf, tale}
@@ -53,8 +53,8 @@ use Rattle.search.specs.Search.{searched, outcome as found, searchOf}
 use Rattle.lent.specs.Found.{searches}
 use Rattle.lent.proofs.Again.{LentAgain, lends-at, back-at, LentShared, lends-shared, shared-back}
 use Rattle.chip.proofs.Chip as Chip-row
-use Rattle.lent.proofs.Look as Look-row
-use Rattle.lent.proofs.Look.Laws as Look-laws
+use Rattle.turns.proofs.Look as Look-row
+use Rattle.turns.proofs.Look.Laws as Look-laws
 use Rattle.machine.proofs.Machine as Machine-row
 use Rattle.machine.proofs.Machine.Laws as Machine-laws
 use Rattle.line.proofs.Standing as Standing-row
@@ -65,10 +65,10 @@ use Rattle.lent.proofs.look_over as lent-look-over′
 use Rattle.lent.proofs.look_over.Symbol as lent-look-over-def
 use Rattle.lent.proofs.look_over.Symbol.{name as #lent-look-over}
 use Rattle.lent.proofs.look_over.Met as lent-look-over-thm
-use Rattle.lent.proofs.turns.stands_by as lent-turns-stands-by′
-use Rattle.lent.proofs.turns.stands_by.Symbol as lent-turns-stands-by-def
-use Rattle.lent.proofs.turns.stands_by.Symbol.{name as #lent-turns-stands-by}
-use Rattle.lent.proofs.turns.stands_by.Met as lent-turns-stands-by-thm
+use Rattle.turns.proofs.stands_by as turns-stands-by′
+use Rattle.turns.proofs.stands_by.Symbol as turns-stands-by-def
+use Rattle.turns.proofs.stands_by.Symbol.{name as #turns-stands-by}
+use Rattle.turns.proofs.stands_by.Met as turns-stands-by-thm
 use Rattle.lent.proofs.seeking.turns_for as lent-seeking-turns-for′
 use Rattle.lent.proofs.seeking.turns_for.Symbol as lent-seeking-turns-for-def
 use Rattle.lent.proofs.seeking.turns_for.Symbol.{name as #lent-seeking-turns-for}
@@ -97,8 +97,8 @@ stayed = (stay-slice (0 ∷ []) tt (plain (λ _. Chip-row.the-row)), (stay-slice
 abbrev lent-look-over-says : {M : Type 1} (𝓤 : URA M) (H : Heap 𝓤) (A : Atoms 𝓤) (at-mem : Memory → SProp 𝓤) (run : Routine → Fun 𝓤) → Contract 𝓤
 lent-look-over-says 𝓤 H A at-mem run = tripleOf 𝓤 H A lent-look-over′.signature (lent-look-over′.spec 𝓤 H A at-mem run)
 
-abbrev lent-turns-stands-by-says : {M : Type 1} (𝓤 : URA M) (H : Heap 𝓤) (A : Atoms 𝓤) (at-mem : Memory → SProp 𝓤) (run : Routine → Fun 𝓤) → Contract 𝓤
-lent-turns-stands-by-says 𝓤 H A at-mem run = tripleOf 𝓤 H A lent-turns-stands-by′.signature (lent-turns-stands-by′.spec 𝓤 H A at-mem run)
+abbrev turns-stands-by-says : {M : Type 1} (𝓤 : URA M) (H : Heap 𝓤) (A : Atoms 𝓤) (at-mem : Memory → SProp 𝓤) (run : Routine → Fun 𝓤) → Contract 𝓤
+turns-stands-by-says 𝓤 H A at-mem run = tripleOf 𝓤 H A turns-stands-by′.signature (turns-stands-by′.spec 𝓤 H A at-mem run)
 
 abbrev lent-seeking-turns-for-says : {M : Type 1} (𝓤 : URA M) (H : Heap 𝓤) (A : Atoms 𝓤) (at-mem : Memory → SProp 𝓤) (run : Routine → Fun 𝓤) → Contract 𝓤
 lent-seeking-turns-for-says 𝓤 H A at-mem run = tripleOf 𝓤 H A lent-seeking-turns-for′.signature (lent-seeking-turns-for′.spec 𝓤 H A at-mem run)
@@ -120,7 +120,7 @@ module _ {M : Type 1} (𝓤 : URA M) (H : Heap 𝓤) (A : Atoms 𝓤) (W : Given
   exits r r-is table′ table-len list′ list-len ms′ ms-len ss′ ss-len e =
       qed W (‵ (MutSlice (named 0) κ-table Chip-row.the-row .own (record { ptr = (table-b, table-o); name = table-γ; now = table′ }) ((sliceVal (table-b, table-o) (length table)) ∷ [])) ∷ ‵ (flft κ-table q-table) ∷ ‵ (MutSlice (named 1) κ-list u64 .own (record { ptr = (list-b, list-o); name = list-γ; now = list′ }) ((sliceVal (list-b, list-o) (length list)) ∷ [])) ∷ ‵ (flft κ-list q-list) ∷ ‵ (MutSlice (named 2) κ-ms u8 .own (record { ptr = (ms-b, ms-o); name = ms-γ; now = ms′ }) ((sliceVal (ms-b, ms-o) (length ms)) ∷ [])) ∷ ‵ (flft κ-ms q-ms) ∷ ‵ (MutSlice (named 3) κ-ss u8 .own (record { ptr = (ss-b, ss-o); name = ss-γ; now = ss′ }) ((sliceVal (ss-b, ss-o) (length ss)) ∷ [])) ∷ ‵ (flft κ-ss q-ss) ∷ []) ∵ suffices ! _ (ends-at 𝓤 H A f.ended stayed (f.clauses 𝓤 H A at-mem run) W (((κ-table, (κ-list, (κ-ms, (κ-ss, tt)))), (q-table, (q-list, (q-ms, (q-ss, tt)))), tt, ((record { ptr = (table-b, table-o); name = table-γ; now = table }), ((record { ptr = (list-b, list-o); name = list-γ; now = list }), ((record { ptr = (ms-b, ms-o); name = ms-γ; now = ms }), ((record { ptr = (ss-b, ss-o); name = ss-γ; now = ss }), tt)))), ((sliceVal (table-b, table-o) (length table)) ∷ [], ((sliceVal (list-b, list-o) (length list)) ∷ [], ((sliceVal (ms-b, ms-o) (length ms)) ∷ [], ((sliceVal (ss-b, ss-o) (length ss)) ∷ [], tt))))), tt) (LL.val Told-row.the-type Told-laws.the-laws r) r (table′, (list′, (ms′, (ss′, tt)))) (table-len, (list-len, (ms-len, (ss-len, tt))))) $ says ! e $ nothing ! $ move ! (8 ∷ 0 ∷ []) $ join ! $ move ! (6 ∷ 0 ∷ []) $ join ! $ move ! (4 ∷ 0 ∷ []) $ join ! $ move ! (2 ∷ 0 ∷ []) $ join ! $ frame ! $ nothing ! $ move ! (4 ∷ 0 ∷ []) $ fjoin ! $ move ! (3 ∷ 0 ∷ []) $ fjoin ! $ move ! (2 ∷ 0 ∷ []) $ fjoin ! $ move ! (1 ∷ 0 ∷ []) $ fjoin ! $ frame ! $ owned ! Told-row.the-row (Is Told-row.the-row) (LL.makes Told-row.the-type Told-laws.the-plain 𝓤 H A) r _ r-is $ done !
 
-  module _ (C : Calls 𝓤 H) (Λ : Loops 𝓤 H) (fm : FmC 𝓤 H (W .laws) C) (known-lent-look-over : Triple 𝓤 (C #lent-look-over) (lent-look-over-says 𝓤 H A at-mem run)) (known-lent-turns-stands-by : Triple 𝓤 (C #lent-turns-stands-by) (lent-turns-stands-by-says 𝓤 H A at-mem run)) (known-lent-seeking-turns-for : Triple 𝓤 (C #lent-seeking-turns-for) (lent-seeking-turns-for-says 𝓤 H A at-mem run)) (known-machine-begin : Triple 𝓤 (C #machine-begin) (machine-begin-says 𝓤 H A at-mem run)) (known-lent-seeking-run-host : Triple 𝓤 (C #lent-seeking-run-host) (lent-seeking-run-host-says 𝓤 H A at-mem run)) (known-lent-seeking-tell-by : Triple 𝓤 (C #lent-seeking-tell-by) (lent-seeking-tell-by-says 𝓤 H A at-mem run)) (l₀ l₁ l₂ l₃ l₄ l₅ l₆ l₇ l₈ l₉ l₁₀ l₁₁ l₁₂ l₁₃ l₁₄ l₁₅ l₁₆ l₁₇ l₁₈ l₁₉ l₂₀ l₂₁ l₂₂ : ℕ) where
+  module _ (C : Calls 𝓤 H) (Λ : Loops 𝓤 H) (fm : FmC 𝓤 H (W .laws) C) (known-lent-look-over : Triple 𝓤 (C #lent-look-over) (lent-look-over-says 𝓤 H A at-mem run)) (known-turns-stands-by : Triple 𝓤 (C #turns-stands-by) (turns-stands-by-says 𝓤 H A at-mem run)) (known-lent-seeking-turns-for : Triple 𝓤 (C #lent-seeking-turns-for) (lent-seeking-turns-for-says 𝓤 H A at-mem run)) (known-machine-begin : Triple 𝓤 (C #machine-begin) (machine-begin-says 𝓤 H A at-mem run)) (known-lent-seeking-run-host : Triple 𝓤 (C #lent-seeking-run-host) (lent-seeking-run-host-says 𝓤 H A at-mem run)) (known-lent-seeking-tell-by : Triple 𝓤 (C #lent-seeking-tell-by) (lent-seeking-tell-by-says 𝓤 H A at-mem run)) (l₀ l₁ l₂ l₃ l₄ l₅ l₆ l₇ l₈ l₉ l₁₀ l₁₁ l₁₂ l₁₃ l₁₄ l₁₅ l₁₆ l₁₇ l₁₈ l₁₉ l₂₀ l₂₁ l₂₂ : ℕ) where
     abbrev En : Env 𝓤 H
     En = (Told-laws.mir, l₀) ∷ ((sliceTy (tyRef (named 0) mut (pointee (Chip-row.the-row .written)))), l₁) ∷ ((sliceTy (tyRef (named 1) mut (tyInt w64))), l₂) ∷ ((sliceTy (tyRef (named 2) mut (tyInt w8))), l₃) ∷ ((sliceTy (tyRef (named 3) mut (tyInt w8))), l₄) ∷ (Look-laws.mir, l₅) ∷ (Standing-laws.mir, l₆) ∷ ((tyInt w64), l₇) ∷ (Machine-laws.mir, l₈) ∷ (Machine-laws.mir, l₉) ∷ ((tyRef erased imm (pointee (Chip-row.the-row .written))), l₁₀) ∷ ((sliceTy (tyRef erased imm (pointee (Chip-row.the-row .written)))), l₁₁) ∷ ((tyInt w64), l₁₂) ∷ ((tyInt w64), l₁₃) ∷ ((tyInt w64), l₁₄) ∷ ((tyRef erased mut (pointee (Chip-row.the-row .written))), l₁₅) ∷ ((sliceTy (tyRef erased mut (pointee (Chip-row.the-row .written)))), l₁₆) ∷ ((tyRef erased mut (tyInt w64)), l₁₇) ∷ ((sliceTy (tyRef erased mut (tyInt w64))), l₁₈) ∷ ((tyRef erased mut (tyInt w8)), l₁₉) ∷ ((sliceTy (tyRef erased mut (tyInt w8))), l₂₀) ∷ ((tyRef erased mut (tyInt w8)), l₂₁) ∷ ((sliceTy (tyRef erased mut (tyInt w8))), l₂₂) ∷ []
 
@@ -154,10 +154,10 @@ module _ {M : Type 1} (𝓤 : URA M) (H : Heap 𝓤) (A : Atoms 𝓤) (W : Given
         owned ! usize (Is usize) (uint-makes 𝓤 H A W w64) (length table) ((uint-vals w64) (length table)) (refl, table-room .0) $ fjoin ! $
         owned ! Look-row.the-row (Is Look-row.the-row) (LL.makes Look-row.the-type Look-laws.the-plain 𝓤 H A) r ((LL.vals Look-row.the-type Look-laws.the-laws) r) (subst (λ (us : List Val). Is Look-row.the-row r us) ((LL.tells Look-row.the-type Look-laws.the-laws) r _ is) is) $
         fjoin ! $ nothing ! $ join ! $
-        use1 W (raw (lent-turns-stands-by-says 𝓤 H A at-mem run .pre ((tt, tt, tt, (r, ((length table), ((length ms), ((length ss), tt)))), (((LL.vals Look-row.the-type Look-laws.the-laws) r), (((uint-vals w64) (length table)), (((uint-vals w64) (length ms)), (((uint-vals w64) (length ss)), tt))))), tt))) (qed W (((‵ ftrue) ⊛ ‵ (owns (Look-row.the-row ∷ usize ∷ usize ∷ usize ∷ []) (r, ((length table), ((length ms), ((length ss), tt)))) (((LL.vals Look-row.the-type Look-laws.the-laws) r), (((uint-vals w64) (length table)), (((uint-vals w64) (length ms)), (((uint-vals w64) (length ss)), tt)))))) ∷ []) ∵ nothing ! $ move ! (1 ∷ 0 ∷ []) $ split ! $ join ! $ frame ! $ done !) $
-        calls-at ! fm (lent-turns-stands-by-says 𝓤 H A at-mem run) known-lent-turns-stands-by ((tt, tt, tt, (r, ((length table), ((length ms), ((length ss), tt)))), (((LL.vals Look-row.the-type Look-laws.the-laws) r), (((uint-vals w64) (length table)), (((uint-vals w64) (length ms)), (((uint-vals w64) (length ss)), tt))))), tt) (and-then ! (load ! (from ! (stop !)) (look ! 43 refl)) (and-then ! (load ! (from ! (stop !)) (look ! 29 refl)) (and-then ! (load ! (from ! (stop !)) (look ! 27 refl)) (and-then ! (load ! (from ! (stop !)) (look ! 25 refl)) (no-more !))))) (λ w2.
-        use1 W (later (some (λ (r2 : Standing). ((‵ ftrue) ⊛ ‵ (Standing-row.the-row .own r2 (w2 ∷ []))) ⊛ raw (ensured 𝓤 H A lent-turns-stands-by′.ended (lent-turns-stands-by′.clauses 𝓤 H A at-mem run) tt (r, ((length table), ((length ms), ((length ss), tt)))) tt r2)))) (id⊢ 𝓤 _) $ await ! tt $ pick ! (λ r2. split ! $ move ! (1 ∷ []) $
-        use1 W (some (λ (ws2 : Lasts lent-turns-stands-by′.ended tt (r, ((length table), ((length ms), ((length ss), tt))))). ‵ (lasts lent-turns-stands-by′.ended tt (r, ((length table), ((length ms), ((length ss), tt)))) ws2) ⊛ raw (fact 𝓤 (r2 ≡ standsBy r (length table) (length ms) (length ss))))) (id⊢ 𝓤 _) $ pick ! (λ ws2. split ! $ move ! (1 ∷ []) $
+        use1 W (raw (turns-stands-by-says 𝓤 H A at-mem run .pre ((tt, tt, tt, (r, ((length table), ((length ms), ((length ss), tt)))), (((LL.vals Look-row.the-type Look-laws.the-laws) r), (((uint-vals w64) (length table)), (((uint-vals w64) (length ms)), (((uint-vals w64) (length ss)), tt))))), tt))) (qed W (((‵ ftrue) ⊛ ‵ (owns (Look-row.the-row ∷ usize ∷ usize ∷ usize ∷ []) (r, ((length table), ((length ms), ((length ss), tt)))) (((LL.vals Look-row.the-type Look-laws.the-laws) r), (((uint-vals w64) (length table)), (((uint-vals w64) (length ms)), (((uint-vals w64) (length ss)), tt)))))) ∷ []) ∵ nothing ! $ move ! (1 ∷ 0 ∷ []) $ split ! $ join ! $ frame ! $ done !) $
+        calls-at ! fm (turns-stands-by-says 𝓤 H A at-mem run) known-turns-stands-by ((tt, tt, tt, (r, ((length table), ((length ms), ((length ss), tt)))), (((LL.vals Look-row.the-type Look-laws.the-laws) r), (((uint-vals w64) (length table)), (((uint-vals w64) (length ms)), (((uint-vals w64) (length ss)), tt))))), tt) (and-then ! (load ! (from ! (stop !)) (look ! 43 refl)) (and-then ! (load ! (from ! (stop !)) (look ! 29 refl)) (and-then ! (load ! (from ! (stop !)) (look ! 27 refl)) (and-then ! (load ! (from ! (stop !)) (look ! 25 refl)) (no-more !))))) (λ w2.
+        use1 W (later (some (λ (r2 : Standing). ((‵ ftrue) ⊛ ‵ (Standing-row.the-row .own r2 (w2 ∷ []))) ⊛ raw (ensured 𝓤 H A turns-stands-by′.ended (turns-stands-by′.clauses 𝓤 H A at-mem run) tt (r, ((length table), ((length ms), ((length ss), tt)))) tt r2)))) (id⊢ 𝓤 _) $ await ! tt $ pick ! (λ r2. split ! $ move ! (1 ∷ []) $
+        use1 W (some (λ (ws2 : Lasts turns-stands-by′.ended tt (r, ((length table), ((length ms), ((length ss), tt))))). ‵ (lasts turns-stands-by′.ended tt (r, ((length table), ((length ms), ((length ss), tt)))) ws2) ⊛ raw (fact 𝓤 (r2 ≡ standsBy r (length table) (length ms) (length ss))))) (id⊢ 𝓤 _) $ pick ! (λ ws2. split ! $ move ! (1 ∷ []) $
         heard ! (r2 ≡ standsBy r (length table) (length ms) (length ss)) (λ e2. fsplit ! $ drop ! $ fsplit ! $ drop ! $ fsplit ! $ drop ! $ fsplit ! $ drop ! $ drop ! $ split ! $ drop ! $
         peeks ! Standing-row.the-row (Is Standing-row.the-row) (shows 𝓤 H A Standing-row.the-row) r2 (w2 ∷ []) (λ is2. drop ! $
         land ! (from ! (stop !)) (init ! 40 refl ((EL.lawful Standing-row.the-type Standing-laws.the-laws 𝓤 H A W tt) .typed r2 _ is2 .0)) $
@@ -245,20 +245,20 @@ module _ {M : Type 1} (𝓤 : URA M) (H : Heap 𝓤) (A : Atoms 𝓤) (W : Given
         keep ! (6 ∷ 7 ∷ 4 ∷ 5 ∷ 2 ∷ 3 ∷ 0 ∷ 1 ∷ []) $
         by ! (exits r6 (subst (λ (us : List Val). Is Told-row.the-row r6 us) ((LL.tells Told-row.the-type Told-laws.the-laws) r6 _ is6) is6) (ws5 .0) table-as-long5 (ws5 .1 .1 .1 .0) list-as-long5 (ws5 .1 .1 .1 .1 .0) ms-as-long5 (ws5 .1 .1 .1 .1 .1 .0) ss-as-long5 (searches table list ms ss r r2 r3 r4 r5 (ws5 .1 .1 .1 .0) (attached (length (ws5 .0)) (ws5 .0) (ws5 .1 .1 .1 .1 .0) (ws5 .1 .1 .1 .1 .1 .0)) (searched (r6 .answer)) (r6 .listed) (r6 .resets .0) (r6 .slots .0) e e2 e3 e4 e5 e6))))))))))))))))))))))))))))))))))))))))))))))
 
-  walk : (C : Calls 𝓤 H) (Λ : Loops 𝓤 H) → FmC 𝓤 H (W .laws) C → Triple 𝓤 (C #lent-look-over) (lent-look-over-says 𝓤 H A at-mem run) → Triple 𝓤 (C #lent-turns-stands-by) (lent-turns-stands-by-says 𝓤 H A at-mem run) → Triple 𝓤 (C #lent-seeking-turns-for) (lent-seeking-turns-for-says 𝓤 H A at-mem run) → Triple 𝓤 (C #machine-begin) (machine-begin-says 𝓤 H A at-mem run) → Triple 𝓤 (C #lent-seeking-run-host) (lent-seeking-run-host-says 𝓤 H A at-mem run) → Triple 𝓤 (C #lent-seeking-tell-by) (lent-seeking-tell-by-says 𝓤 H A at-mem run) → ent 𝓤 (onEntry 𝓤 H A f.signature (κ-table, (κ-list, (κ-ms, (κ-ss, tt)))) (q-table, (q-list, (q-ms, (q-ss, tt)))) ((record { ptr = (table-b, table-o); name = table-γ; now = table }), ((record { ptr = (list-b, list-o); name = list-γ; now = list }), ((record { ptr = (ms-b, ms-o); name = ms-γ; now = ms }), ((record { ptr = (ss-b, ss-o); name = ss-γ; now = ss }), tt)))) ((sliceVal (table-b, table-o) (length table)) ∷ [], ((sliceVal (list-b, list-o) (length list)) ∷ [], ((sliceVal (ms-b, ms-o) (length ms)) ∷ [], ((sliceVal (ss-b, ss-o) (length ss)) ∷ [], tt))))) (WpFn 𝓤 H C Λ code.function ((sliceVal (table-b, table-o) (length table)) ∷ (sliceVal (list-b, list-o) (length list)) ∷ (sliceVal (ms-b, ms-o) (length ms)) ∷ (sliceVal (ss-b, ss-o) (length ss)) ∷ []) Post)
-  walk C Λ fm known-lent-look-over known-lent-turns-stands-by known-lent-seeking-turns-for known-machine-begin known-lent-seeking-run-host known-lent-seeking-tell-by =
+  walk : (C : Calls 𝓤 H) (Λ : Loops 𝓤 H) → FmC 𝓤 H (W .laws) C → Triple 𝓤 (C #lent-look-over) (lent-look-over-says 𝓤 H A at-mem run) → Triple 𝓤 (C #turns-stands-by) (turns-stands-by-says 𝓤 H A at-mem run) → Triple 𝓤 (C #lent-seeking-turns-for) (lent-seeking-turns-for-says 𝓤 H A at-mem run) → Triple 𝓤 (C #machine-begin) (machine-begin-says 𝓤 H A at-mem run) → Triple 𝓤 (C #lent-seeking-run-host) (lent-seeking-run-host-says 𝓤 H A at-mem run) → Triple 𝓤 (C #lent-seeking-tell-by) (lent-seeking-tell-by-says 𝓤 H A at-mem run) → ent 𝓤 (onEntry 𝓤 H A f.signature (κ-table, (κ-list, (κ-ms, (κ-ss, tt)))) (q-table, (q-list, (q-ms, (q-ss, tt)))) ((record { ptr = (table-b, table-o); name = table-γ; now = table }), ((record { ptr = (list-b, list-o); name = list-γ; now = list }), ((record { ptr = (ms-b, ms-o); name = ms-γ; now = ms }), ((record { ptr = (ss-b, ss-o); name = ss-γ; now = ss }), tt)))) ((sliceVal (table-b, table-o) (length table)) ∷ [], ((sliceVal (list-b, list-o) (length list)) ∷ [], ((sliceVal (ms-b, ms-o) (length ms)) ∷ [], ((sliceVal (ss-b, ss-o) (length ss)) ∷ [], tt))))) (WpFn 𝓤 H C Λ code.function ((sliceVal (table-b, table-o) (length table)) ∷ (sliceVal (list-b, list-o) (length list)) ∷ (sliceVal (ms-b, ms-o) (length ms)) ∷ (sliceVal (ss-b, ss-o) (length ss)) ∷ []) Post)
+  walk C Λ fm known-lent-look-over known-turns-stands-by known-lent-seeking-turns-for known-machine-begin known-lent-seeking-run-host known-lent-seeking-tell-by =
       qed W ((‵ (flft κ-table q-table) ⊛ ‵ (flft κ-list q-list) ⊛ ‵ (flft κ-ms q-ms) ⊛ ‵ (flft κ-ss q-ss) ⊛ ‵ ftrue) ∷ ‵ (owns (MutSlice (named 0) κ-table Chip-row.the-row ∷ MutSlice (named 1) κ-list u64 ∷ MutSlice (named 2) κ-ms u8 ∷ MutSlice (named 3) κ-ss u8 ∷ []) ((record { ptr = (table-b, table-o); name = table-γ; now = table }), ((record { ptr = (list-b, list-o); name = list-γ; now = list }), ((record { ptr = (ms-b, ms-o); name = ms-γ; now = ms }), ((record { ptr = (ss-b, ss-o); name = ss-γ; now = ss }), tt)))) ((sliceVal (table-b, table-o) (length table)) ∷ [], ((sliceVal (list-b, list-o) (length list)) ∷ [], ((sliceVal (ms-b, ms-o) (length ms)) ∷ [], ((sliceVal (ss-b, ss-o) (length ss)) ∷ [], tt))))) ∷ []) ∵ enter ! C Λ code.function ((sliceVal (table-b, table-o) (length table)) ∷ (sliceVal (list-b, list-o) (length list)) ∷ (sliceVal (ms-b, ms-o) (length ms)) ∷ (sliceVal (ss-b, ss-o) (length ss)) ∷ []) _ $
       alloc1 ! (λ l₀. alloc1 ! (λ l₁. alloc1 ! (λ l₂. alloc1 ! (λ l₃. alloc1 ! (λ l₄. alloc1 ! (λ l₅. alloc1 ! (λ l₆. alloc1 ! (λ l₇. alloc1 ! (λ l₈. alloc1 ! (λ l₉. alloc1 ! (λ l₁₀. alloc1 ! (λ l₁₁. alloc1 ! (λ l₁₂. alloc1 ! (λ l₁₃. alloc1 ! (λ l₁₄. alloc1 ! (λ l₁₅. alloc1 ! (λ l₁₆. alloc1 ! (λ l₁₇. alloc1 ! (λ l₁₈. alloc1 ! (λ l₁₉. alloc1 ! (λ l₂₀. alloc1 ! (λ l₂₁. alloc1 ! (λ l₂₂. alloc0 ! $ params1 ! $ pass1 ! (init ! 42 refl (tt, (tt, (record { fits = table-room .0 }, tt)))) $ pass1 ! (init ! 40 refl (tt, (tt, (record { fits = list-room .0 }, tt)))) $ pass1 ! (init ! 38 refl (tt, (tt, (record { fits = ms-room .0 }, tt)))) $ pass1 ! (init ! 36 refl (tt, (tt, (record { fits = ss-room .0 }, tt)))) $ pass0 ! $
-      starts C Λ fm known-lent-look-over known-lent-turns-stands-by known-lent-seeking-turns-for known-machine-begin known-lent-seeking-run-host known-lent-seeking-tell-by l₀ l₁ l₂ l₃ l₄ l₅ l₆ l₇ l₈ l₉ l₁₀ l₁₁ l₁₂ l₁₃ l₁₄ l₁₅ l₁₆ l₁₇ l₁₈ l₁₉ l₂₀ l₂₁ l₂₂)))))))))))))))))))))))
+      starts C Λ fm known-lent-look-over known-turns-stands-by known-lent-seeking-turns-for known-machine-begin known-lent-seeking-run-host known-lent-seeking-tell-by l₀ l₁ l₂ l₃ l₄ l₅ l₆ l₇ l₈ l₉ l₁₀ l₁₁ l₁₂ l₁₃ l₁₄ l₁₅ l₁₆ l₁₇ l₁₈ l₁₉ l₂₀ l₂₁ l₂₂)))))))))))))))))))))))
 
 module _ {M : Type 1} (𝓤 : URA M) (H : Heap 𝓤) (A : Atoms 𝓤) (W : Given 𝓤 H A) (at-mem : Memory → SProp 𝓤) (run : Routine → Fun 𝓤) where
-  walks : (C : Calls 𝓤 H) (Λ : Loops 𝓤 H) → FmC 𝓤 H (W .laws) C → Triple 𝓤 (C #lent-look-over) (lent-look-over-says 𝓤 H A at-mem run) → Triple 𝓤 (C #lent-turns-stands-by) (lent-turns-stands-by-says 𝓤 H A at-mem run) → Triple 𝓤 (C #lent-seeking-turns-for) (lent-seeking-turns-for-says 𝓤 H A at-mem run) → Triple 𝓤 (C #machine-begin) (machine-begin-says 𝓤 H A at-mem run) → Triple 𝓤 (C #lent-seeking-run-host) (lent-seeking-run-host-says 𝓤 H A at-mem run) → Triple 𝓤 (C #lent-seeking-tell-by) (lent-seeking-tell-by-says 𝓤 H A at-mem run) → Walks 𝓤 H A f.ended stayed (WpFn 𝓤 H C Λ code.function) (f.clauses 𝓤 H A at-mem run)
-  walks C Λ fm known-lent-look-over known-lent-turns-stands-by known-lent-seeking-turns-for known-machine-begin known-lent-seeking-run-host known-lent-seeking-tell-by = walked 𝓤 H A f.ended stayed (f.clauses 𝓤 H A at-mem run) (WpFn 𝓤 H C Λ code.function) (λ κs. (slice-vals, (slice-vals, (slice-vals, (slice-vals, tt))))) (λ κs. (mut-slice-tells (named 0) (κs .0) Chip-row.the-row, (mut-slice-tells (named 1) (κs .1 .0) u64, (mut-slice-tells (named 2) (κs .1 .1 .0) u8, (mut-slice-tells (named 3) (κs .1 .1 .1 .0) u8, tt)))))
-      (λ κs qs bounds a _ are. via 𝓤 _ (fst∗ 𝓤 _ (emp 𝓤)) (walk 𝓤 H A W at-mem run (κs .0) (qs .0) (κs .1 .0) (qs .1 .0) (κs .1 .1 .0) (qs .1 .1 .0) (κs .1 .1 .1 .0) (qs .1 .1 .1 .0) (a .0 .ptr .0) (a .0 .ptr .1) (a .0 .name) (a .0 .now) (are .0 .0 .1) (a .1 .0 .ptr .0) (a .1 .0 .ptr .1) (a .1 .0 .name) (a .1 .0 .now) (are .1 .0 .0 .1) (a .1 .1 .0 .ptr .0) (a .1 .1 .0 .ptr .1) (a .1 .1 .0 .name) (a .1 .1 .0 .now) (are .1 .1 .0 .0 .1) (a .1 .1 .1 .0 .ptr .0) (a .1 .1 .1 .0 .ptr .1) (a .1 .1 .1 .0 .name) (a .1 .1 .1 .0 .now) (are .1 .1 .1 .0 .0 .1) C Λ fm known-lent-look-over known-lent-turns-stands-by known-lent-seeking-turns-for known-machine-begin known-lent-seeking-run-host known-lent-seeking-tell-by))
+  walks : (C : Calls 𝓤 H) (Λ : Loops 𝓤 H) → FmC 𝓤 H (W .laws) C → Triple 𝓤 (C #lent-look-over) (lent-look-over-says 𝓤 H A at-mem run) → Triple 𝓤 (C #turns-stands-by) (turns-stands-by-says 𝓤 H A at-mem run) → Triple 𝓤 (C #lent-seeking-turns-for) (lent-seeking-turns-for-says 𝓤 H A at-mem run) → Triple 𝓤 (C #machine-begin) (machine-begin-says 𝓤 H A at-mem run) → Triple 𝓤 (C #lent-seeking-run-host) (lent-seeking-run-host-says 𝓤 H A at-mem run) → Triple 𝓤 (C #lent-seeking-tell-by) (lent-seeking-tell-by-says 𝓤 H A at-mem run) → Walks 𝓤 H A f.ended stayed (WpFn 𝓤 H C Λ code.function) (f.clauses 𝓤 H A at-mem run)
+  walks C Λ fm known-lent-look-over known-turns-stands-by known-lent-seeking-turns-for known-machine-begin known-lent-seeking-run-host known-lent-seeking-tell-by = walked 𝓤 H A f.ended stayed (f.clauses 𝓤 H A at-mem run) (WpFn 𝓤 H C Λ code.function) (λ κs. (slice-vals, (slice-vals, (slice-vals, (slice-vals, tt))))) (λ κs. (mut-slice-tells (named 0) (κs .0) Chip-row.the-row, (mut-slice-tells (named 1) (κs .1 .0) u64, (mut-slice-tells (named 2) (κs .1 .1 .0) u8, (mut-slice-tells (named 3) (κs .1 .1 .1 .0) u8, tt)))))
+      (λ κs qs bounds a _ are. via 𝓤 _ (fst∗ 𝓤 _ (emp 𝓤)) (walk 𝓤 H A W at-mem run (κs .0) (qs .0) (κs .1 .0) (qs .1 .0) (κs .1 .1 .0) (qs .1 .1 .0) (κs .1 .1 .1 .0) (qs .1 .1 .1 .0) (a .0 .ptr .0) (a .0 .ptr .1) (a .0 .name) (a .0 .now) (are .0 .0 .1) (a .1 .0 .ptr .0) (a .1 .0 .ptr .1) (a .1 .0 .name) (a .1 .0 .now) (are .1 .0 .0 .1) (a .1 .1 .0 .ptr .0) (a .1 .1 .0 .ptr .1) (a .1 .1 .0 .name) (a .1 .1 .0 .now) (are .1 .1 .0 .0 .1) (a .1 .1 .1 .0 .ptr .0) (a .1 .1 .1 .0 .ptr .1) (a .1 .1 .1 .0 .name) (a .1 .1 .1 .0 .now) (are .1 .1 .1 .0 .0 .1) C Λ fm known-lent-look-over known-turns-stands-by known-lent-seeking-turns-for known-machine-begin known-lent-seeking-run-host known-lent-seeking-tell-by))
 
-  meets : (𝓣 : Tables 𝓤 H) → Triple 𝓤 (𝓣 .C #lent-look-over) (lent-look-over-says 𝓤 H A at-mem run) → Triple 𝓤 (𝓣 .C #lent-turns-stands-by) (lent-turns-stands-by-says 𝓤 H A at-mem run) → Triple 𝓤 (𝓣 .C #lent-seeking-turns-for) (lent-seeking-turns-for-says 𝓤 H A at-mem run) → Triple 𝓤 (𝓣 .C #machine-begin) (machine-begin-says 𝓤 H A at-mem run) → Triple 𝓤 (𝓣 .C #lent-seeking-run-host) (lent-seeking-run-host-says 𝓤 H A at-mem run) → Triple 𝓤 (𝓣 .C #lent-seeking-tell-by) (lent-seeking-tell-by-says 𝓤 H A at-mem run) → Meets 𝓤 H A f.signature (WpFn 𝓤 H (𝓣 .C) (𝓣 .Λ) code.function) (f.spec 𝓤 H A at-mem run)
-  meets 𝓣 known-lent-look-over known-lent-turns-stands-by known-lent-seeking-turns-for known-machine-begin known-lent-seeking-run-host known-lent-seeking-tell-by = walk-meets 𝓤 H A f.ended stayed W (goes-slice 𝓤 H A W 4 0 tt (plain (λ _. Chip-row.the-row)), (goes-slice 𝓤 H A W 4 1 tt (plain (λ _. u64)), (goes-slice 𝓤 H A W 4 2 tt (plain (λ _. u8)), (goes-slice 𝓤 H A W 4 3 tt (plain (λ _. u8)), tt)))) (f.clauses 𝓤 H A at-mem run)
-      (WpFn 𝓤 H (𝓣 .C) (𝓣 .Λ) code.function) (WpFn-mono 𝓤 H (W .laws) 𝓣 code.function) (walks (𝓣 .C) (𝓣 .Λ) (fmOf 𝓤 H (W .laws) 𝓣) known-lent-look-over known-lent-turns-stands-by known-lent-seeking-turns-for known-machine-begin known-lent-seeking-run-host known-lent-seeking-tell-by)
+  meets : (𝓣 : Tables 𝓤 H) → Triple 𝓤 (𝓣 .C #lent-look-over) (lent-look-over-says 𝓤 H A at-mem run) → Triple 𝓤 (𝓣 .C #turns-stands-by) (turns-stands-by-says 𝓤 H A at-mem run) → Triple 𝓤 (𝓣 .C #lent-seeking-turns-for) (lent-seeking-turns-for-says 𝓤 H A at-mem run) → Triple 𝓤 (𝓣 .C #machine-begin) (machine-begin-says 𝓤 H A at-mem run) → Triple 𝓤 (𝓣 .C #lent-seeking-run-host) (lent-seeking-run-host-says 𝓤 H A at-mem run) → Triple 𝓤 (𝓣 .C #lent-seeking-tell-by) (lent-seeking-tell-by-says 𝓤 H A at-mem run) → Meets 𝓤 H A f.signature (WpFn 𝓤 H (𝓣 .C) (𝓣 .Λ) code.function) (f.spec 𝓤 H A at-mem run)
+  meets 𝓣 known-lent-look-over known-turns-stands-by known-lent-seeking-turns-for known-machine-begin known-lent-seeking-run-host known-lent-seeking-tell-by = walk-meets 𝓤 H A f.ended stayed W (goes-slice 𝓤 H A W 4 0 tt (plain (λ _. Chip-row.the-row)), (goes-slice 𝓤 H A W 4 1 tt (plain (λ _. u64)), (goes-slice 𝓤 H A W 4 2 tt (plain (λ _. u8)), (goes-slice 𝓤 H A W 4 3 tt (plain (λ _. u8)), tt)))) (f.clauses 𝓤 H A at-mem run)
+      (WpFn 𝓤 H (𝓣 .C) (𝓣 .Λ) code.function) (WpFn-mono 𝓤 H (W .laws) 𝓣 code.function) (walks (𝓣 .C) (𝓣 .Λ) (fmOf 𝓤 H (W .laws) 𝓣) known-lent-look-over known-turns-stands-by known-lent-seeking-turns-for known-machine-begin known-lent-seeking-run-host known-lent-seeking-tell-by)
 
 pub search-line-spec : {M : Type 1} → stated.statement M
 unfolding code.routine tablesOf
@@ -267,7 +267,7 @@ search-line-spec 𝓤 H 𝓜 𝓖 𝓡 =
     (tables 𝓤 H 𝓜 𝓡 code.env .C) (tables 𝓤 H 𝓜 𝓡 code.env .Λ) #search-line code.function (code.unfolded 𝓤 H 𝓜 𝓡)
     (meets 𝓤 H (𝓖 .A) (givenOf 𝓤 H 𝓜 𝓖) (𝓜 .mem) (𝓡 .run) (tablesOf 𝓤 H 𝓜 (tables 𝓤 H 𝓜 𝓡 code.env))
     (cited 𝓤 H (lent-look-over-says 𝓤 H (𝓖 .A) (𝓜 .mem) (𝓡 .run)) 𝓜 𝓡 code.env #lent-look-over lent-look-over-def.routine code.calls-lent·look-over (lent-look-over-thm.met 𝓤 H 𝓜 𝓖 𝓡))
-    (cited 𝓤 H (lent-turns-stands-by-says 𝓤 H (𝓖 .A) (𝓜 .mem) (𝓡 .run)) 𝓜 𝓡 code.env #lent-turns-stands-by lent-turns-stands-by-def.routine code.calls-lent·turns·stands-by (lent-turns-stands-by-thm.met 𝓤 H 𝓜 𝓖 𝓡))
+    (cited 𝓤 H (turns-stands-by-says 𝓤 H (𝓖 .A) (𝓜 .mem) (𝓡 .run)) 𝓜 𝓡 code.env #turns-stands-by turns-stands-by-def.routine code.calls-turns·stands-by (turns-stands-by-thm.met 𝓤 H 𝓜 𝓖 𝓡))
     (cited 𝓤 H (lent-seeking-turns-for-says 𝓤 H (𝓖 .A) (𝓜 .mem) (𝓡 .run)) 𝓜 𝓡 code.env #lent-seeking-turns-for lent-seeking-turns-for-def.routine code.calls-lent·seeking·turns-for (lent-seeking-turns-for-thm.met 𝓤 H 𝓜 𝓖 𝓡))
     (cited 𝓤 H (machine-begin-says 𝓤 H (𝓖 .A) (𝓜 .mem) (𝓡 .run)) 𝓜 𝓡 code.env #machine-begin machine-begin-def.routine code.calls-machine·begin (machine-begin-thm.met 𝓤 H 𝓜 𝓖 𝓡))
     (cited 𝓤 H (lent-seeking-run-host-says 𝓤 H (𝓖 .A) (𝓜 .mem) (𝓡 .run)) 𝓜 𝓡 code.env #lent-seeking-run-host lent-seeking-run-host-def.routine code.calls-lent·seeking·run-host (lent-seeking-run-host-thm.met 𝓤 H 𝓜 𝓖 𝓡))

@@ -1,0 +1,4 @@
+pub mod Agree
+pub mod Spots
+pub mod Turns
+pub mod Walk
