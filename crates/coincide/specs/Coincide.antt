@@ -6,11 +6,10 @@ use mathlib.Core.Path.{_≡_, refl, _∙_, ap, sym}
 use lib.Dec.{eqb}
 use lib.IntN.{ℤ}
 use Rattle.base.specs.Pick.{pick}
-use Rattle.chip.specs.Chip.{Whole, whole, takesOf, powerOnChip, powerOnPad}
+use Rattle.chip.specs.Chip.{Whole, whole, powerOnChip, powerOnPad}
 use Rattle.chip.specs.declared.Chip.{Chip}
 use Rattle.ds28ec20.specs.Image.{Bytes, bytes, done}
 use Rattle.scratchpad.specs.declared.Deed.{Deed}
-use Rattle.line.specs.Bridge.{actAt}
 use Rattle.line.specs.Layout.{Lent, lent}
 use Rattle.line.specs.Event.{Answered, bit, refused, answered, Outcome, outcome, eventOf}
 use Rattle.line.specs.declared.Event.{Event}
@@ -23,6 +22,8 @@ use Rattle.machine.specs.Machine.{Stand, stand, hearsOf, Tale, tale, tellsOf}
 use Rattle.machine.specs.declared.Machine.{Machine}
 use Rattle.search.specs.Search.{Searched, complete, refused as refusedBy, searched, completeOr4, Attached, attached, Search, outcome as found, searchOf}
 use Rattle.search.specs.declared.SearchAnswer.{SearchAnswer}
+use Rattle.turns.specs.Walk.{Turn, turned}
+use Rattle.turns.specs.declared.Spot.{Spot}
 use Rattle.toemsakun.specs.Library.{CardLeft, cardLeft, cardBytes, EventLeft, eventLeft, eventBytes, SearchLeft, searchLeft, searchBytes}
 use Rattle.search.specs.declared.SearchAnswer.the-variants as search
 
@@ -103,11 +104,11 @@ pub lent-set-up : (a a′ : CardAnswer) (ds ds′ : List Chip) (o : SetUp)
     → (carded a ≡ o .answer) × (ds ≡ o .table) → (carded a′ ≡ o .answer) × (ds′ ≡ o .table) → (a ≡ a′) × (ds ≡ ds′)
 lent-set-up a a′ ds ds′ o p q = (carded-once a a′ (one-answer (o .answer) _ _ (p .0) (q .0)), one-answer (o .table) _ _ (p .1) (q .1))
 
--- `line::act_at`: record, images and scratchpads
-pub act-at : (f : Whole → Whole) (c : Chip) (image pad : ℕ) (ms ss : List ℕ) (d d′ : Chip) (is is′ ps ps′ : List ℕ)
-    → whole d is ps ≡ actAt f c image pad ms ss → whole d′ is′ ps′ ≡ actAt f c image pad ms ss → (d ≡ d′) × (is ≡ is′) × (ps ≡ ps′)
-act-at f c image pad ms ss d d′ is is′ ps ps′ p q =
-    let r = one-answer (actAt f c image pad ms ss) _ _ p q in (ap (λ (o : Whole). o .chip) r, ap (λ (o : Whole). o .memory) r, ap (λ (o : Whole). o .pad) r)
+-- `turns::act_turn`: record, the next spot, images and scratchpads
+pub act-turn : (s : Turn) (c c′ : Chip) (p p′ : Spot) (is is′ ps ps′ : List ℕ) → turned c p is ps ≡ s → turned c′ p′ is′ ps′ ≡ s
+    → (c ≡ c′) × (p ≡ p′) × (is ≡ is′) × (ps ≡ ps′)
+act-turn s c c′ p p′ is is′ ps ps′ e f =
+    let r = one-answer s _ _ e f in (ap (λ (o : Turn). o .chip) r, ap (λ (o : Turn). o .spot) r, ap (λ (o : Turn). o .images) r, ap (λ (o : Turn). o .pads) r)
 
 -- `search::search_line`, and `lent::search_line` where the count is the number of places: answer, number of codes, list, counts, and the table with its buffers
 pub search-line : (list : List ℕ) (l : Attached) (a a′ : SearchAnswer) (n n′ : ℕ) (k k′ : List ℕ) (r r′ s s′ : ℕ) (t t′ : Attached)
@@ -176,10 +177,10 @@ tells m a a′ n n′ r r′ s s′ p q =
       ap (λ (o : Tale). o .slots) z,
     )
 
--- `chip::takes` and `lent::record::takes`: record, memory and scratchpad
-pub takes : (v : Bool) (w : Whole) (c c′ : Chip) (m m′ s s′ : List ℕ) → whole c m s ≡ takesOf v w → whole c′ m′ s′ ≡ takesOf v w → (c ≡ c′) × (m ≡ m′) × (s ≡ s′)
-takes v w c c′ m m′ s s′ p q =
-    let r = one-answer (takesOf v w) _ _ p q in (ap (λ (o : Whole). o .chip) r, ap (λ (o : Whole). o .memory) r, ap (λ (o : Whole). o .pad) r)
+-- record, memory and scratchpad: `chip::takes` and `lent::record::takes` by `takesOf`, `line::act_at` by `actAt`, `turns::deed_at` by `deedAt`
+pub takes : (w : Whole) (c c′ : Chip) (m m′ s s′ : List ℕ) → whole c m s ≡ w → whole c′ m′ s′ ≡ w → (c ≡ c′) × (m ≡ m′) × (s ≡ s′)
+takes w c c′ m m′ s s′ p q =
+    let r = one-answer w _ _ p q in (ap (λ (o : Whole). o .chip) r, ap (λ (o : Whole). o .memory) r, ap (λ (o : Whole). o .pad) r)
 
 -- `ds28ec20::carry_out`: memory and scratchpad
 pub carry-out : (m s : List ℕ) (d : Deed) (x x′ y y′ : List ℕ) → bytes x y ≡ done m s d → bytes x′ y′ ≡ done m s d → (x ≡ x′) × (y ≡ y′)

@@ -36,6 +36,14 @@ use Rattle.rom.specs.Rom.{commandBit, commandOf, matchBit, readBit, romInRange,
 use Rattle.search.specs.Host.{heard}
 use Rattle.scratchpad.specs.Registers.{powerOnRegisters, ruleOfByte}
 use Rattle.scratchpad.specs.Scratchpad.{addressAtHand, inPage, memoryFunction, memoryInRange, memoryReset, memorySends, memoryTakes, offsetAtHand, registersInRange, step}
+use Rattle.base.specs.Pick.{pick}
+use Rattle.line.specs.declared.Event.{Event}
+use Rattle.line.specs.declared.Standing.{Standing}
+use Rattle.turns.specs.Walk.{firstSpot, spotAfter, firstLook, lookAt, firstSum, sumAt, standsBy, planLevels, planNumber, planBy, planOf, hostBit, deedOf, answerOf}
+use Rattle.turns.specs.declared.Look.{Look}
+use Rattle.turns.specs.declared.Plan.{Plan}
+use Rattle.turns.specs.declared.Spot.{Spot}
+use Rattle.turns.specs.declared.Sum.{Sum}
 use Rattle.toemsakun.specs.Library.{imagesBytes, padsBytes, tableSize}
 use Rattle.terminal.specs.Words.{isRefused, wordOf}
 use Rattle.scratchpad.specs.declared.Deed.the-variants.{Nothing}
@@ -322,6 +330,56 @@ line-pads-asked n cs = one-answer (padsAsked n cs)
 
 pub line-bit-at : (c : Chip) (image pad : ℕ) (ms ss : List ℕ) → Settled (bitAt c image pad ms ss)
 line-bit-at c image pad ms ss = one-answer (bitAt c image pad ms ss)
+
+-- turns
+
+pub turns-first-spot : Settled firstSpot
+turns-first-spot = one-answer firstSpot
+
+pub turns-spot-after : (p : Spot) (kind : ℕ) → Settled (spotAfter kind p)
+turns-spot-after p kind = one-answer (spotAfter kind p)
+
+pub turns-first-look : Settled firstLook
+turns-first-look = one-answer firstLook
+
+pub turns-kind-seen : (named : Bool) (kind before : ℕ) → Settled (pick named kind before)
+turns-kind-seen named kind before = one-answer (pick named kind before)
+
+pub turns-look-at : (c : Chip) (l : Look) (chip : ℕ) → Settled (lookAt chip c l)
+turns-look-at c l chip = one-answer (lookAt chip c l)
+
+pub turns-first-sum : (host : Bool) → Settled (firstSum host)
+turns-first-sum host = one-answer (firstSum host)
+
+pub turns-sum-at : (c : Chip) (s : Sum) (ms ss : List ℕ) → Settled (sumAt c s ms ss)
+turns-sum-at c s ms ss = one-answer (sumAt c s ms ss)
+
+pub turns-levels-if : (named : Bool) (c : Chip) (levels : ℕ) → Settled (pick named (levelsChip levels c) c)
+turns-levels-if named c levels = one-answer (pick named (levelsChip levels c) c)
+
+pub turns-stands-by : (l : Look) (n images pads : ℕ) → Settled (standsBy l n images pads)
+turns-stands-by l n images pads = one-answer (standsBy l n images pads)
+
+pub turns-plan-levels : (kind n : ℕ) (e : Event) → Settled (planLevels kind n e)
+turns-plan-levels kind n e = one-answer (planLevels kind n e)
+
+pub turns-plan-number : (kind n : ℕ) (e : Event) → Settled (planNumber kind n e)
+turns-plan-number kind n e = one-answer (planNumber kind n e)
+
+pub turns-plan-by : (stands : Standing) (kind n : ℕ) (e : Event) → Settled (planBy stands kind n e)
+turns-plan-by stands kind n e = one-answer (planBy stands kind n e)
+
+pub turns-plan-of : (l : Look) (n : ℕ) (e : Event) (images pads : ℕ) → Settled (planOf l n e images pads)
+turns-plan-of l n e images pads = one-answer (planOf l n e images pads)
+
+pub turns-host-bit : (plan : Plan) → Settled (hostBit plan)
+turns-host-bit plan = one-answer (hostBit plan)
+
+pub turns-deed-of : (plan : Plan) (value : Bool) → Settled (deedOf plan value)
+turns-deed-of plan value = one-answer (deedOf plan value)
+
+pub turns-answer-of : (plan : Plan) (value : Bool) (n : ℕ) → Settled (answerOf plan value n)
+turns-answer-of plan value n = one-answer (answerOf plan value n)
 
 -- lent; `lent::record::sends`, `reset` and `set_levels` have the contracts of the functions of their names in chip
 
