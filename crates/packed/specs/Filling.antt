@@ -1,27 +1,26 @@
 -- Laws: the loops over the records of a table, a turn and the end of each.
-use Prim.Native.Nat.{ℕ, zero, suc, _+_, _-_, _*_, _/_, _<_, _≤_}
+use Prim.Native.Nat.{ℕ, suc, _+_, _-_, _*_, _/_, _<_, _≤_}
 use native.Mathlib.Omega.{arith}
-use native.Mathlib.Nat.{add-sub-cancel-left}
 use native.Mathlib.Numerals.{add-one}
 use mathlib.Core.Bool.{Bool, true, false, true≢false}
 use mathlib.Core.List.{List, [], _∷_, _++_, append-assoc, append-nil}
 use mathlib.Core.Path.{_≡_, refl, _∙_, ap, sym}
 use lib.Dec.{eqb, leb}
-use lib.ListN.{length, take, drop, getD, set, take-append-drop, length-append, length-drop, length-set, drop-of-length-le}
+use lib.ListN.{length, take, drop, getD, set, take-append-drop, length-drop, length-set, drop-of-length-le}
 use lib.Seq.{take-suc-set, take-suc, take-at, drop-at, drop-set-lt, drop-drop, length-take-le}
 use borrow.Author.Tests.{eq-eqb, ne-eqb, le-leb, lt-leb}
 use Rattle.base.specs.Pick.{pick, pick-true, pick-false}
 use Rattle.base.specs.Bits.{both}
-use Rattle.base.specs.Both.{both-assoc, both-true}
+use Rattle.base.specs.Both.{both-assoc}
 use Rattle.chip.specs.declared.Chip.{Chip}
 use Rattle.line.specs.Event.{noChip}
 use Rattle.line.specs.declared.Table.{Table}
 use Rattle.packed.specs.Packed.{packed, unpacked, sameBytes, packedTable, unpackedFrom, unpackedTable, isTable, putRecord, tableFrom, putTable}
 use Rattle.packed.specs.Laws.{packed-length, table-length, from-length}
-use Rattle.packed.specs.Loops.{same-other, true-both}
+use Rattle.packed.specs.Loops.{true-both}
 
 -- two runs, each of two parts of the same lengths
-same-append : (xs xs′ ys ys′ : List ℕ) → length xs ≡ length ys → sameBytes (xs ++ xs′) (ys ++ ys′) ≡ both (sameBytes xs ys) (sameBytes xs′ ys′)
+pub same-append : (xs xs′ ys ys′ : List ℕ) → length xs ≡ length ys → sameBytes (xs ++ xs′) (ys ++ ys′) ≡ both (sameBytes xs ys) (sameBytes xs′ ys′)
 unfolding sameBytes
 same-append [] xs′ [] ys′ l = sym (true-both (sameBytes xs′ ys′))
 same-append [] xs′ (y ∷ ys) ys′ l = absurd (omega arith)
@@ -101,15 +100,21 @@ rest-none k bs h = go (drop k bs) (length-drop k bs)
     go [] e = sym (eq-eqb (length bs) k (omega arith))
     go (y ∷ ys) e = sym (ne-eqb (length bs) k (λ (q : length bs ≡ k). omega arith))
 
+-- the bytes are a table, as a loop over its records found
+pub table-judged : (bs : List ℕ) (n : ℕ) (ok w : Bool) → n ≡ length bs / 24
+    → both ok (sameBytes [] (drop (n * 24) bs)) ≡ sameBytes (packedTable (unpackedFrom n bs)) bs → w ≡ both ok (eqb (length bs) (n * 24)) → w ≡ isTable bs
+unfolding isTable unpackedTable
+table-judged bs n ok w q j e =
+    e ∙ ap (both ok) (sym (rest-none (n * 24) bs (omega arith))) ∙ j ∙ ap (λ (k : ℕ). sameBytes (packedTable (unpackedFrom k bs)) bs) q
+
 -- the table that a loop left, where the bytes were one
 pub table-found : (bs : List ℕ) (t r : Table) (n : ℕ) (ok w : Bool) → n ≡ length bs / 24 → n ≤ 16 → r .n ≡ n → r .chips ≡ unpackedFrom n bs ++ drop n (t .chips)
     → both ok (sameBytes [] (drop (n * 24) bs)) ≡ sameBytes (packedTable (unpackedFrom n bs)) bs → w ≡ both ok (eqb (length bs) (n * 24))
     → pick w r t ≡ tableFrom bs t
-unfolding tableFrom isTable unpackedTable
+unfolding tableFrom unpackedTable
 table-found bs t r n ok w q few rn rc j e =
     let cs = unpackedFrom (length bs / 24) bs in
-    let judged : w ≡ sameBytes (packedTable cs) bs
-    = e ∙ ap (both ok) (sym (rest-none (n * 24) bs (omega arith))) ∙ j ∙ ap (λ (k : ℕ). sameBytes (packedTable (unpackedFrom k bs)) bs) q in
+    let judged : w ≡ isTable bs = table-judged bs n ok w q j e in
     let long : length cs ≡ length bs / 24 = from-length (length bs / 24) bs in
     let chips : r .chips ≡ cs ++ drop (length cs) (t .chips)
     = rc ∙ (λ i. unpackedFrom (q i) bs ++ drop (q i) (t .chips)) ∙ ap (λ (k : ℕ). cs ++ drop k (t .chips)) (sym long) in
@@ -121,7 +126,7 @@ unfolding tableFrom
 table-long bs t h = sym (pick-false (leb (length bs / 24) 16) _ _ (lt-leb (length bs / 24) 16 h))
 
 -- records after records
-table-append : (cs ds : List Chip) → packedTable (cs ++ ds) ≡ packedTable cs ++ packedTable ds
+pub table-append : (cs ds : List Chip) → packedTable (cs ++ ds) ≡ packedTable cs ++ packedTable ds
 table-append [] ds = refl
 table-append (c ∷ cs) ds = ap (λ (k : List ℕ). packed c ++ k) (table-append cs ds) ∙ sym (append-assoc (packed c) (packedTable cs) (packedTable ds))
 

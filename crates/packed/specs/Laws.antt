@@ -1,18 +1,18 @@
 -- Laws: bytes are a record, or a table, of a chip, or of chips, exactly where packing gives them.
 use Prim.Native.Nat.{ℕ, zero, suc, _+_, _*_, _/_, _%_}
 use native.Mathlib.Omega.{arith}
-use mathlib.Core.Bool.{Bool, true, false, true≢false}
-use mathlib.Core.List.{List, [], _∷_, _++_}
+use mathlib.Core.Bool.{true, false, true≢false}
+use mathlib.Core.List.{List, [], _∷_}
 use mathlib.Core.Path.{_≡_, refl, _∙_, ap, sym}
 use lib.Dec.{eqb}
-use lib.ListN.{length, take, drop, getD, length-append}
+use lib.ListN.{length, drop, length-append}
 use lib.Seq.{take-at, drop-at}
 use borrow.Author.Tests.{eqb-true, eq-eqb}
 use Rattle.base.specs.Pick.{pick}
 use Rattle.base.specs.Bits.{both}
 use Rattle.base.specs.Both.{both-holds}
 use Rattle.chip.specs.declared.Chip.{Chip}
-use Rattle.packed.specs.Step.{flag, flag-back, step, levelPacked, levelUnpacked, level-back}
+use Rattle.packed.specs.Step.{flag-back, step, levelPacked, levelUnpacked, level-back}
 use Rattle.packed.specs.Packed.{packed, unpacked, sameBytes, isRecord, packedTable, unpackedFrom, unpackedTable, isTable}
 
 -- a number is found again from its bytes

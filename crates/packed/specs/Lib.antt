@@ -3,3 +3,4 @@ pub mod Packed
 pub mod Laws
 pub mod Loops
 pub mod Filling
+pub mod Places

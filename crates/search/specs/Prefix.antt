@@ -8,9 +8,9 @@ use lib.ListN.{length}
 use Rattle.base.specs.Pick.{pick}
 use Rattle.chip.specs.declared.Chip.{Chip}
 use Rattle.line.specs.Event.{Outcome, tableInRange, sizesFit}
-use Rattle.line.specs.Prefix.{pick-of, range-rest, sizes-rest, event-rest, Holds, event-holds}
+use Rattle.line.specs.Prefix.{pick-of, range-rest, sizes-rest, event-rest, event-holds}
 use Rattle.line.specs.declared.Event.{Event}
-use Rattle.search.specs.Host.{Host, done, ask, Played, played, Listed, more, resetsOf, slotsOf, play, searchHost}
+use Rattle.search.specs.Host.{Host, done, ask, Played, played, more, resetsOf, slotsOf, play, searchHost}
 use Rattle.search.specs.Search.{refused, Attached, attached, leftBy, saysOf, leavesOf, wire, Search, outcome, fromPlayed, searchOf}
 
 -- the same table with the places Z after its own, and what was played or searched on it

@@ -1,23 +1,22 @@
 -- Laws: a card gives at most as many chips as there are places, and a search lists at most 16 codes.
 use Prim.Native.Nat.{ℕ, zero, suc, _+_, _-_, _≤_}
 use native.Mathlib.Omega.{arith}
-use native.Mathlib.Numerals.{add-one}
 use mathlib.Core.Bool.{Bool, true, false}
 use mathlib.Core.List.{List, [], _∷_, _++_}
-use mathlib.Core.Path.{_≡_, refl, _∙_, ap, sym, subst}
+use mathlib.Core.Path.{_≡_, refl, sym, subst}
 use lib.Dec.{eqb, ltb}
 use lib.ListN.{length, length-append}
 use borrow.Author.Tests.{ltb-true, ltb-false}
 use Rattle.base.specs.Pick.{pick}
 use Rattle.chip.specs.declared.Chip.{Chip}
-use Rattle.line.specs.Event.{Answered, tableInRange, sizesFit}
+use Rattle.line.specs.Event.{tableInRange, sizesFit}
 use Rattle.line.specs.Layout.{capped}
-use Rattle.card.specs.Card.{Read, all, none, after, onward, readFrom, entryAt, setUpOf, fromRead}
+use Rattle.card.specs.Card.{Read, all, none, after, onward, readFrom, entryAt}
 use Rattle.card.specs.declared.Entry.{Entry}
 use Rattle.card.specs.declared.Entry.the-variants as entry
 use Rattle.search.specs.Host.{Host, done, bind, Played, Listed, listed, End, write, pass, heard, play, passes, goOn, searchHost, upTo, resetEvent}
 use Rattle.search.specs.Counts.{play-bind}
-use Rattle.search.specs.Search.{Attached, saysOf, leavesOf, wire, Search, searchOf, fromPlayed, outcome, refused}
+use Rattle.search.specs.Search.{Attached, saysOf, leavesOf, wire, searchOf, fromPlayed, outcome, refused}
 
 pub capped-few : (n : ℕ) → (capped n ≤ 16) × (capped n ≤ n)
 unfolding capped pick

@@ -2,28 +2,27 @@
 use Prim.Native.Nat.{ℕ, _+_, _*_, _/_, _<_, _≤_}
 use native.Mathlib.Omega.{arith}
 use mathlib.Core.Bool.{Bool, true, false}
-use mathlib.Core.List.{List, [], _∷_, _++_, append-nil}
+use mathlib.Core.List.{List, [], _++_, append-nil}
 use mathlib.Core.Path.{_≡_, refl, _∙_, ap, sym}
 use lib.Dec.{leb}
 use lib.IntN.{ℤ, pos}
-use lib.ListN.{length, take, drop, replicate, drop-of-length-le}
+use lib.ListN.{length, drop, replicate, drop-of-length-le}
 use lib.Seq.{take-at}
 use borrow.Author.Tests.{leb-true, leb-false, le-leb, lt-leb}
 use Rattle.base.specs.Pick.{pick, pick-true, pick-false}
 use Rattle.chip.specs.Chip.{setUpChip}
 use Rattle.chip.specs.declared.Chip.{Chip}
 use Rattle.line.specs.Layout.{capped, imagesAsked, padsAsked, lent}
-use Rattle.line.specs.Event.{Answered, refused, tableInRange, Outcome, outcome, eventOf}
-use Rattle.line.specs.Prefix.{withRest, images-rest, pads-rest, event-rest, event-holds}
-use Rattle.line.specs.declared.Event.{Event}
+use Rattle.line.specs.Event.{refused, tableInRange}
+use Rattle.line.specs.Prefix.{images-rest, pads-rest}
 use Rattle.line.specs.declared.Table.{Table}
-use Rattle.card.specs.Card.{Carded, chips, refused as refusedAt, Read, all, none, readFrom, SetUp, setUp, fromRead, setUpOf}
+use Rattle.card.specs.Card.{Carded, chips, Read, all, none, readFrom, SetUp, setUp, fromRead, setUpOf}
 use Rattle.search.specs.Search.{Searched, refused as refusedBy, Attached, attached, Search, outcome as found, searchOf}
-use Rattle.search.specs.Prefix.{searchRest, Has, search-rest, search-has}
+use Rattle.search.specs.Prefix.{Has, search-rest, search-has}
 use Rattle.packed.specs.Packed.{packedTable, unpackedTable, isTable, tableFrom, putTable}
 use Rattle.packed.specs.Laws.{table-is, table-length, from-length}
 use Rattle.packed.specs.Filling.{putting-many}
-use Rattle.toemsakun.specs.Library.{minus, imagesBytes, padsBytes, CardLeft, cardLeft, cardFrom, cardBytes, EventLeft, eventLeft, answerNumber, packedOutcome, eventBytes, SearchLeft, searchLeft, searchNumber, packedSearch, searchBytes}
+use Rattle.toemsakun.specs.Library.{minus, imagesBytes, padsBytes, cardLeft, cardFrom, cardBytes, SearchLeft, searchLeft, searchNumber, packedSearch, searchBytes}
 use Rattle.toemsakun.specs.Answers.{cardNumber, cardOffset}
 use Rattle.toemsakun.specs.Few.{capped-few, AtMost, read-few, search-few}
 
@@ -31,10 +30,6 @@ use Rattle.toemsakun.specs.Few.{capped-few, AtMost, read-few, search-few
 many-range : (n : ℕ) (cs : List Chip) → 16 < n → tableInRange n cs ≡ false
 unfolding tableInRange
 many-range n cs h = pick-false (leb n 16) _ _ (lt-leb n 16 h)
-
-many-event : (n : ℕ) (cs : List Chip) (e : Event) (ms ss : List ℕ) → 16 < n → eventOf n cs e ms ss ≡ outcome (refused 8) n (lent cs ms ss)
-unfolding eventOf
-many-event n cs e ms ss h = pick-false (tableInRange n cs) _ _ (many-range n cs h)
 
 many-search : (list : List ℕ) (n : ℕ) (cs : List Chip) (ms ss : List ℕ) → 16 < n → searchOf list (attached n cs ms ss) ≡ found (refusedBy 8) 0 list 0 0 (attached n cs ms ss)
 unfolding searchOf
@@ -112,35 +107,7 @@ module _ (bs : List ℕ) (u : Table) (u-is : u ≡ tableFrom bs noTable) where
   all-bytes : isTable bs ≡ true → length bs ≡ length (unpackedTable bs) * 24
   all-bytes q = let k = table-length (unpackedTable bs) in let e = ap (λ (l : List ℕ). length l) (table-is bs q) in omega arith
 
-  -- what an event leaves, put back over the bytes
-  abbrev putOutcome : Outcome → EventLeft
-  putOutcome o = eventLeft (answerNumber (o .answer)) (putTable (o .count) (o .lent .chips) bs) (o .lent .images) (o .lent .pads)
-
-  event-found : (e : Event) (ms ss : List ℕ) → putOutcome (eventOf (u .n) (u .chips) e ms ss) ≡ eventBytes bs e ms ss
-  unfolding eventBytes
-  event-found e ms ss =
-      by-table (λ n cs. putOutcome (eventOf n cs e ms ss)) (λ cs. packedOutcome (eventOf (length cs) cs e ms ss)) (eventLeft (minus 8) bs ms ss)
-      (λ Z q l. rest Z q l)
-      (λ n cs l. ap (λ (o : Outcome). putOutcome o) (many-event n cs e ms ss l) ∙ ap (λ (k : List ℕ). eventLeft (minus 8) k ms ss) (sym (putting-many n cs bs l)))
-      (λ q l. ap (λ (o : Outcome). packedOutcome o) (many-event (length (unpackedTable bs)) (unpackedTable bs) e ms ss l) ∙ ap (λ (k : List ℕ). eventLeft (minus 8) k ms ss) (table-is bs q))
-    where
-      rest : (Z : List Chip) → isTable bs ≡ true → length (unpackedTable bs) ≤ 16
-          → putOutcome (eventOf (length (unpackedTable bs)) (unpackedTable bs ++ Z) e ms ss) ≡ packedOutcome (eventOf (length (unpackedTable bs)) (unpackedTable bs) e ms ss)
-      rest Z q l =
-          let n = length (unpackedTable bs) in
-          let o = eventOf n (unpackedTable bs) e ms ss in
-          let h = event-holds n (unpackedTable bs) e ms ss (omega arith) in
-          ap (λ (k : Outcome). putOutcome k) (event-rest n (unpackedTable bs) Z (omega arith) e ms ss)
-          ∙ ap (λ (k : List ℕ). eventLeft (answerNumber (o .answer)) k (o .lent .images) (o .lent .pads))
-          (ap (λ (k : ℕ). putTable k (o .lent .chips ++ Z) bs) (h .chips) ∙ put-all n (o .lent .chips) Z bs (h .places) l (all-bytes q))
-
-  -- the event on the table, its answer as a number, and its table put back
-  pub event-done : (e : Event) (ms ss : List ℕ) (a : Answered) (n : ℕ) (cs : List Chip) (is ps x : List ℕ) (z : ℤ)
-      → outcome a n (lent cs is ps) ≡ eventOf (u .n) (u .chips) e ms ss → x ≡ putTable n cs bs → z ≡ answerNumber a → eventLeft z x is ps ≡ eventBytes bs e ms ss
-  event-done e ms ss a n cs is ps x z h p q =
-      (λ j. eventLeft (q j) (p j) is ps) ∙ ap (λ (o : Outcome). putOutcome o) h ∙ event-found e ms ss
-
-  -- the same of a search
+  -- what a search leaves, put back over the bytes
   abbrev putSearch : Search → SearchLeft
   putSearch s =
       searchLeft (searchNumber (s .number) (s .answer)) (s .list) (putTable (s .line .count) (s .line .lent .chips) bs)

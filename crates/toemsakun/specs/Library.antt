@@ -1,12 +1,10 @@
 -- include/toemsakun.h: each call over a table that is lent as bytes, for every input. What a call answers and leaves is what the
 -- plain form answers and leaves on the chips that the bytes stand for, packed again; bytes that are no table are refused by 8.
 use Prim.Native.Nat.{ℕ, _*_, _/_}
-use mathlib.Core.Bool.{Bool}
 use mathlib.Core.List.{List, _++_}
 use lib.IntN.{ℤ, pos, negℤ}
 use lib.ListN.{length, drop}
 use Rattle.base.specs.Pick.{pick}
-use Rattle.chip.specs.declared.Chip.{Chip}
 use Rattle.line.specs.Layout.{capped, imagesAsked, padsAsked}
 use Rattle.line.specs.Event.{Answered, bit, refused, Outcome, eventOf}
 use Rattle.line.specs.declared.Event.{Event}

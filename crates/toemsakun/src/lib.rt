@@ -1,5 +1,7 @@
 // The line as a library for C: include/toemsakun.h has the promises.
 mod answers;
+mod event;
+mod loops;
 
 use line::Event;
 use line::Table;
@@ -9,6 +11,14 @@ ghost use Rattle.chip.specs.Chip.{setUpChip};
 ghost use Rattle.packed.specs.Packed.{tableFrom};
 ghost use Rattle.toemsakun.specs.Laws.{noTable};
 ghost use Rattle.toemsakun.specs.Library.{tableSize, imagesBytes, padsBytes, cardLeft, cardBytes, eventWith, eventLeft, eventBytes, searchLeft, searchBytes};
+
+// What the records of a table come to: whether they are records, whether they are in range, and the sizes that they ask.
+pub struct Judged {
+    pub ok: bool,
+    pub range: bool,
+    pub images: usize,
+    pub pads: usize,
+}
 
 // A table for chips to be put in, with n for their number.
 fn blank(n: usize) -> Table
@@ -83,16 +93,12 @@ pub extern "C" fn tk_event(
     ensures { λ r. ⌜ eventLeft r (now (table .exit)) (now (images .exit)) (now (pads .exit))
         ≡ eventBytes (now (table .entry)) (eventWith event chip levels) (now (images .entry)) (now (pads .entry)) ⌝ }
 {
-    let t = unpack(table);
     let e = Event {
         number: event,
         chip: chip,
         levels: levels,
     };
-    let h = line::take_event(t, e, images, pads);
-    let answer = h.answer;
-    let after = h.table;
-    packed::put_table(table, after);
+    let answer = event::take_event(table, e, images, pads);
     answers::of_event(answer)
 }
 

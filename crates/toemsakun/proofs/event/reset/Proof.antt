@@ -1,0 +1,32 @@
+use mathlib.Core.Path.{refl}
+use denote.Ref.{now}
+use Rattle.toemsakun.specs.Happening.{reset-left}
+use borrow.Author.Needs.{needs}
+use Rattle.toemsakun.proofs.event.reset.Statement.{statement}
+use Rattle.toemsakun.proofs.event.reset.Tie as tie
+use Rattle.toemsakun.proofs.event.reset.Reads as reads
+use Rattle.toemsakun.proofs.event.reset.Lts as lts
+use Rattle.toemsakun.proofs.loops.all_act.Reads as all-act-reads
+
+-- src/event.rt:69:5
+all-act-requires : tie.Need-all-act-requires
+all-act-requires c κs = search needs
+
+-- src/event.rt:61:1
+same-length : tie.Need-same-length
+same-length c = search needs
+
+-- src/event.rt:61:1
+same-length-2 : tie.Need-same-length-2
+same-length-2 c = search needs
+
+-- src/event.rt:61:1
+same-length-3 : tie.Need-same-length-3
+same-length-3 c = search needs
+
+-- src/event.rt:61:1
+returns : tie.Need-returns
+returns c = let s = c .before .before .before .before .before .before .before .before .before .before .before .before .before in let a = c .before .before .before .before .before .before .all-act in reset-left (now (s .args .table)) (s .args .e) (now (s .args .ms)) (now (s .args .ss)) (s .pre .0) (s .pre .1 .0) _ _ _ (a .ensures .0) _ (s .pre .1 .1) refl (a .ensures .1)
+
+pub reset-spec : {M : Type 1} → statement M
+reset-spec = tie.close (tie.spec all-act-requires same-length same-length-2 same-length-3 returns)
