@@ -1,19 +1,19 @@
 -- Laws: what the code cites of bytes that are compared and put, a turn and the end of each loop.
-use Prim.Native.Nat.{ℕ, suc, _+_, _<_, _≤_}
+use Prim.Native.Nat.{ℕ, zero, suc, _+_, _<_, _≤_}
 use native.Mathlib.Omega.{arith}
 use native.Mathlib.Numerals.{add-one}
 use mathlib.Core.Bool.{Bool, true, false}
 use mathlib.Core.List.{List, [], _∷_, _++_}
 use mathlib.Core.Path.{_≡_, refl, _∙_, ap, sym}
 use lib.Dec.{eqb, leb}
-use lib.ListN.{length, take, drop, getD, drop-of-length-le}
-use lib.Seq.{drop-cons, take-length}
+use lib.ListN.{length, take, drop, getD, replicate, drop-of-length-le}
+use lib.Seq.{drop-cons, take-length, getD-drop}
 use borrow.Author.Tests.{le-leb, lt-leb}
 use Rattle.base.specs.Pick.{pick, pick-true, pick-false}
 use Rattle.base.specs.Bits.{both}
 use Rattle.base.specs.Both.{both-assoc, both-true}
 use Rattle.chip.specs.declared.Chip.{Chip}
-use Rattle.packed.specs.Packed.{packed, sameBytes, putRecord}
+use Rattle.packed.specs.Packed.{packed, unpacked, sameBytes, putRecord}
 use Rattle.packed.specs.Laws.{packed-length}
 
 both-false : (a : Bool) → both a false ≡ false
@@ -63,3 +63,25 @@ record-put c r s x e h k =
 pub record-left : (c : Chip) (s : List ℕ) → length s < 24 → s ≡ putRecord c s
 unfolding putRecord
 record-left c s h = sym (pick-false (leb 24 (length s)) (packed c ++ drop 24 s) s (lt-leb 24 (length s) h))
+
+-- bytes with zeros after them stand for the same chip
+abbrev pub zerosOf : ℕ → List ℕ
+zerosOf n = replicate n 0
+
+zeros : (n j : ℕ) → getD (zerosOf n) j 0 ≡ 0
+zeros zero j = refl
+zeros (suc n) zero = refl
+zeros (suc n) (suc j) = zeros n j
+
+zeros-after : (s zs : List ℕ) → ((k : ℕ) → getD zs k 0 ≡ 0) → (k : ℕ) → getD (s ++ zs) k 0 ≡ getD s k 0
+zeros-after [] zs h k = h k
+zeros-after (x ∷ s) zs h zero = refl
+zeros-after (x ∷ s) zs h (suc k) = zeros-after s zs h k
+
+pub zeros-unpacked : (s x : List ℕ) → x ≡ take (length s) s ++ drop (length s) (zerosOf 24) → unpacked x ≡ unpacked s
+unfolding unpacked
+zeros-unpacked s x e =
+    let zs = drop (length s) (zerosOf 24) in
+    let g : (k : ℕ) → getD (s ++ zs) k 0 ≡ getD s k 0 = zeros-after s zs (λ k. getD-drop (length s) (zerosOf 24) k 0 ∙ zeros 24 (length s + k)) in
+    let f : x ≡ s ++ zs = e ∙ ap (λ (l : List ℕ). l ++ zs) (take-length s) in
+    ap (λ (l : List ℕ). unpacked l) f ∙ (simp g)

@@ -5,7 +5,8 @@ use chip::Chip;
 use ds2413::Switch;
 use scratchpad::Registers;
 ghost use mathlib.Core.Path.{_≡_};
-ghost use Prim.Native.Nat.{_+_, _*_};
+ghost use Prim.Native.Nat.{_+_, _*_, _<_, _≤_};
+ghost use lib.ListN.{length, getD};
 ghost use Rattle.packed.specs.Packed.{numberAt, stepAt, packedWith, packed, unpacked, sameBytes, isRecord, putRecord};
 
 // The bytes of a chip's record, by the step that its level is.
@@ -67,18 +68,27 @@ fn pair(low: u8, high: u8) -> u16
     (low as u16) + 256 * (high as u16)
 }
 
+// The byte at a place.
+fn byte(s: &[u8], k: usize) -> u8
+    requires { ⌜ k < length (now s) ⌝ }
+    ensures { λ r. ⌜ r ≡ getD (now (s .entry)) k 0 ⌝ }
+{
+    s[k]
+}
+
 // The code that a record begins with.
 fn code_of(s: &[u8]) -> u64
+    requires { ⌜ 24 ≤ length (now s) ⌝ }
     ensures { λ r. ⌜ r ≡ numberAt (now (s .entry)) 0 7 ⌝ }
 {
-    let b0 = base::byte_at(s, 0);
-    let b1 = base::byte_at(s, 1);
-    let b2 = base::byte_at(s, 2);
-    let b3 = base::byte_at(s, 3);
-    let b4 = base::byte_at(s, 4);
-    let b5 = base::byte_at(s, 5);
-    let b6 = base::byte_at(s, 6);
-    let b7 = base::byte_at(s, 7);
+    let b0 = byte(s, 0);
+    let b1 = byte(s, 1);
+    let b2 = byte(s, 2);
+    let b3 = byte(s, 3);
+    let b4 = byte(s, 4);
+    let b5 = byte(s, 5);
+    let b6 = byte(s, 6);
+    let b7 = byte(s, 7);
     let top = (b6 as u64) + 256 * (b7 as u64);
     let upper = (b4 as u64) + 256 * ((b5 as u64) + 256 * top);
     let lower = (b2 as u64) + 256 * ((b3 as u64) + 256 * upper);
@@ -87,21 +97,40 @@ fn code_of(s: &[u8]) -> u64
 
 // The step that a record names.
 fn step_of(s: &[u8]) -> Step
+    requires { ⌜ 24 ≤ length (now s) ⌝ }
     ensures { λ r. ⌜ r ≡ stepAt (now (s .entry)) ⌝ }
 {
-    let low = base::byte_at(s, 16);
-    let high = base::byte_at(s, 17);
-    let w = pair(low, high);
-    let number = base::byte_at(s, 15);
-    let a = base::byte_at(s, 18);
-    let b = base::byte_at(s, 19);
-    let c = base::byte_at(s, 20);
+    let w = pair(s[16], s[17]);
     Step {
-        number: number,
+        number: s[15],
         w: w,
-        a: a,
-        b: b,
-        c: c,
+        a: s[18],
+        b: s[19],
+        c: s[20],
+    }
+}
+
+// The chip that 24 bytes stand for.
+fn unpack_whole(s: &[u8]) -> Chip
+    requires { ⌜ 24 ≤ length (now s) ⌝ }
+    ensures { λ r. ⌜ r ≡ unpacked (now (s .entry)) ⌝ }
+{
+    let code = code_of(s);
+    let t = pair(s[10], s[11]);
+    let step = step_of(s);
+    let level = level::unpack_level(step);
+    let registers = Registers { t: t, es: s[12] };
+    let switch = Switch {
+        latches: s[13],
+        levels: s[14],
+    };
+    Chip {
+        code: code,
+        kind: s[8],
+        rc: s[9] == 1,
+        level: level,
+        registers: registers,
+        switch: switch,
     }
 }
 
@@ -109,30 +138,12 @@ fn step_of(s: &[u8]) -> Step
 pub fn unpack(s: &[u8]) -> Chip
     ensures { λ r. ⌜ r ≡ unpacked (now (s .entry)) ⌝ }
 {
-    let code = code_of(s);
-    let kind = base::byte_at(s, 8);
-    let rc = base::byte_at(s, 9);
-    let low = base::byte_at(s, 10);
-    let high = base::byte_at(s, 11);
-    let t = pair(low, high);
-    let es = base::byte_at(s, 12);
-    let latches = base::byte_at(s, 13);
-    let levels = base::byte_at(s, 14);
-    let step = step_of(s);
-    let level = level::unpack_level(step);
-    let registers = Registers { t: t, es: es };
-    let switch = Switch {
-        latches: latches,
-        levels: levels,
-    };
-    Chip {
-        code: code,
-        kind: kind,
-        rc: rc == 1,
-        level: level,
-        registers: registers,
-        switch: switch,
+    if 24 <= s.len() {
+        return unpack_whole(s);
     }
+    let mut whole = [0; 24];
+    bytes::copy(s, &mut whole);
+    unpack_whole(&whole)
 }
 
 // Two runs of bytes are the same.

@@ -1,40 +1,40 @@
+use Rattle.packed.specs.Packed.{stepAt}
 use borrow.Author.Needs.{needs}
 use Rattle.packed.proofs.record.step_of.Statement.{statement}
 use Rattle.packed.proofs.record.step_of.Tie as tie
 use Rattle.packed.proofs.record.step_of.Reads as reads
 use Rattle.packed.proofs.record.step_of.Lts as lts
-use Rattle.base.proofs.byte_at.Reads as byte-at-reads
 use Rattle.packed.proofs.record.pair.Reads as pair-reads
 
--- src/record.rt:92:9
-byte-at-requires : tie.Need-byte-at-requires
-byte-at-requires c κs = search needs
+-- src/record.rt:87:18
+shared-slice-read-pair : tie.Need-shared-slice-read-pair
+shared-slice-read-pair c = search needs
 
--- src/record.rt:93:9
-byte-at-requires-2 : tie.Need-byte-at-requires-2
-byte-at-requires-2 c κs = search needs
+-- src/record.rt:87:25
+shared-slice-read-pair-2 : tie.Need-shared-slice-read-pair-2
+shared-slice-read-pair-2 c = search needs
 
--- src/record.rt:94:9
+-- src/record.rt:87:9
 pair-requires : tie.Need-pair-requires
 pair-requires c κs = search needs
 
--- src/record.rt:95:9
-byte-at-requires-3 : tie.Need-byte-at-requires-3
-byte-at-requires-3 c κs = search needs
+-- src/record.rt:89:17
+shared-slice-read-t4 : tie.Need-shared-slice-read-t4
+shared-slice-read-t4 c = search needs
 
--- src/record.rt:96:9
-byte-at-requires-4 : tie.Need-byte-at-requires-4
-byte-at-requires-4 c κs = search needs
+-- src/record.rt:91:12
+shared-slice-read-t6 : tie.Need-shared-slice-read-t6
+shared-slice-read-t6 c = search needs
 
--- src/record.rt:97:9
-byte-at-requires-5 : tie.Need-byte-at-requires-5
-byte-at-requires-5 c κs = search needs
+-- src/record.rt:92:12
+shared-slice-read-t10 : tie.Need-shared-slice-read-t10
+shared-slice-read-t10 c = search needs
 
--- src/record.rt:98:9
-byte-at-requires-6 : tie.Need-byte-at-requires-6
-byte-at-requires-6 c κs = search needs
+-- src/record.rt:93:12
+shared-slice-read-t12 : tie.Need-shared-slice-read-t12
+shared-slice-read-t12 c = search needs
 
--- src/record.rt:89:1
+-- src/record.rt:83:1
 returns : tie.Need-returns
 returns c = cc
 
@@ -42,11 +42,11 @@ pub step-of-spec : {M : Type 1} → statement M
 step-of-spec =
     tie.close
     (tie.spec
-    byte-at-requires
-    byte-at-requires-2
+    shared-slice-read-pair
+    shared-slice-read-pair-2
     pair-requires
-    byte-at-requires-3
-    byte-at-requires-4
-    byte-at-requires-5
-    byte-at-requires-6
+    shared-slice-read-t4
+    shared-slice-read-t6
+    shared-slice-read-t10
+    shared-slice-read-t12
     returns)
