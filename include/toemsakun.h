@@ -95,7 +95,9 @@ extern "C" {
  *     35  DS2413        PIO Access Write, AAh: a place (0 to 7)
  *     36  DS2413        PIO Access Write, the status: a place (0 to 7), b the sampled status
  *
- * A register that is filled bit by bit is filled from the top: each bit comes in above and shifts the others down.
+ * A register that is filled bit by bit starts at 0 and is filled from the top: each bit comes in above and shifts the
+ * others down. "CRC-16 so far" is that of the command, of what followed it, and of the data bytes before offset a.
+ * E/S bit 6, latches and outside levels are judged in a record of either kind.
  *
  * Firmware need not know this: tk_card writes records and the other calls keep them. A table is refused by
  * TK_OUT_OF_RANGE where its size is no multiple of TK_RECORD_SIZE, it has over 16 records, a byte that must be 0 is not,
@@ -105,7 +107,11 @@ extern "C" {
 /* The bytes of a table of so many chips; more than TK_MOST_CHIPS count as TK_MOST_CHIPS. */
 size_t tk_table_size(size_t chips);
 
-/* The bytes of images, and of scratchpads, to lend with a table; 0 for bytes that are no records, or over 16. */
+/*
+ * The bytes of images, and of scratchpads, to lend with a table; 0 where it has over 16 records, or bytes that are no
+ * records. Bytes are records where their number is a multiple of TK_RECORD_SIZE, each byte that must be 0 is, each step
+ * is in the table above, and RC and the a of step 24 are 0 or 1. Ranges do not matter here.
+ */
 size_t tk_images_size(const uint8_t *table, size_t table_size);
 size_t tk_pads_size(const uint8_t *table, size_t table_size);
 
