@@ -20,7 +20,7 @@ use Rattle.packed.specs.Laws.{packed-length, table-length, from-length}
 use Rattle.packed.specs.Loops.{true-both}
 
 -- two runs, each of two parts of the same lengths
-pub same-append : (xs xs′ ys ys′ : List ℕ) → length xs ≡ length ys → sameBytes (xs ++ xs′) (ys ++ ys′) ≡ both (sameBytes xs ys) (sameBytes xs′ ys′)
+same-append : (xs xs′ ys ys′ : List ℕ) → length xs ≡ length ys → sameBytes (xs ++ xs′) (ys ++ ys′) ≡ both (sameBytes xs ys) (sameBytes xs′ ys′)
 unfolding sameBytes
 same-append [] xs′ [] ys′ l = sym (true-both (sameBytes xs′ ys′))
 same-append [] xs′ (y ∷ ys) ys′ l = absurd (omega arith)
@@ -28,6 +28,32 @@ same-append (x ∷ xs) xs′ [] ys′ l = absurd (omega arith)
 same-append (x ∷ xs) xs′ (y ∷ ys) ys′ l =
     ap (both (eqb x y)) (same-append xs xs′ ys ys′ (omega arith))
     ∙ sym (both-assoc (eqb x y) (sameBytes xs ys) (sameBytes xs′ ys′))
+
+-- one record of n, at place i: the chip that it stands for, and whether it is that chip's record
+module _ (n : ℕ) (bs : List ℕ) (i : ℕ) (c : Chip) (good : Bool) (h : i < n) (room : n * 24 ≤ length bs) (e : c ≡ unpacked (take (i * 24 + 24 - i * 24) (drop (i * 24) bs)))
+    (f : good ≡ sameBytes (packed c) (take (i * 24 + 24 - i * 24) (drop (i * 24) bs))) where
+  rest : drop 24 (drop (i * 24) bs) ≡ drop ((i + 1) * 24) bs
+  rest = let a : i * 24 + 24 ≡ (i + 1) * 24 = omega arith in drop-drop 24 (i * 24) bs ∙ ap (λ (x : ℕ). drop x bs) a
+
+  width : i * 24 + 24 - i * 24 ≡ 24
+  width = omega arith
+
+  pub one-chip : unpackedFrom (n - i) (drop (i * 24) bs) ≡ c ∷ unpackedFrom (n - (i + 1)) (drop ((i + 1) * 24) bs)
+  one-chip =
+      let m : n - i ≡ suc (n - (i + 1)) = omega arith in
+      let c-is : unpacked (take 24 (drop (i * 24) bs)) ≡ c = sym (rw width at e) in
+      ap (λ (x : ℕ). unpackedFrom x (drop (i * 24) bs)) m ∙ (λ j. c-is j ∷ unpackedFrom (n - (i + 1)) (rest j))
+
+  pub one-judged : sameBytes (packedTable (unpackedFrom (n - i) (drop (i * 24) bs))) (drop (i * 24) bs)
+      ≡ both good (sameBytes (packedTable (unpackedFrom (n - (i + 1)) (drop ((i + 1) * 24) bs))) (drop ((i + 1) * 24) bs))
+  one-judged =
+      let D = drop (i * 24) bs in
+      let U = unpackedFrom (n - (i + 1)) (drop ((i + 1) * 24) bs) in
+      let l : length (take 24 D) ≡ 24 = length-take-le 24 D (simp length-drop (omega arith)) in
+      let good-is : sameBytes (packed c) (take 24 D) ≡ good = sym (rw width at f) in
+      (λ j. sameBytes (packedTable (one-chip j)) (sym (take-append-drop 24 D) j))
+      ∙ same-append (packed c) (packedTable U) (take 24 D) (drop 24 D) (packed-length c ∙ sym l)
+      ∙ (λ j. both (good-is j) (sameBytes (packedTable U) (rest j)))
 
 -- where the loop that unpacks a table stands after i records
 pub record Filling (n : ℕ) (bs : List ℕ) (cs₀ cs : List Chip) (i : ℕ) (ok : Bool) : Type 0 where
@@ -48,23 +74,10 @@ module _ (n : ℕ) (bs : List ℕ) (cs₀ cs : List Chip) (i : ℕ) (ok : Bool) 
   pub filling-next : (c : Chip) (good w : Bool) → i < n → c ≡ unpacked (take (i * 24 + 24 - i * 24) (drop (i * 24) bs))
       → good ≡ sameBytes (packed c) (take (i * 24 + 24 - i * 24) (drop (i * 24) bs)) → w ≡ both ok good → Filling n bs cs₀ (set cs i c) (i + 1) w
   filling-next c good w h e f k =
-      let D = drop (i * 24) bs in
       let D′ = drop ((i + 1) * 24) bs in
       let U′ = unpackedFrom (n - (i + 1)) D′ in
-      let room = g .room in
-      let m : n - i ≡ suc (n - (i + 1)) = omega arith in
-      let z : i * 24 + 24 - i * 24 ≡ 24 = omega arith in
-      let a : (i + 1) * 24 ≡ i * 24 + 24 = omega arith in
-      let c-is : c ≡ unpacked (take 24 D) = rw z at e in
-      let good-is : good ≡ sameBytes (packed c) (take 24 D) = rw z at f in
-      let rest : drop 24 D ≡ D′ = drop-drop 24 (i * 24) bs ∙ ap (λ (x : ℕ). drop x bs) (sym a) in
-      let one : unpackedFrom (n - i) D ≡ c ∷ U′
-      = ap (λ (x : ℕ). unpackedFrom x D) m ∙ (λ j. sym c-is j ∷ unpackedFrom (n - (i + 1)) (rest j)) in
-      let l : length (take 24 D) ≡ 24 = length-take-le 24 D (simp length-drop (omega arith)) in
-      let same : sameBytes (packedTable (unpackedFrom (n - i) D)) D ≡ both good (sameBytes (packedTable U′) D′)
-      = (λ j. sameBytes (packedTable (one j)) (sym (take-append-drop 24 D) j))
-      ∙ same-append (packed c) (packedTable U′) (take 24 D) (drop 24 D) (packed-length c ∙ sym l)
-      ∙ (λ j. both (sym good-is j) (sameBytes (packedTable U′) (rest j))) in
+      let one = one-chip n bs i c good h (g .room) e f in
+      let same = one-judged n bs i c good h (g .room) e f in
       let long = g .long in
       let few = g .few in
       record {
@@ -74,7 +87,7 @@ module _ (n : ℕ) (bs : List ℕ) (cs₀ cs : List Chip) (i : ℕ) (ok : Bool) 
             ∙ ap (both ok) (sym same) ∙ g .judged;
         within = omega arith;
         few = few;
-        room = room;
+        room = g .room;
         long = simp length-set long;
         stays = drop-set-lt (i + 1) cs i c (omega arith) ∙ sym (drop-drop 1 i cs) ∙ ap (drop 1) (g .stays) ∙ drop-drop 1 i cs₀;
       }

@@ -68,6 +68,15 @@ romUnpacked s =
     (pick (eqb (s .number) 3) (Match (s .a))
     (Search (s .a) (s .b))))
 
+unfoldable pub copyUnpacked : Step → MemoryPhase
+copyUnpacked s =
+    pick (eqb (s .number) 22) (CopyAddress (s .a) (s .w))
+    (pick (eqb (s .number) 23) (CopyEnd (s .w) (s .a) (s .b))
+    (pick (eqb (s .number) 24) (Copied (eqb (s .a) 1))
+    (pick (eqb (s .number) 25) (ReadAddress (s .a) (s .w))
+    (pick (eqb (s .number) 26) (ReadMemory (s .w) (s .a))
+    Ones))))
+
 unfoldable pub memoryUnpacked : Step → MemoryPhase
 memoryUnpacked s =
     pick (eqb (s .number) 17) (WriteAddress (s .a) (s .w))
@@ -75,12 +84,7 @@ memoryUnpacked s =
     (pick (eqb (s .number) 19) (SendCrc (s .a) (s .w))
     (pick (eqb (s .number) 20) (ReadRegisters (s .a))
     (pick (eqb (s .number) 21) (ReadPad (s .a) (s .b) (s .w))
-    (pick (eqb (s .number) 22) (CopyAddress (s .a) (s .w))
-    (pick (eqb (s .number) 23) (CopyEnd (s .w) (s .a) (s .b))
-    (pick (eqb (s .number) 24) (Copied (eqb (s .a) 1))
-    (pick (eqb (s .number) 25) (ReadAddress (s .a) (s .w))
-    (pick (eqb (s .number) 26) (ReadMemory (s .w) (s .a))
-    Ones)))))))))
+    (copyUnpacked s)))))
 
 unfoldable pub switchUnpacked : Step → SwitchPhase
 switchUnpacked s =
@@ -111,7 +115,7 @@ rom-back (Match place) = refl
 rom-back (Search place part) = refl
 
 memory-back : (p : MemoryPhase) → levelUnpacked (memoryPacked p) ≡ Memory p
-unfolding levelUnpacked memoryUnpacked pick
+unfolding levelUnpacked memoryUnpacked copyUnpacked pick
 memory-back Ones = refl
 memory-back (WriteAddress count bits) = refl
 memory-back (WriteData offset count bits crc) = refl

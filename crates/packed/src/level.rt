@@ -5,7 +5,7 @@ use ds2413::SwitchPhase;
 use rom::RomStep;
 use scratchpad::MemoryPhase;
 ghost use mathlib.Core.Path.{_≡_};
-ghost use Rattle.packed.specs.Step.{step, flag, romPacked, memoryPacked, switchPacked, levelPacked, romUnpacked, memoryUnpacked, switchUnpacked, levelUnpacked};
+ghost use Rattle.packed.specs.Step.{step, flag, romPacked, memoryPacked, switchPacked, levelPacked, romUnpacked, copyUnpacked, memoryUnpacked, switchUnpacked, levelUnpacked};
 
 // A step that is made of its parts.
 fn of(number: u8, w: u16, a: u8, b: u8, c: u8) -> Step
@@ -127,7 +127,43 @@ fn unpack_rom(s: Step) -> RomStep
     }
 }
 
-// What steps 17 to 26 stand for; any other is taken for 16.
+// What steps 22 to 26 stand for; any other is taken for 16.
+fn unpack_copy(s: Step) -> MemoryPhase
+    ensures { λ r. ⌜ r ≡ copyUnpacked s ⌝ }
+{
+    let number = s.number;
+    if number == 22 {
+        return MemoryPhase::CopyAddress {
+            count: s.a,
+            bits: s.w,
+        };
+    }
+    if number == 23 {
+        return MemoryPhase::CopyEnd {
+            address: s.w,
+            count: s.a,
+            bits: s.b,
+        };
+    }
+    if number == 24 {
+        return MemoryPhase::Copied { answer: s.a == 1 };
+    }
+    if number == 25 {
+        return MemoryPhase::ReadAddress {
+            count: s.a,
+            bits: s.w,
+        };
+    }
+    if number == 26 {
+        return MemoryPhase::ReadMemory {
+            address: s.w,
+            count: s.a,
+        };
+    }
+    MemoryPhase::Ones
+}
+
+// What steps 16 to 26 stand for; any other is taken for 16.
 fn unpack_memory(s: Step) -> MemoryPhase
     ensures { λ r. ⌜ r ≡ memoryUnpacked s ⌝ }
 {
@@ -162,35 +198,7 @@ fn unpack_memory(s: Step) -> MemoryPhase
             crc: s.w,
         };
     }
-    if number == 22 {
-        return MemoryPhase::CopyAddress {
-            count: s.a,
-            bits: s.w,
-        };
-    }
-    if number == 23 {
-        return MemoryPhase::CopyEnd {
-            address: s.w,
-            count: s.a,
-            bits: s.b,
-        };
-    }
-    if number == 24 {
-        return MemoryPhase::Copied { answer: s.a == 1 };
-    }
-    if number == 25 {
-        return MemoryPhase::ReadAddress {
-            count: s.a,
-            bits: s.w,
-        };
-    }
-    if number == 26 {
-        return MemoryPhase::ReadMemory {
-            address: s.w,
-            count: s.a,
-        };
-    }
-    MemoryPhase::Ones
+    unpack_copy(s)
 }
 
 // What steps 33 to 36 stand for; any other is taken for 32.

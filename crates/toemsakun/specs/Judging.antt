@@ -1,12 +1,12 @@
 -- Laws: how bytes and their buffers stand, as a loop over the records finds it.
-use Prim.Native.Nat.{ℕ, suc, _+_, _-_, _*_, _/_, _<_, _≤_}
+use Prim.Native.Nat.{ℕ, _+_, _-_, _*_, _/_, _<_, _≤_}
 use native.Mathlib.Omega.{arith}
 use mathlib.Core.Bool.{Bool, true, false}
-use mathlib.Core.List.{List, [], _∷_}
+use mathlib.Core.List.{List, []}
 use mathlib.Core.Path.{_≡_, refl, _∙_, ap, sym}
 use lib.Dec.{eqb, leb}
-use lib.ListN.{length, take, drop, length-drop, take-append-drop}
-use lib.Seq.{drop-drop, length-take-le, take-length}
+use lib.ListN.{length, take, drop}
+use lib.Seq.{take-length}
 use borrow.Author.Tests.{le-leb, lt-leb}
 use Rattle.base.specs.Pick.{pick, pick-true, pick-false}
 use Rattle.base.specs.Bits.{both}
@@ -20,9 +20,9 @@ use Rattle.line.specs.declared.Event.{Event}
 use Rattle.line.specs.declared.Standing.{Standing}
 use Rattle.line.specs.declared.Standing.the-variants as standing
 use Rattle.packed.specs.Packed.{packed, unpacked, sameBytes, packedTable, unpackedFrom, unpackedTable, isTable}
-use Rattle.packed.specs.Laws.{packed-length, from-length, table-is}
+use Rattle.packed.specs.Laws.{from-length, table-is}
 use Rattle.packed.specs.Loops.{true-both}
-use Rattle.packed.specs.Filling.{same-append, table-judged}
+use Rattle.packed.specs.Filling.{one-chip, one-judged, table-judged}
 use Rattle.packed.specs.Places.{Table16}
 use Rattle.toemsakun.specs.Library.{minus, eventLeft, packedOutcome, eventBytes}
 
@@ -63,23 +63,10 @@ module _ (n : ℕ) (bs : List ℕ) (i : ℕ) (ok range : Bool) (images pads : �
       → size ≡ imageSize (c .kind) → room ≡ padSize (c .kind) → size ≤ 2624 → room ≤ 32
       → Judging n bs (i + 1) w v (images + size) (pads + room)
   judging-next c good fits w v size room h e f k fi ve si ro sm rm =
-      let D = drop (i * 24) bs in
       let D′ = drop ((i + 1) * 24) bs in
       let U′ = chipsFrom n (i + 1) bs in
-      let space = g .room in
-      let m : n - i ≡ suc (n - (i + 1)) = omega arith in
-      let z : i * 24 + 24 - i * 24 ≡ 24 = omega arith in
-      let a : (i + 1) * 24 ≡ i * 24 + 24 = omega arith in
-      let c-is : c ≡ unpacked (take 24 D) = rw z at e in
-      let good-is : good ≡ sameBytes (packed c) (take 24 D) = rw z at f in
-      let rest : drop 24 D ≡ D′ = drop-drop 24 (i * 24) bs ∙ ap (λ (x : ℕ). drop x bs) (sym a) in
-      let one : chipsFrom n i bs ≡ c ∷ U′
-      = ap (λ (x : ℕ). unpackedFrom x D) m ∙ (λ j. sym c-is j ∷ unpackedFrom (n - (i + 1)) (rest j)) in
-      let l : length (take 24 D) ≡ 24 = length-take-le 24 D (simp length-drop (omega arith)) in
-      let same : sameBytes (packedTable (chipsFrom n i bs)) D ≡ both good (sameBytes (packedTable U′) D′)
-      = (λ j. sameBytes (packedTable (one j)) (sym (take-append-drop 24 D) j))
-      ∙ same-append (packed c) (packedTable U′) (take 24 D) (drop 24 D) (packed-length c ∙ sym l)
-      ∙ (λ j. both (sym good-is j) (sameBytes (packedTable U′) (rest j))) in
+      let one = one-chip n bs i c good h (g .room) e f in
+      let same = one-judged n bs i c good h (g .room) e f in
       let im : imagesSize (chipsFrom n i bs) ≡ imageSize (c .kind) + imagesSize U′ = ap (λ (x : List Chip). imagesSize x) one in
       let pm : padsSize (chipsFrom n i bs) ≡ padSize (c .kind) + padsSize U′ = ap (λ (x : List Chip). padsSize x) one in
       let gi = g .imaged in
@@ -95,7 +82,7 @@ module _ (n : ℕ) (bs : List ℕ) (i : ℕ) (ok range : Bool) (images pads : �
         padded = omega arith;
         within = omega arith;
         few = g .few;
-        room = space;
+        room = g .room;
         images-few = omega arith;
         pads-few = omega arith;
       }
