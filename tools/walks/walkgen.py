@@ -166,9 +166,6 @@ def proved(crate, c):
 def declared(crate, k):
     own = TYPES.get(k, crate)
     return (f'Rattle.{crate}.specs.declared.{k}', f'Rattle.{crate}.proofs.{k}') if own == crate else (f'Rattle.{own}.specs.declared.{k}', f'Rattle.{own}.proofs.{k}')
-def clauses(x): return [x] if isinstance(x, str) else list(x or [])
-def both(x): return f'({x[0]}) × ({both(x[1:])})' if len(x) > 1 else x[0] if x else None
-def flist(x): return '(' + ''.join(f'({c}) ∷ ' for c in x) + '[])'
 def dsh(c): return c.replace('::', '-').replace('_', '-')
 def full(crate, name): return name if '::' in name else f'{crate}::{name}'
 def p_k(p): return f'κ-{p["n"]}'
@@ -240,8 +237,8 @@ def generate(crate, repo, d, fns, mirs):
     body = seqs(m['body'])
     callees = []
     lp = d.get('loop'); bi = None
-    ea = lp or d.get('elem')          # how an element is reached: table, blank, and outside a loop index and inside
-    idx, small = ('i', 'small') if lp else (ea['index'], ea.get('inside', 'need')) if ea else (None, None)
+    size = None                       # of a record of the table, in bytes
+    idx, small = 'i', 'small'
     allst = list(body)
     for i, s in enumerate(body):
         if isinstance(s, list) and s[0] == 'block': bi = i; turn = seqs(s[1][1]); allst += turn
@@ -279,8 +276,6 @@ def generate(crate, repo, d, fns, mirs):
     for k in decl: o.append(f'use {declared(crate, k)[0]}.{{{k}}}')
     for u in d.get('uses', []): o.append(f'use {u}')
     if any(p['form'] in ('muts', 'shrs') for c in cal.values() for p in c.ps): o.append(f'use {C}·proofs.proofs.Again.{{LentAgain, lends-at, back-at, LentShared, lends-shared, shared-back}}')
-    if any(s[0] == 'assign' and s[2][0] == 'addrOf' and not lst(s[2][1][2]) for s in allst): o.append(f'use {C}·proofs.proofs.Made.{{cell-lies, lies-cell, array-lends, array-back}}')
-    if any(len(clauses(x.get(y))) > 1 for x in [d] + [fns[c] for c in callees] for y in ('requires', 'ensures')): o.append(f'use {C}·proofs.proofs.Facts.{{All, Facts, facts-out, facts-to, says-all}}')
     if lp: o.append(f'use {C}·proofs.proofs.Rows.{{holds, fails, walk-map, walk-map-is, walk-all, walk-all-is, fold, walk-fold, walk-fold-is}}')
     for k in decl:
         o.append(f'use {declared(crate, k)[1]} as {k}-row'); o.append(f'use {declared(crate, k)[1]}.Laws as {k}-laws')
@@ -293,7 +288,6 @@ def generate(crate, repo, d, fns, mirs):
     o.append(f'use {C}·proofs.proofs.{fn}.Statement as stated'); o.append(f'use {C}·proofs.proofs.{fn}.Code as code'); o.append(f'use {C}·proofs.proofs.{fn}.Code.Mir as mir')
     o.append('')
     counted = bool(lp) and 'count' in lp
-    if ea and not lp: o += ['-- numbers: the place of an element, in bytes', 'place-fits : (i n : ℕ) → i < n → n * SIZE < 2 ^ 63 → i * SIZE < 2 ^ 64', 'place-fits i n l m = omega (arith, l, m)', '']
     if lp:
         o += ['-- numbers: the next index, and whether i is the last', ''] if counted else ['-- numbers: the place of element i, in bytes, the next index, and whether i is the last', 'place-fits : (i n : ℕ) → i < n → n * SIZE < 2 ^ 63 → i * SIZE < 2 ^ 64', 'place-fits i n l m = omega (arith, l, m)', '']
         o += ['below : (i n : ℕ) → i < n → n < 2 ^ 64 → i < 2 ^ 64', 'below i n l m = omega (arith, l, m)', '', 'next-fits : (i n : ℕ) → i < n → n < 2 ^ 64 → i + 1 < 2 ^ 64', 'next-fits i n l m = omega (arith, l, m)', '', 'within : (i k n : ℕ) → i + suc k ≡ n → i < n', 'within i k n e = omega (arith, e)', '',
@@ -318,7 +312,7 @@ def generate(crate, repo, d, fns, mirs):
         if p['form'] == 'val': tele += f' ({n} : {k.D}) ({n}-is : Is {k.row} {n} ({k.vals} {n}))'
         elif p['form'] in ('mutr', 'shrr'): tele += f' ({n}-b {n}-o : ℕ) ({n}-γ : GName) ({n} : {k.D})'
         else: tele += f' ({n}-b {n}-o : ℕ) ({n}-γ : GName) ({n} : List {k.D}) ({n}-room : Room {k.row} (length {n}))'
-    reqs = clauses(d.get('requires')); req = both(reqs)
+    req = d.get('requires')
     if req: tele += f' (need : {req})'
     o.append(f'module _ {TOP} (W : Given 𝓤 H A) {MR}{tele} where')
     o.append(f'  abbrev Post : Val → SProp 𝓤')
@@ -326,7 +320,7 @@ def generate(crate, repo, d, fns, mirs):
     # ---- exits
     outs = [p for p in ps if p['form'] in ('mutr', 'muts')]
     ebind = f'(r : {g.res.D}) (r-is : Is {g.res.row} r ({g.res.vals} r))' + ''.join(f' ({p["n"]}′ : {p["k"].D if p["form"] == "mutr" else "List " + p["k"].D})' + (f' ({p["n"]}-len : length {p["n"]}′ ≡ length {p["n"]})' if p['form'] == 'muts' else '') for p in outs)
-    enss = clauses(d.get('ensures')); ens = both(enss)
+    ens = d.get('ensures')
     w = Walk()
     for p in lfts:
         n, R = p['n'], p['k'].row
@@ -338,9 +332,7 @@ def generate(crate, repo, d, fns, mirs):
         w.ctx += [ent(('lft', n), f'‵ (flft {p_k(p)} {p_q(p)})')]
     exit_ctx = [list(e) for e in w.ctx]
     w.step(f'suffices ! _ (ends-at 𝓤 H A f.ended stayed (f.clauses 𝓤 H A at-mem run) W {ghost} {g.res.val("r")} r {tup([(p["n"] + "′") if p in outs else "_" if p["form"] == "val" and (p["k"].name in decl or p["k"].name[0] == "[") else "tt" for p in ps])} {tup([(p["n"] + "-len") if p["form"] == "muts" else "tt" for p in ps])})')
-    if len(enss) > 1: w.step(f'says-all ! {flist(enss)} e')
-    elif ens: w.step('says ! e')
-    else: pass
+    if ens: w.step('says ! e')
     w.step('nothing !'); w.push(ent(('tok',), 'T'))
     for p in reversed(lfts):
         w.move(('lft', p['n']), ('tok',)); w.step('join !'); w.ctx.pop(0)
@@ -435,9 +427,9 @@ def generate(crate, repo, d, fns, mirs):
         n, k = p['n'], p['k']
         if n not in el:
             w.move(('row', n)); sh = 'fullShare' if p['form'] == 'muts' else f'z-{n}'
-            w.bind(f'elem-out ! {k.row} (Is {k.row}) (shows 𝓤 H A {k.row}) {k.vals} {k.tells} {sh} {tl_now(p)} {idx} {ea["blank"]} {n}-b {n}-o {inside(p)} (λ {n}-was.'); w.step('move ! (1 ∷ [])'); w.step('drop !')
+            w.bind(f'elem-out ! {k.row} (Is {k.row}) (shows 𝓤 H A {k.row}) {k.vals} {k.tells} {sh} {tl_now(p)} {idx} {lp["blank"]} {n}-b {n}-o {inside(p)} (λ {n}-was.'); w.step('move ! (1 ∷ [])'); w.step('drop !')
             w.ctx[0:1] = [ent(('ecell', n), ''), ent(('eothers', n), '')]
-            el[n] = (f'(getD {tl_now(p)} {idx} {ea["blank"]})', f'{n}-was', False)
+            el[n] = (f'(getD {tl_now(p)} {idx} {lp["blank"]})', f'{n}-was', False)
         return el[n][0], el[n][1]
     def tl_now(p): return sl[p['n']][0] if p['form'] == 'muts' else p['n']
     def inside(p):
@@ -453,7 +445,7 @@ def generate(crate, repo, d, fns, mirs):
             L, le = sl[n]
             w.step(f'elem-put ! {R} fullShare {L} {idx} {ee} ({k.vals} {ee}) {n}-b {n}-o {inside(p)}')
             sl[n] = (f'(set {L} {idx} {ee})', f'(length-set {L} {idx} {ee})' if le == 'refl' else f'(length-set {L} {idx} {ee} ∙ {le})')
-        else: w.step(f'elem-back ! {R} {"fullShare" if p["form"] == "muts" else "z-" + n} {tl_now(p)} {idx} {ea["blank"]} ({k.vals} {ee}) {n}-b {n}-o {inside(p)}')
+        else: w.step(f'elem-back ! {R} {"fullShare" if p["form"] == "muts" else "z-" + n} {tl_now(p)} {idx} {lp["blank"]} ({k.vals} {ee}) {n}-b {n}-o {inside(p)}')
         w.ctx[0:3] = [ent(('row', n), '')]
     def open_slice(p):
         tn, tk = p['n'], p['k']
@@ -482,8 +474,7 @@ def generate(crate, repo, d, fns, mirs):
         if v[0] == 'lit': return v[3]
         if v[0] == 'count': return f'(tt, record {{ fits = {v[1]["n"]}-room .0 }})'
         if v[0] == 'lent': return f'(tt, (tt, (record {{ fits = {v[1]["n"]}-room .0 }}, tt)))'
-        if v[0] == 'lslice': return '(tt, (tt, (record { fits = lit< tt }, tt)))'
-        if v[0] in ('ptr', 'rptr', 'lptr', 'unit'): return '(tt, tt)'
+        if v[0] in ('ptr', 'rptr', 'unit'): return '(tt, tt)'
         raise Exception(v)
     def mval(v):
         if v[0] == 'raw': return v[1]
@@ -492,8 +483,6 @@ def generate(crate, repo, d, fns, mirs):
         if v[0] == 'lit': return v[2]
         if v[0] == 'count': return f'(vint w64 (length {v[1]["n"]}))'
         if v[0] == 'lent': return g.mach(v[1])
-        if v[0] == 'lslice': return f'(sliceVal ({l(v[1])}, 0) {v[2]})'
-        if v[0] == 'lptr': return f'(vptr {l(v[1])} 0)'
         if v[0] in ('ptr', 'rptr'): return f'(vptr {v[1]["n"]}-b {v[1]["n"]}-o)'
         if v[0] == 'unit': return 'vunit'
     def write(j, v):
@@ -507,7 +496,7 @@ def generate(crate, repo, d, fns, mirs):
         return read(x[1])
     ncall = 0
     def run(stmts):
-        nonlocal ncall
+        nonlocal ncall, size
         for s in stmts:
             if s == 'return':
                 break
@@ -518,18 +507,17 @@ def generate(crate, repo, d, fns, mirs):
                     t, v = operand(rv[1]); t = f'(of-opd ! {t})'
                 elif rv[0] == 'addrOf':
                     q = rv[1]; js, ss = int(q[1]), lst(q[2]); p = val[js][1]
-                    if not ss: t = '(addr ! (from ! (stop !)))'; v = ('lptr', js)
-                    elif ss[0][0] == 'deref':
+                    if ss[0][0] == 'deref':
                         t = f'(addr ! (from ! (hop ! (look ! {w.at("L", js)} refl) (stop !))))'; v = ('rptr', p)
                     else: t = f'(addr ! (from ! (fld ! refl (hop ! (look-in ! {w.at("L", js)} (sub ! 0 refl (whole !))) (stop !)))))'; v = ('ptr', p)
                 elif rv[0] == 'aggregate':
                     xs = lst(rv[1]); ts = [operand(x) for x in xs]
-                    assert ts[0][1][0] in ('ptr', 'lptr'), 'only a slice is put together'
-                    t = '(agg ! ' + ''.join(f'(and-then ! {a[0]} ' for a in ts) + '(no-more !)' + ')' * len(ts) + ')'; v = ('lent', ts[0][1][1]) if ts[0][1][0] == 'ptr' else ('lslice', ts[0][1][1], lst(rv[1])[1][2])
+                    assert ts[0][1][0] == 'ptr', 'only a slice is put together'
+                    t = '(agg ! ' + ''.join(f'(and-then ! {a[0]} ' for a in ts) + '(no-more !)' + ')' * len(ts) + ')'; v = ('lent', ts[0][1][1])
                 elif rv[0] == 'op2':
                     op = rv[1] if isinstance(rv[1], str) else rv[1][0]
                     if op == 'mul':
-                        ta, va = operand(rv[2]); sz = rv[3][2]; ea['size'] = sz; tab = [p for p in ps if p['n'] == ea['table']][0]; n = tab['n']
+                        ta, va = operand(rv[2]); size = sz = rv[3][2]; n = lp['table']
                         fits = f'(record {{ fits = place-fits {idx} (length {n}) ({small}) ({n}-room .1) }})'
                         t = f'(bin ! {ta} (lit ! tt) {fits})'; v = ('raw', f'(vint w64 ({idx} * {sz}))', f'(tt, {fits})')
                     elif op == 'offset':
@@ -540,7 +528,7 @@ def generate(crate, repo, d, fns, mirs):
                 if not st:
                     w.step(f'assigns ! {t} {write(j, v)}')
                     if v[0] == 'eptr':
-                        n = v[1]['n']; w.step(f'rewrite ! {w.at("L", j)} (λ (z : ℕ). ‵ (fat fullShare tyPtr {l(j)} 0 (vptr {n}-b z))) (sym (place-is {ea["size"]} {n}-o {idx})) refl')
+                        n = v[1]['n']; w.step(f'rewrite ! {w.at("L", j)} (λ (z : ℕ). ‵ (fat fullShare tyPtr {l(j)} 0 (vptr {n}-b z))) (sym (place-is {size} {n}-o {idx})) refl')
                 elif val[j][0] == 'eptr':
                     p = val[j][1]; n = p['n']; elem_out(p); assert v[0] == 'val'
                     if rv[0] == 'rvOpd': t, v = operand(rv[1]); t = f'(of-opd ! {t})'
@@ -558,14 +546,6 @@ def generate(crate, repo, d, fns, mirs):
                 lent = []
                 for p, (t, v) in zip(cg.ps, ops):
                     if p['form'] == 'val': den.append(v[2] if v[0] == 'val' else v[2]); mac.append(f'({p["k"].vals} {v[2]})')
-                    elif p['form'] == 'muts' and v[0] == 'lslice':
-                        jl, cnt = v[1], v[2]; _, lk, le_, li_ = val[jl]; ν = f'ν-{jl}{sfx}'; δ = f'δ-{jl}{sfx}'
-                        den.append(f'(record {{ ptr = ({l(jl)}, 0); name = {δ}; now = {le_} }})'); mac.append(f'(sliceVal ({l(jl)}, 0) {cnt} ∷ [])'); kap.append(f'({ν} ∷ [])'); shr.append('fullShare')
-                        lent.append((dict(n=f'_{jl}', k=lk, local=jl, count=cnt), ν, δ, le_, li_, p))
-                    elif p['form'] == 'mutr' and v[0] == 'lptr':
-                        jl = v[1]; _, lk, le_, li_ = val[jl]; ν = f'ν-{jl}{sfx}'; δ = f'δ-{jl}{sfx}'
-                        den.append(f'(record {{ ptr = ({l(jl)}, 0); name = {δ}; now = {le_} }})'); mac.append(f'(vptr {l(jl)} 0 ∷ [])'); kap.append(f'({ν} ∷ [])'); shr.append('fullShare')
-                        lent.append((dict(n=f'_{jl}', k=lk, local=jl), ν, δ, le_, li_, p))
                     elif (p['form'], v[1]['form']) in (('shrs', 'shrs'), ('shrr', 'shrr')):
                         q = v[1]; den.append(g.ref(q)); mac.append(f'({g.mach(q)} ∷ [])'); kap.append(p_k(q)); shr.append(p_q(q))
                         cp = 'shr-slice-copy' if p['form'] == 'shrs' else 'shr-copy'
@@ -581,22 +561,6 @@ def generate(crate, repo, d, fns, mirs):
                 for q, ν, δ, e, le, p in lent:
                     n, R = q['n'], q['k'].row
                     if ν is None: continue
-                    if 'local' in q:
-                        jl = q['local']; lk = q['k']; mt = locs[jl]
-                        w.bind(f'lft-new ! tt (λ {ν}.'); w.push(ent(('lft', ν), '')); w.move(('L', jl))
-                        w.step(f'use1 W (‵ (cellAt fullShare ({R} .mir) ({lk.vals} {e}) {l(jl)} 0)) (W .laws .at-raw fullShare {mt} {l(jl)} 0 {lk.val(e)})')
-                        w.step(f'owned ! {R} (Is {R}) {lk.makes} {e} ({lk.vals} {e}) {le}'); w.step('move ! (1 ∷ 0 ∷ [])')
-                        w.step(f'use2 W (‵ (mem {R} .lies {e} {l(jl)} 0)) (cell-lies 𝓤 H A W {R} {e} ({lk.vals} {e}) {l(jl)} 0)')
-                        if 'count' in q:
-                            cnt, eR = q['count'], p['k'].row
-                            new = f'(MutSlice (named {p["lf"]}) ({ν} ∷ []) {eR} .own (record {{ ptr = ({l(jl)}, 0); name = {δ}; now = {e} }}) (sliceVal ({l(jl)}, 0) {cnt} ∷ []))'
-                            w.bind(f'use1 W (later (some (λ ({δ} : GName). ‵ {new} ⊛ ‵ (flent ({ν} ∷ []) (Held {eR} {cnt} {l(jl)} 0 {δ}))))) (array-lends 𝓤 H A W {eR} tt (named {p["lf"]}) ({ν} ∷ []) {cnt} {l(jl)} 0 {e} ({le} .1 .0 .1) (lit< tt, lit< tt)) $ await ! tt $ pick ! (λ {δ}. split ! $')
-                            w.ctx[0:1] = [ent(('lent', n), ''), ent(('kept', n), '')]
-                            continue
-                        new = f'(MutRef (named {p["lf"]}) ({ν} ∷ []) {R} .own (record {{ ptr = ({l(jl)}, 0); name = {δ}; now = {e} }}) (vptr {l(jl)} 0 ∷ []))'
-                        w.bind(f'use1 W (later (some (λ ({δ} : GName). ‵ {new} ⊛ ‵ (flent ({ν} ∷ []) (Body (mem {R}) {l(jl)} 0 {δ}))))) (lend.lends-ref 𝓤 H A W {R} (named {p["lf"]}) ({ν} ∷ []) {e} {l(jl)} 0) $ await ! tt $ pick ! (λ {δ}. split ! $')
-                        w.ctx[0:1] = [ent(('lent', n), ''), ent(('kept', n), '')]
-                        continue
                     if p['form'] == 'mutr':
                         w.bind(f'lft-new ! tt (λ {ν}.'); w.push(ent(('lft', ν), '')); w.move(('own', n), ('lft', n))
                         new = f'(MutRef (named {p["lf"]}) ({ν} ∷ []) {R} .own {g.ref(q, δ, e)} ({g.mach(q)} ∷ []))'
@@ -621,22 +585,18 @@ def generate(crate, repo, d, fns, mirs):
                 w.step('nothing !'); w.push(ent(('rest',), '‵ ftrue'))
                 for p, (t, v) in reversed(list(zip(cg.ps, ops))):
                     if p['form'] == 'val': w.step(f'owned ! {p["k"].row} (Is {p["k"].row}) {p["k"].makes} {v[2]} ({p["k"].vals} {v[2]}) {v[3]}')
-                    else: w.move(('lent', v[1]['n'] if v[0] not in ('lptr', 'lslice') else f'_{v[1]}'), ('rest',)); w.ctx.pop(0); w.ctx[0] = ent(('rest',), '')
+                    else: w.move(('lent', v[1]['n']), ('rest',)); w.ctx.pop(0); w.ctx[0] = ent(('rest',), '')
                     w.step('fjoin !')
                 w.step('nothing !'); w.push(ent(('tk',), ''))
                 for q, ν, *_ in reversed(lent):
                     w.move(('lft', ν or q['n']), ('tk',)); w.step('join !'); w.ctx.pop(0); w.ctx[0] = ent(('tk',), '')
                 w.move(('tk',), ('rest',)); w.step('join !'); w.ctx.pop(0); w.ctx[0] = ent(('pre',), '')
-                rsub = {}
-                for ii, (p, x) in enumerate(zip(cg.ps, den)):
-                    vv = ops[ii][1]
-                    rsub[p['n']] = x if p['form'] == 'val' else val[vv[1]][2] if vv[0] in ('lptr', 'lslice') else sl[vv[1]['n']][0]
-                says = [rename(x, rsub) for x in clauses(fns[c].get('requires'))]
+                says = fns[c].get('requires')
                 tkt = ' ⊛ '.join([f'‵ (flft ({ν} ∷ []) fullShare)' if ν else f'‵ (flft {p_k(q)} {p_q(q)})' for q, ν, *_ in lent] + ['‵ ftrue'])
                 crow = ''.join((p['k'].row if p['form'] == 'val' else f'{ROWS[p["form"]]} (named {p["lf"]}) {kap[p["lf"]]} {p["k"].row}') + ' ∷ ' for p in cg.ps) + '[]'
                 pre_in = f'(({tkt}) ⊛ ‵ (owns ({crow}) {args} {tup(mac)}))'
                 nd = d.get('needs', {}).get(c, 'need')
-                how = f'says-all ! {flist(says)} ({nd}) $ split ! $ frame ! $ done !' if len(says) > 1 else f'says ! ({nd}) $ split ! $ frame ! $ done !' if says else 'nothing ! $ move ! (1 ∷ 0 ∷ []) $ split ! $ join ! $ frame ! $ done !'
+                how = f'says ! ({nd}) $ split ! $ frame ! $ done !' if says else 'nothing ! $ move ! (1 ∷ 0 ∷ []) $ split ! $ join ! $ frame ! $ done !'
                 w.step(f'use1 W (raw ({dsh(c)}-says 𝓤 H A at-mem run .pre {gh})) (qed W ({pre_in} ∷ []) ∵ {how})')
                 ops = [operand(x) for x in lst(s[2])]
                 ot = ''.join(f'(and-then ! {t} ' for t, _ in ops) + '(no-more !)' + ')' * len(ops)
@@ -645,26 +605,25 @@ def generate(crate, repo, d, fns, mirs):
                 ensd = f"ensured 𝓤 H A {dsh(c)}′.ended ({dsh(c)}′.clauses 𝓤 H A at-mem run) {tup(kap)} {args} tt {r}"
                 w.bind(f'use1 W (later (some (λ ({r} : {cg.res.D}). (({tkt}) ⊛ ‵ ({cg.res.row} .own {r} ({W_} ∷ []))) ⊛ raw ({ensd})))) (id⊢ 𝓤 _) $ await ! tt $ pick ! (λ {r}. split ! $ move ! (1 ∷ []) $')
                 lasts = {i: f'({path(ws, i)})' for i, p in enumerate(cg.ps)}
-                cens = clauses(fns[c].get('ensures')); fact = both(cens)
+                fact = fns[c].get('ensures')
                 sub = {}
                 for i, (p, x) in enumerate(zip(cg.ps, den)):
-                    sub[p['n']] = x if p['form'] == 'val' else val[ops[i][1][1]][2] if ops[i][1][0] in ('lptr', 'lslice') else sl[ops[i][1][1]['n']][0]
+                    sub[p['n']] = x if p['form'] == 'val' else sl[ops[i][1][1]['n']][0]
                     sub[p['n'] + '′'] = lasts[i]
                 sub['r'] = r
                 ft = rename(fact, sub) if fact else 'Unit {0}'
                 lt = f"{dsh(c)}′.ended {tup(kap)} {args}"
-                w.bind(f"use1 W (some (λ ({ws} : Lasts {lt}). ‵ (lasts {lt} {ws}) ⊛ " + (f'raw (Facts 𝓤 {flist([rename(x, sub) for x in cens])})' if len(cens) > 1 else f'raw (fact 𝓤 ({ft}))' if fact else '‵ ftrue') + f')) (id⊢ 𝓤 _) $ pick ! (λ {ws}. split ! $ move ! (1 ∷ []) $')
+                w.bind(f"use1 W (some (λ ({ws} : Lasts {lt}). ‵ (lasts {lt} {ws}) ⊛ " + (f'raw (fact 𝓤 ({ft}))' if fact else '‵ ftrue') + f')) (id⊢ 𝓤 _) $ pick ! (λ {ws}. split ! $ move ! (1 ∷ []) $')
                 w.ctx[0:1] = [ent(('fact',), ''), ent(('lasts',), ''), ent(('res',), '')]
-                if len(cens) > 1: w.step(f'use1 W (raw (fact 𝓤 (All {flist([rename(x, sub) for x in cens])}))) (facts-to 𝓤 {flist([rename(x, sub) for x in cens])})')
                 if fact: w.bind(f'heard ! ({ft}) (λ {e}.'); w.ctx.pop(0)
                 else: w.drop()
                 for i, (p, (t, v)) in enumerate(zip(cg.ps, ops)):
                     w.step('fsplit !')
                     if p['form'] == 'muts':
-                        n = v[1]['n'] if v[0] != 'lslice' else f'_{v[1]}'; w.step('fsplit !'); w.step('move ! (1 ∷ [])'); w.bind(f'feqL ! (λ {n.replace("_", "l-")}-as-long{sfx}.')
+                        n = v[1]['n']; w.step('fsplit !'); w.step('move ! (1 ∷ [])'); w.bind(f'feqL ! (λ {n}-as-long{sfx}.')
                         w.ctx[0:1] = [ent(('fin', n), ''), ent(('lasts',), '')]; w.move(('lasts',))
                     elif p['form'] == 'mutr':
-                        n = v[1]['n'] if v[0] not in ('lptr', 'lslice') else f'_{v[1]}'; w.ctx[0:1] = [ent(('fin', n), ''), ent(('lasts',), '')]; w.move(('lasts',))
+                        n = v[1]['n']; w.ctx[0:1] = [ent(('fin', n), ''), ent(('lasts',), '')]; w.move(('lasts',))
                     else: w.step('drop !')
                 w.drop(); w.move(('res',)); w.step('split !'); w.ctx[0:1] = [ent(('tk',), ''), ent(('resown',), '')]
                 for q, ν, *_ in lent:
@@ -680,17 +639,6 @@ def generate(crate, repo, d, fns, mirs):
                 for q, ν, δ, e0, le, p in lent:
                     n, R = q['n'], q['k'].row
                     if ν is None: continue
-                    if 'local' in q:
-                        jl = q['local']; lk = q['k']; mt = locs[jl]
-                        ix = [i for i, (pp, (t, v)) in enumerate(zip(cg.ps, ops)) if pp is p][0]; z = lasts[ix]
-                        w.move(('lft', ν)); w.step('lft-end ! tt'); w.move(('lft', ν), ('kept', n), ('fin', n))
-                        if 'count' in q: w.step(f'use3 W (later (‵ (mem {R} .lies {z} {l(jl)} 0))) (array-back 𝓤 H A W {p["k"].row} tt (named {p["lf"]}) ({ν} ∷ []) {q["count"]} {l(jl)} 0 {δ} {z})'); w.step('await ! tt')
-                        else: w.step(f'use3 W (later (‵ (mem {R} .lies {z} {l(jl)} 0))) (lend.ref-back 𝓤 H A W {R} ({ν} ∷ []) {δ} {z} {l(jl)} 0)'); w.step('await ! tt')
-                        w.bind(f'use1 W (given (Is {R} {z} ({lk.vals} {z})) (‵ (cellAt fullShare ({R} .mir) ({lk.vals} {z}) {l(jl)} 0))) (lies-cell 𝓤 H A W {R} {lk.vals} {lk.tells} {z} {l(jl)} 0) $ learn ! (λ is-{jl}{sfx}.')
-                        w.step(f'use1 W (‵ (fat fullShare {mt} {l(jl)} 0 {lk.val(z)})) (W .laws .raw-at fullShare {mt} {l(jl)} 0 {lk.val(z)})')
-                        w.ctx[0:3] = [ent(('L', jl), f'‵ (fat fullShare {mt} {l(jl)} 0 {lk.val(z)})')]
-                        val[jl] = ('val', lk, z, f'is-{jl}{sfx}')
-                        continue
                     if p['form'] == 'shrs':
                         la = f'{R} {p_k(q)} ({ν} ∷ []) {p_q(q)} {n}-γ {n}-b {n}-o'
                         w.move(('lft', ν)); w.step('lft-end ! tt'); w.move(('lft', ν), ('kept', n))
@@ -742,9 +690,7 @@ def generate(crate, repo, d, fns, mirs):
         ex = ' '.join([f'{rr}', ri] + [x for p in outs for x in ([cur[p['n']][0]] if p['form'] == 'mutr' else [sl[p['n']][0], sl[p['n']][1]])] + ([f'({e_of})'] if ens else []))
         w.pieces.append(f'by ! (exits {ex})' + ')' * w.depth)
     if not lp:
-        if ea: open_slice([p for p in ps if p['n'] == ea['table']][0])
         run(body)
-        if ea: tab = [p for p in ps if p['n'] == ea['table']][0]; elem_in(tab); close_slice(tab)
         finish(d.get('proof', 'refl' if not callees else 'e'))
     else:
         if counted: tab, tn, tk, mutt, LEN, FITS, FIRST = None, None, None, False, lp['count'], f'({lp["count"]}-is .1)', 0
@@ -883,8 +829,7 @@ def generate(crate, repo, d, fns, mirs):
     if req:
         asub = {p['n']: f'({path("a", i)}{" .now" if p["form"] != "val" else ""})' for i, p in enumerate(ps)}
         rq = rename(req, asub)
-        if len(reqs) > 1: o.append(f'      (λ κs qs bounds a _ are. facts-out 𝓤 {flist([rename(x, asub) for x in reqs])} _ (λ need. {call}))')
-        else: o.append(f'      (λ κs qs bounds a _ are. needs 𝓤 ({rq}) _ (λ need. {call}))')
+        o.append(f'      (λ κs qs bounds a _ are. needs 𝓤 ({rq}) _ (λ need. {call}))')
     else: o.append(f'      (λ κs qs bounds a _ are. via 𝓤 _ (fst∗ 𝓤 _ (emp 𝓤)) ({call}))')
     o.append('')
     kt = ' '.join(f'Triple 𝓤 (𝓣 .C #{dsh(c)}) ({dsh(c)}-says 𝓤 H A at-mem run) →' for c in callees)
@@ -901,9 +846,9 @@ def generate(crate, repo, d, fns, mirs):
         o.append(f"    (cited 𝓤 H ({dsh(c)}-says 𝓤 H (𝓖 .A) (𝓜 .mem) (𝓡 .run)) 𝓜 𝓡 code.env #{dsh(c)} {dsh(c)}-def.routine code.calls-{c.replace('::', '·').replace('_', '-')} ({dsh(c)}-thm.met 𝓤 H 𝓜 𝓖 𝓡))")
     o[-1] += ')'
     txt = '\n'.join(o) + '\n'
-    if ea and 'size' in ea: txt = txt.replace('SIZE', str(ea['size']))
+    if size: txt = txt.replace('SIZE', size)
     # only the names that are used
-    body_txt = txt[txt.index('-- numbers' if ea else 'abbrev stayed'):]
+    body_txt = txt[txt.index('-- numbers' if lp else 'abbrev stayed'):]
     def prune(mt):
         ns = [x.strip() for x in mt.group(2).split(',')]
         keep = [x for x in ns if used(x.split(' as ')[-1], body_txt)]
