@@ -13,6 +13,7 @@ use Rattle.chip.specs.Chip.{setUpChip}
 use Rattle.chip.specs.declared.Chip.{Chip}
 use Rattle.line.specs.Event.{noChip}
 use Rattle.line.specs.Layout.{capped}
+use Rattle.line.specs.Prefix.{capped-few}
 use Rattle.card.specs.Card.{Carded, chips, refused, carded, cutEntry, wholeEntry, entryOf, entryAt, Read, all, none, after, onward, readFrom, SetUp, setUp, fromRead, setUpOf}
 use Rattle.card.specs.declared.CardAnswer.{CardAnswer}
 use Rattle.card.specs.declared.CardAnswer.the-variants.{Chips, TooMany, UnknownKind, WrongLength}
@@ -135,21 +136,12 @@ unfolding readFrom
 shown-read zero s at ds e = no-room s at ds (entryAt s at zero) e
 shown-read (suc room) s at ds e = shown-entry room s at ds (entryAt s at (suc room)) refl (shown-read room s) e
 
--- no more places are used than there are
-capped-fits : (places : ℕ) → capped places ≤ places
-unfolding capped pick
-capped-fits places = go (ltb places 16) refl
-  where
-    go : (b : Bool) → ltb places 16 ≡ b → pick b places 16 ≤ places
-    go true e = omega arith
-    go false e = let h = ltb-false places 16 e in omega arith
-
 -- a card gives no more chips than there are places
 pub read-fits : (s : List ℕ) (places : ℕ) (ds : List Chip) → readFrom (capped places) s 0 ≡ all ds → length ds ≤ places
 unfolding Shown
 read-fits s places ds e =
     let l = shown-read (capped places) s 0 ds e .0 in
-    let m = capped-fits places in
+    let m = capped-few places .1 in
     omega arith
 
 -- a card that is refused, and one that is not

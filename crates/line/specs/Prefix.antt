@@ -1,4 +1,4 @@
--- Laws: an event on a table goes by the places of its line alone, and leaves the places past them.
+-- Laws: an event on a table goes by the places of its line alone, and leaves the places past them; and how many places are used.
 use Prim.Native.Nat.{ℕ, zero, suc, _<_, _≤_}
 use native.Mathlib.Omega.{arith}
 use mathlib.Core.Bool.{Bool, true, false}
@@ -7,13 +7,13 @@ use mathlib.Core.Path.{_≡_, refl, _∙_, ap, sym}
 use lib.Dec.{eqb, ltb, leb}
 use lib.ListN.{length, take, drop, getD, length-append, length-drop, length-map, List·getD-append}
 use lib.Seq.{take-append-le, drop-append-le, length-take-le}
-use borrow.Author.Tests.{ltb-true}
+use borrow.Author.Tests.{ltb-true, ltb-false}
 use Rattle.base.specs.Pick.{pick}
 use Rattle.base.specs.Bits.{both}
 use Rattle.chip.specs.Chip.{Whole}
 use Rattle.chip.specs.declared.Chip.{Chip}
 use Rattle.line.specs.Line.{slotValue, levelsAt, actOf, busBit, lineAfter}
-use Rattle.line.specs.Layout.{imagesSize, padsSize, imagesAsked, padsAsked, split, chipsOf, imagesOf, padsOf, lent, lineOf, lentFrom}
+use Rattle.line.specs.Layout.{capped, imagesSize, padsSize, imagesAsked, padsAsked, split, chipsOf, imagesOf, padsOf, lent, lineOf, lentFrom}
 use Rattle.line.specs.Event.{bit, refused, noChip, allInRange, tableInRange, sizesFit, levelsFit, Outcome, outcome, happens, acceptedOf, eventOf}
 use Rattle.line.specs.declared.Event.{Event}
 use Rattle.line.specs.declared.Act.the-variants.{Take, Reset, PowerOn}
@@ -88,6 +88,15 @@ module _ (n : ℕ) (cs Z : List Chip) (l : n ≤ length cs) where
       ∙ ap (λ (o : Outcome). pick (tableInRange n cs) o (withRest Z no8)) (rest-pick (sizesFit n cs ms ss) (acceptedOf n cs e ms ss) no5)
       ∙ rest-pick (tableInRange n cs) (pick (sizesFit n cs ms ss) (acceptedOf n cs e ms ss) no5) no8
 
+-- at most 16 places are used, and no more than there are
+pub capped-few : (places : ℕ) → (capped places ≤ 16) × (capped places ≤ places)
+unfolding capped pick
+capped-few places = go (ltb places 16) (ltb-true places 16) (ltb-false places 16)
+  where
+    go : (b : Bool) → (b ≡ true → places < 16) → (b ≡ false → 16 ≤ places) → (pick b places 16 ≤ 16) × (pick b places 16 ≤ places)
+    go true f g = let h = f refl in (omega arith, omega arith)
+    go false f g = let h = g refl in (omega arith, omega arith)
+
 -- an outcome has n chips in m places
 pub record Holds (n m : ℕ) (o : Outcome) : Type 0 where
   pub chips : o .count ≡ n
@@ -98,11 +107,11 @@ unfolding pick
 holds-pick n m true a b p q = p
 holds-pick n m false a b p q = q
 
-length-split : (cs : List Chip) (ms ss : List ℕ) → length (split cs ms ss) ≡ length cs
+pub length-split : (cs : List Chip) (ms ss : List ℕ) → length (split cs ms ss) ≡ length cs
 length-split [] ms ss = refl
 length-split (c ∷ cs) ms ss = ap suc (length-split cs _ _)
 
-length-levels : (i l : ℕ) (L : List Whole) → length (levelsAt i l L) ≡ length L
+pub length-levels : (i l : ℕ) (L : List Whole) → length (levelsAt i l L) ≡ length L
 length-levels i l [] = refl
 length-levels zero l (w ∷ L) = refl
 length-levels (suc i) l (w ∷ L) = ap suc (length-levels i l L)

@@ -9,6 +9,7 @@ use lib.Dec.{ltb}
 use borrow.Author.Tests.{ltb-true, ltb-false}
 use Rattle.base.specs.Pick.{pick}
 use Rattle.line.specs.Layout.{capped}
+use Rattle.line.specs.Prefix.{capped-few}
 use Rattle.search.specs.Host.{Wire, play, searchHost}
 use Rattle.search.specs.Counts.{more-none}
 use Rattle.search.specs.Search.{Attached, wire, Search, outcome, completeOr4, fromPlayed}
@@ -20,16 +21,6 @@ use Rattle.machine.specs.Passes.{plays-passes}
 abbrev pub turns : ℕ
 turns = 3217
 
--- the places used are at most 16, and are there
-capped-few : (places : ℕ) → (capped places ≤ 16) × (capped places ≤ places)
-unfolding capped pick
-capped-few places = go (ltb places 16) refl
-  where
-    go : (b : Bool) → ltb places 16 ≡ b → (pick b places 16 ≤ 16) × (pick b places 16 ≤ places)
-    go true e = let h = ltb-true places 16 e in (omega arith, omega arith)
-    go false e = let h = ltb-false places 16 e in (omega arith, omega arith)
-
--- on every wire, the machine shows what the host of the search comes to
 pub machine-plays : (W : Wire) (list : List ℕ) (l : W .L) → seen (run W turns (beginOf (length list)) list l) ≡ seenOf list (play W (searchHost (length list)) l)
 unfolding beginOf
 machine-plays W list l =

@@ -13,7 +13,7 @@ use Rattle.records.specs.declared.Head.{Head}
 use Rattle.card.specs.Card.{codeAt, cutEntry, wholeEntry, entryOf, entryAt}
 use Rattle.card.specs.declared.Entry.{Entry}
 use Rattle.card.specs.declared.Entry.the-variants.{Done, Taken, TooMany, UnknownKind, WrongLength}
-use Rattle.runs.specs.Standing.{pick-of}
+use Rattle.line.specs.Prefix.{pick-of}
 use Rattle.refusals.specs.Exactly.{Iff, by-else, by-then, by-left, by-either, by-neither}
 
 -- entries of different sorts differ

@@ -13,7 +13,7 @@ use Rattle.line.specs.Layout.{lineOf, Lent, lent}
 use Rattle.line.specs.Event.{Answered, bit, refused, tableInRange, sizesFit, levelsFit, Outcome, outcome, happens, acceptedOf, eventOf}
 use Rattle.line.specs.declared.Event.{Event}
 use Rattle.runs.specs.Range.{pick-if}
-use Rattle.runs.specs.Standing.{pick-of}
+use Rattle.line.specs.Prefix.{pick-of}
 use Rattle.refusals.specs.Exactly.{Iff, by-else, by-then, by-neither}
 
 -- an answer with the number r

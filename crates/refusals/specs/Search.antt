@@ -10,7 +10,7 @@ use Rattle.line.specs.Event.{tableInRange, sizesFit}
 use Rattle.search.specs.Host.{Played, Listed, play, searchHost}
 use Rattle.search.specs.Search.{Searched, complete, refused, completeOr4, Attached, wire, Search, outcome, fromPlayed, searchOf}
 use Rattle.runs.specs.Range.{pick-if}
-use Rattle.runs.specs.Standing.{pick-of}
+use Rattle.line.specs.Prefix.{pick-of}
 use Rattle.refusals.specs.Exactly.{Iff, by-else, by-then, by-neither}
 
 numbered : (r s : ℕ) → (r ≡ s → ⊥) → refused r ≡ refused s → ⊥

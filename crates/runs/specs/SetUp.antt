@@ -15,6 +15,7 @@ use Rattle.chip.specs.Chip.{setUpChip}
 use Rattle.chip.specs.Range.{knownKind, inRange}
 use Rattle.chip.specs.declared.Chip.{Chip}
 use Rattle.line.specs.Layout.{capped}
+use Rattle.line.specs.Prefix.{capped-few}
 use Rattle.line.specs.Event.{allInRange, tableInRange}
 use Rattle.records.specs.Records.{headAt}
 use Rattle.records.specs.declared.Head.{Head}
@@ -80,10 +81,6 @@ unfolding readFrom
 read-fine zero s at = onward-none at (entryAt s at 0)
 read-fine (suc room) s at = onward-fine room at (λ next. readFrom room s next) (entryAt s at (suc room)) (entry-known s at (suc room)) (λ next. read-fine room s next)
 
-capped-most : (places : ℕ) → capped places ≤ 16
-unfolding capped
-capped-most places = pick-if (λ (k : ℕ). k ≤ 16) _ _ _ (λ e. let h = ltb-true places 16 e in omega arith) (λ e. omega arith)
-
 -- set-up that is not refused leaves a table in range; one that is refused leaves the table as it was
 abbrev Sets : ℕ → List Chip → SetUp → Type 0
 Sets n cs u = tableInRange n cs ≡ true → tableInRange (u .count) (u .table) ≡ true
@@ -102,4 +99,4 @@ fine-16 room (none r at) h f = tt
 pub set-up-in-range : (places : ℕ) (s : List ℕ) (n : ℕ) (cs : List Chip) → tableInRange n cs ≡ true
     → tableInRange (setUpOf places s n cs .count) (setUpOf places s n cs .table) ≡ true
 unfolding setUpOf
-set-up-in-range places s n cs = read-sets n cs (readFrom (capped places) s 0) (fine-16 (capped places) (readFrom (capped places) s 0) (capped-most places) (read-fine (capped places) s 0))
+set-up-in-range places s n cs = read-sets n cs (readFrom (capped places) s 0) (fine-16 (capped places) (readFrom (capped places) s 0) (capped-few places .0) (read-fine (capped places) s 0))

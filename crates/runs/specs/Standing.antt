@@ -20,6 +20,7 @@ use Rattle.line.specs.Line.{actOf, levelsAt, busBit, lineAfter, slotValue}
 use Rattle.line.specs.Layout.{imagesSize, padsSize, split, chipsOf, imagesOf, padsOf, Lent, lent, lineOf, lentFrom}
 use Rattle.line.specs.Event.{Answered, bit, refused, noChip, allInRange, tableInRange, sizesFit, levelsFit, Outcome, outcome, happens, acceptedOf, eventOf}
 use Rattle.line.specs.Refusals.{chips-split, images-split, pads-split, fit, in-range-few}
+use Rattle.line.specs.Prefix.{pick-of, length-split, length-levels}
 use Rattle.line.specs.declared.Event.{Event}
 use Rattle.line.specs.declared.Act.{Act}
 use Rattle.line.specs.declared.Act.the-variants.{Take, Reset, PowerOn}
@@ -60,11 +61,6 @@ levels-all (suc i) l (w ∷ L) k (g, h) = (g, levels-all i l L k h)
 length-map′ : (f : Whole → Whole) (L : List Whole) → length (map f L) ≡ length L
 length-map′ f [] = refl
 length-map′ f (w ∷ L) = ap suc (length-map′ f L)
-
-length-levels : (i l : ℕ) (L : List Whole) → length (levelsAt i l L) ≡ length L
-length-levels i l [] = refl
-length-levels zero l (w ∷ L) = refl
-length-levels (suc i) l (w ∷ L) = ap suc (length-levels i l L)
 
 -- event 4 that is taken has levels of two bits
 taken-levels : (e : Event) (L : List Whole) → levelsTaken e L ≡ true → e .number ≡ 4 → e .levels ≤ 3
@@ -132,10 +128,6 @@ all-in-range : (n : ℕ) (cs : List Chip) → tableInRange n cs ≡ true → all
 unfolding tableInRange
 all-in-range n cs h = in-line (leb n 16) (allInRange (take n cs)) h
 
-length-split : (cs : List Chip) (ms ss : List ℕ) → length (split cs ms ss) ≡ length cs
-length-split [] ms ss = refl
-length-split (c ∷ cs) ms ss = ap suc (length-split cs _ _)
-
 at-split : (i : ℕ) (cs : List Chip) (ms ss : List ℕ) → i < length cs → at i (split cs ms ss) .chip ≡ getD cs i noChip
 at-split i [] ms ss h = absurd (not-suc-le-zero h)
 at-split zero (c ∷ cs) ms ss h = refl
@@ -146,11 +138,6 @@ pick-ways {ℓ} : {A : Type ℓ} (t : Bool) (a a′ b : A) → (t ≡ true → a
 unfolding pick
 pick-ways true a a′ b f = f refl
 pick-ways false a a′ b f = refl
-
-pub pick-of {ℓ ℓ′} : {A : Type ℓ} {B : Type ℓ′} (f : A → B) (t : Bool) (a b : A) → f (pick t a b) ≡ pick t (f a) (f b)
-unfolding pick
-pick-of f true a b = refl
-pick-of f false a b = refl
 
 module _ (l : Attached) (s : Stands l) where
   first : length (take (l .count) (l .lent .chips)) ≡ l .count

@@ -14,17 +14,10 @@ use Rattle.line.specs.Layout.{capped}
 use Rattle.card.specs.Card.{Read, all, none, after, onward, readFrom, entryAt}
 use Rattle.card.specs.declared.Entry.{Entry}
 use Rattle.card.specs.declared.Entry.the-variants as entry
+use Rattle.line.specs.Prefix.{capped-few}
 use Rattle.search.specs.Host.{Host, done, bind, Played, Listed, listed, End, write, pass, heard, play, passes, goOn, searchHost, upTo, resetEvent}
 use Rattle.search.specs.Counts.{play-bind}
 use Rattle.search.specs.Search.{Attached, saysOf, leavesOf, wire, searchOf, fromPlayed, outcome, refused}
-
-pub capped-few : (n : ℕ) → (capped n ≤ 16) × (capped n ≤ n)
-unfolding capped pick
-capped-few n = go (ltb n 16) (ltb-true n 16) (ltb-false n 16)
-  where
-    go : (b : Bool) → (b ≡ true → suc n ≤ 16) → (b ≡ false → 16 ≤ n) → (pick b n 16 ≤ 16) × (pick b n 16 ≤ n)
-    go true f g = let h = f refl in (omega arith, omega arith)
-    go false f g = let h = g refl in (omega arith, omega arith)
 
 -- what was read holds at most m chips
 abbrev pub AtMost : ℕ → Read → Type 0

@@ -24,7 +24,8 @@ use Rattle.packed.specs.Laws.{table-is, table-length, from-length}
 use Rattle.packed.specs.Filling.{putting-many}
 use Rattle.toemsakun.specs.Library.{minus, imagesBytes, padsBytes, cardLeft, cardFrom, cardBytes, SearchLeft, searchLeft, searchNumber, packedSearch, searchBytes}
 use Rattle.toemsakun.specs.Answers.{cardNumber, cardOffset}
-use Rattle.toemsakun.specs.Few.{capped-few, AtMost, read-few, search-few}
+use Rattle.line.specs.Prefix.{capped-few}
+use Rattle.toemsakun.specs.Few.{AtMost, read-few, search-few}
 
 -- a table of over 16 chips is refused by 8, whatever is lent with it
 many-range : (n : ℕ) (cs : List Chip) → 16 < n → tableInRange n cs ≡ false
