@@ -10,7 +10,7 @@ use Rattle.chip.specs.Chip.{Whole, whole, powerOnChip, powerOnPad}
 use Rattle.chip.specs.declared.Chip.{Chip}
 use Rattle.ds28ec20.specs.Image.{Bytes, bytes, done}
 use Rattle.scratchpad.specs.declared.Deed.{Deed}
-use Rattle.line.specs.Layout.{Lent, lent}
+use Rattle.line.specs.Layout.{lent}
 use Rattle.line.specs.Event.{Answered, bit, refused, answered, Outcome, outcome, eventOf}
 use Rattle.line.specs.declared.Event.{Event}
 use Rattle.line.specs.declared.Answer.{Answer}
@@ -20,7 +20,7 @@ use Rattle.card.specs.declared.CardAnswer.{CardAnswer}
 use Rattle.card.specs.declared.CardAnswer.the-variants.{Chips, TooMany, UnknownKind, WrongLength}
 use Rattle.machine.specs.Machine.{Stand, stand, hearsOf, Tale, tale, tellsOf}
 use Rattle.machine.specs.declared.Machine.{Machine}
-use Rattle.search.specs.Search.{Searched, complete, refused as refusedBy, searched, completeOr4, Attached, attached, Search, outcome as found, searchOf}
+use Rattle.search.specs.Search.{Searched, complete, refused as refusedBy, searched, completeOr4, Attached, Search, outcome as found, searchOf}
 use Rattle.search.specs.declared.SearchAnswer.{SearchAnswer}
 use Rattle.turns.specs.Walk.{Turn, turned}
 use Rattle.turns.specs.declared.Spot.{Spot}

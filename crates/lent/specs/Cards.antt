@@ -4,17 +4,17 @@ use native.Mathlib.Omega.{arith}
 use mathlib.Core.Bool.{Bool, true, false, true≢false}
 use mathlib.Core.List.{List, [], _∷_, _++_, append-assoc}
 use mathlib.Core.Path.{_≡_, refl, _∙_, ap, sym, subst}
-use lib.Dec.{eqb, ltb}
-use borrow.Author.Tests.{eq-eqb, ne-eqb, lt-ltb, ltb-false}
+use lib.Dec.{eqb}
+use borrow.Author.Tests.{eq-eqb, ne-eqb, lt-ltb}
 use lib.ListN.{length, getD, set, drop, length-append}
 use lib.Seq.{set-getD, set-at}
-use Rattle.base.specs.Pick.{pick, pick-true, pick-false}
+use Rattle.base.specs.Pick.{pick-true, pick-false}
 use Rattle.chip.specs.Chip.{setUpChip}
 use Rattle.chip.specs.declared.Chip.{Chip}
 use Rattle.line.specs.Event.{noChip}
 use Rattle.line.specs.Layout.{capped}
 use Rattle.line.specs.Prefix.{capped-few}
-use Rattle.card.specs.Card.{Carded, chips, refused, carded, cutEntry, wholeEntry, entryOf, entryAt, Read, all, none, after, onward, readFrom, SetUp, setUp, fromRead, setUpOf}
+use Rattle.card.specs.Card.{Carded, chips, refused, carded, wholeEntry, entryOf, entryAt, Read, all, none, after, onward, readFrom, SetUp, setUp, fromRead, setUpOf}
 use Rattle.card.specs.declared.CardAnswer.{CardAnswer}
 use Rattle.card.specs.declared.CardAnswer.the-variants.{Chips, TooMany, UnknownKind, WrongLength}
 use Rattle.card.specs.declared.Entry.{Entry}
@@ -23,7 +23,6 @@ use Rattle.records.specs.Records.{headAt}
 use Rattle.records.specs.declared.Head.{Head}
 use Rattle.records.specs.declared.Head.the-variants.{End, Short, Cut, Whole}
 use Rattle.lent.specs.Fill.{readAnswer, fillFor, filledBy, fillTurn, fills}
-use Rattle.lent.specs.declared.Fill.{Fill}
 use Rattle.lent.specs.declared.Filled.{Filled}
 
 read-answer : (n : ℕ) (cs : List Chip) (q : Read) → fromRead n cs q .answer ≡ readAnswer q

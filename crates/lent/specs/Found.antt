@@ -1,23 +1,22 @@
 -- Laws: the host's machine on a lent slice of chips is the search of the plain form.
 use Prim.Native.Nat.{ℕ, zero, suc}
-use mathlib.Core.Bool.{true, false}
+use mathlib.Core.Bool.{true}
 use mathlib.Core.List.{List}
-use mathlib.Core.Path.{_≡_, refl, _∙_, ap, sym}
+use mathlib.Core.Path.{_≡_, refl, _∙_, ap}
 use lib.ListN.{length}
-use Rattle.base.specs.Pick.{pick, pick-true, pick-false}
+use Rattle.base.specs.Pick.{pick-true, pick-false}
 use Rattle.chip.specs.declared.Chip.{Chip}
-use Rattle.line.specs.Event.{Answered, answered, Outcome, outcome, tableInRange, sizesFit, standingOf}
+use Rattle.line.specs.Event.{Answered, answered, Outcome, outcome, standingOf}
 use Rattle.line.specs.Layout.{lent}
 use Rattle.line.specs.Refusals.{stands-fine, stands-size, stands-range}
 use Rattle.line.specs.declared.Answer.{Answer}
 use Rattle.line.specs.declared.Answer.the-variants as answer
 use Rattle.line.specs.declared.Standing.{Standing}
 use Rattle.line.specs.declared.Standing.the-variants as standing
-use Rattle.search.specs.Search.{Searched, refused, Attached, attached, saysOf, leavesOf, wire, Search, outcome as found, fromPlayed, searchOf}
-use Rattle.search.specs.Host.{play, searchHost}
-use Rattle.machine.specs.Machine.{Stand, stand, asksOf, hearsOf, beginOf, Tale, tale, tellsOf}
+use Rattle.search.specs.Search.{Searched, refused, Attached, attached, saysOf, leavesOf, wire, Search, outcome as found, searchOf}
+use Rattle.machine.specs.Machine.{stand, asksOf, hearsOf, beginOf, Tale, tale}
 use Rattle.machine.specs.Run.{saysTo, leavesTo, Ran, ran, run}
-use Rattle.machine.specs.Searches.{turns, shown, machine-searches}
+use Rattle.machine.specs.Searches.{shown, machine-searches}
 use Rattle.machine.specs.declared.Ask.{Ask}
 use Rattle.machine.specs.declared.Ask.the-variants as ask
 use Rattle.machine.specs.declared.Machine.{Machine}
@@ -26,7 +25,6 @@ use Rattle.lent.specs.Seek.{chipOf, planAsk, turnsFor, tellsBy}
 use Rattle.turns.specs.Walk.{firstLook, lookedOver, standsBy, carriedOut}
 use Rattle.turns.specs.declared.Look.{Look}
 use Rattle.turns.specs.declared.Plan.{Plan}
-use Rattle.turns.specs.declared.Plan.the-variants as plan
 
 -- what is asked of the line
 module _ (cs : List Chip) (ms ss : List ℕ) where

@@ -1,13 +1,9 @@
 -- The machine is the host of the search: 3217 turns of it show, on every wire, what `searchHost` comes to.
-use Prim.Native.Nat.{ℕ, _-_, _≤_}
+use Prim.Native.Nat.{ℕ, _-_}
 use native.Mathlib.Omega.{arith}
-use mathlib.Core.Bool.{Bool, true, false}
 use mathlib.Core.List.{List, []}
-use mathlib.Core.Path.{_≡_, refl, sym, _∙_, ap}
+use mathlib.Core.Path.{_≡_, sym, _∙_, ap}
 use lib.ListN.{length}
-use lib.Dec.{ltb}
-use borrow.Author.Tests.{ltb-true, ltb-false}
-use Rattle.base.specs.Pick.{pick}
 use Rattle.line.specs.Layout.{capped}
 use Rattle.line.specs.Prefix.{capped-few}
 use Rattle.search.specs.Host.{Wire, play, searchHost}

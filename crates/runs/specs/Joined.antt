@@ -10,10 +10,10 @@ use Rattle.line.specs.Layout.{chipsOf, imagesOf, padsOf, lent}
 use Rattle.line.specs.Event.{Answered}
 use Rattle.line.specs.declared.Event.{Event}
 use Rattle.search.specs.Host.{Host, done, ask, Played, played, more, resetsOf, slotsOf, play, searchHost}
-use Rattle.search.specs.Search.{Attached, saysOf, leavesOf, wire, Search, fromPlayed, searchOf}
+use Rattle.search.specs.Search.{Attached, saysOf, leavesOf, wire, fromPlayed, searchOf}
 use Rattle.base.specs.Pick.{pick-true}
 use Rattle.runs.specs.Runs.{answerOf, afterOf, run, answers, lineWire}
-use Rattle.runs.specs.Standing.{Stands, lineFrom, withLine, line-good, line-length, put-back, says-is, leaves-is, stands-after, line-after, after-length, length-chips}
+use Rattle.runs.specs.Standing.{Stands, lineFrom, withLine, line-length, put-back, says-is, leaves-is, stands-after, line-after, after-length, length-chips}
 
 -- a table in which a line was replaced twice holds the second
 again : (l : Attached) (L K : List Whole) → length L ≡ l .count → withLine (withLine l L) K ≡ withLine l K

@@ -1,23 +1,20 @@
 -- Laws: a chip keeps its code and kind, the sizes of its memory and scratchpad, and its ranges, whatever happens to it.
-use Prim.Native.Nat.{ℕ, zero, suc, _+_, _≤_}
-use mathlib.Core.Bool.{Bool, true, false}
-use mathlib.Core.List.{List, [], _∷_, map}
+use Prim.Native.Nat.{ℕ, _≤_}
+use mathlib.Core.Bool.{Bool, true}
 use mathlib.Core.Path.{_≡_, refl, _∙_, ap, sym}
-use lib.Dec.{eqb, ltb, leb}
+use lib.Dec.{eqb, leb}
 use lib.ListN.{length}
-use borrow.Author.Tests.{eqb-true, le-leb}
-use Rattle.base.specs.Pick.{pick}
+use borrow.Author.Tests.{le-leb}
 use Rattle.base.specs.Bits.{both}
 use Rattle.base.specs.Both.{both-holds}
 use Rattle.rom.specs.Rom.{romTakes}
 use Rattle.rom.specs.declared.RomNext.{RomNext}
 use Rattle.rom.specs.declared.RomNext.the-variants as next
-use Rattle.scratchpad.specs.Scratchpad.{memoryFunction, memoryInRange, registersInRange}
-use Rattle.scratchpad.specs.Registers.{powerOnRegisters}
+use Rattle.scratchpad.specs.Scratchpad.{memoryInRange, registersInRange}
 use Rattle.scratchpad.specs.declared.Registers.{Registers}
 use Rattle.ds28ec20.specs.Map.{lastAddress}
 use Rattle.ds28ec20.specs.Image.{sightOf}
-use Rattle.ds2413.specs.Switch.{switchInRange, phaseInRange, switchPowerOn, switch}
+use Rattle.ds2413.specs.Switch.{switchInRange, phaseInRange, switchPowerOn}
 use Rattle.ds2413.specs.declared.Switch.{Switch}
 use Rattle.chip.specs.Chip.{Whole, chipWith, levelOf, romSlot, functionLevel, functionSlot, memoryStep, memorySlot, switchSlot, levelTakes, takesOf, levelReset, resetChip, resetOf, powerOnChip, powerOnOf, levelsChip, levelsOf}
 use Rattle.chip.specs.Range.{knownKind, levelInRange, inRange, imageSize, padSize}

@@ -1,14 +1,13 @@
 -- Laws: whatever happens to a chip, its record stays in range.
-use Prim.Native.Nat.{ℕ, zero, suc, _+_, _*_, _/_, _%_, _<_, _≤_}
+use Prim.Native.Nat.{ℕ, zero, suc, _+_, _*_, _/_, _%_, _<_}
 use native.Mathlib.Omega.{arith}
 use native.Mathlib.Nat.{mod-lt}
 use mathlib.Core.Bool.{Bool, true, false, not, true≢false}
-use mathlib.Core.List.{List}
 use mathlib.Core.Path.{_≡_, refl, _∙_, ap, sym}
 use lib.Dec.{eqb, ltb, leb}
-use borrow.Author.Tests.{eqb-true, ltb-true, leb-true, eq-eqb, ne-eqb, lt-ltb, le-leb}
+use borrow.Author.Tests.{ltb-true, eq-eqb, ne-eqb, lt-ltb, le-leb}
 use Rattle.base.specs.Pick.{pick}
-use Rattle.base.specs.Bits.{bitOf, both, same, filled}
+use Rattle.base.specs.Bits.{bitOf, both}
 use Rattle.base.specs.Both.{both-holds}
 use Rattle.rom.specs.Rom.{commandOf, commandBit, readBit, matchBit, searchBit, romTakes, romInRange}
 use Rattle.rom.specs.declared.RomNext.{RomNext}
@@ -16,14 +15,14 @@ use Rattle.rom.specs.declared.RomNext.the-variants as next
 use Rattle.rom.specs.declared.RomStep.{RomStep}
 use Rattle.rom.specs.declared.RomStep.the-variants.{Command, Read, Match, Search}
 use Rattle.rom.specs.declared.RomResult.{RomResult}
-use Rattle.scratchpad.specs.Registers.{withE, withPF, withAA, targetOf, powerOnRegisters}
-use Rattle.scratchpad.specs.Scratchpad.{memoryFunction, addressIn, writeAddress, afterByte, byteIn, writeData, crcSent, padBegins, registerSent, padByteSent, padSent, copyAddress, authorized, copyEnd, readFrom, readAddress, memorySent, memoryTakes, memoryReset, cutOf, memoryInRange, registersInRange}
+use Rattle.scratchpad.specs.Registers.{withE, withPF, withAA}
+use Rattle.scratchpad.specs.Scratchpad.{memoryFunction, addressIn, writeAddress, afterByte, byteIn, writeData, crcSent, padBegins, registerSent, padByteSent, padSent, copyAddress, authorized, copyEnd, readFrom, readAddress, memorySent, memoryTakes, memoryReset, cutOf, memoryInRange}
 use Rattle.scratchpad.specs.declared.Registers.{Registers}
 use Rattle.scratchpad.specs.declared.Sight.{Sight}
 use Rattle.scratchpad.specs.declared.MemoryStep.{MemoryStep}
 use Rattle.scratchpad.specs.declared.MemoryPhase.{MemoryPhase}
 use Rattle.scratchpad.specs.declared.MemoryPhase.the-variants as memory
-use Rattle.ds2413.specs.Switch.{statusOf, switchFunction, statusSent, pairIn, pairBit, confirmed, shown, switchTakes, phaseInRange, switchInRange}
+use Rattle.ds2413.specs.Switch.{switchFunction, statusSent, pairIn, pairBit, confirmed, shown, switchTakes, phaseInRange, switchInRange}
 use Rattle.ds2413.specs.declared.Switch.{Switch}
 use Rattle.ds2413.specs.declared.SwitchStep.{SwitchStep}
 use Rattle.ds2413.specs.declared.SwitchPhase.{SwitchPhase}

@@ -1,12 +1,12 @@
 -- What a card sets up is in range: with buffers of the sizes that it asks for, the line stands well.
-use Prim.Native.Nat.{ℕ, zero, suc, _+_, _≤_}
+use Prim.Native.Nat.{ℕ, zero, suc, _≤_}
 use native.Mathlib.Omega.{arith}
-use mathlib.Core.Bool.{Bool, true, false, true≢false}
-use mathlib.Core.List.{List, [], _∷_, _++_}
-use mathlib.Core.Path.{_≡_, refl, _∙_, ap, sym}
-use lib.Dec.{eqb, ltb, leb}
-use borrow.Author.Tests.{le-leb, ltb-true}
-use lib.ListN.{length, take, drop}
+use mathlib.Core.Bool.{true, false}
+use mathlib.Core.List.{List, [], _∷_}
+use mathlib.Core.Path.{_≡_, refl, _∙_, ap}
+use lib.Dec.{leb}
+use borrow.Author.Tests.{le-leb}
+use lib.ListN.{length, drop}
 use lib.Seq.{take-at}
 use Rattle.base.specs.Pick.{pick, pick-true}
 use Rattle.base.specs.Bits.{both}
@@ -20,11 +20,11 @@ use Rattle.line.specs.Event.{allInRange, tableInRange}
 use Rattle.records.specs.Records.{headAt}
 use Rattle.records.specs.declared.Head.{Head}
 use Rattle.records.specs.declared.Head.the-variants.{End, Short, Cut, Whole}
-use Rattle.card.specs.Card.{Carded, chips, codeAt, cutEntry, wholeEntry, entryOf, entryAt, Read, all, none, after, onward, readFrom, SetUp, fromRead, setUpOf}
+use Rattle.card.specs.Card.{cutEntry, wholeEntry, entryOf, entryAt, Read, all, none, after, onward, readFrom, SetUp, fromRead, setUpOf}
 use Rattle.card.specs.declared.Entry.{Entry}
 use Rattle.card.specs.declared.Entry.the-variants as entry
 use Rattle.runs.specs.Range.{pick-if, both-true′}
-use Rattle.runs.specs.Keeps.{InRange, range-in}
+use Rattle.runs.specs.Keeps.{range-in}
 
 -- a chip as set-up leaves it
 set-up-range : (code kind : ℕ) → knownKind kind ≡ true → inRange (setUpChip code kind) ≡ true

@@ -9,25 +9,25 @@ use mathlib.Core.Path.{_≡_, refl, _∙_, ap, sym}
 use lib.Dec.{eqb, ltb, leb}
 use lib.ListN.{length, take, drop, getD, length-append, length-drop, take-append-drop}
 use lib.Seq.{length-take-le, take-at, drop-at, getD-take}
-use borrow.Author.Tests.{ltb-true, leb-true, le-leb, eq-eqb, eqb-true}
-use Rattle.base.specs.Pick.{pick, pick-true, pick-false}
+use borrow.Author.Tests.{ltb-true, leb-true, le-leb, eq-eqb}
+use Rattle.base.specs.Pick.{pick, pick-true}
 use Rattle.base.specs.Bits.{both}
 use Rattle.base.specs.Both.{both-holds}
-use Rattle.chip.specs.Chip.{Whole, whole, levelsOf}
+use Rattle.chip.specs.Chip.{Whole}
 use Rattle.chip.specs.Range.{inRange, imageSize, padSize}
 use Rattle.chip.specs.declared.Chip.{Chip}
 use Rattle.line.specs.Line.{actOf, levelsAt, busBit, lineAfter, slotValue}
-use Rattle.line.specs.Layout.{imagesSize, padsSize, split, chipsOf, imagesOf, padsOf, Lent, lent, lineOf, lentFrom}
-use Rattle.line.specs.Event.{Answered, bit, refused, noChip, allInRange, tableInRange, sizesFit, levelsFit, Outcome, outcome, happens, acceptedOf, eventOf}
+use Rattle.line.specs.Layout.{imagesSize, padsSize, split, chipsOf, imagesOf, padsOf, lent, lineOf, lentFrom}
+use Rattle.line.specs.Event.{bit, refused, noChip, allInRange, tableInRange, sizesFit, levelsFit, Outcome, happens, acceptedOf, eventOf}
 use Rattle.line.specs.Refusals.{chips-split, images-split, pads-split, fit, in-range-few}
 use Rattle.line.specs.Prefix.{pick-of, length-split, length-levels}
 use Rattle.line.specs.declared.Event.{Event}
 use Rattle.line.specs.declared.Act.{Act}
 use Rattle.line.specs.declared.Act.the-variants.{Take, Reset, PowerOn}
-use Rattle.search.specs.Search.{Attached, attached, eventOn, saysOf, leavesOf, leftBy}
-use Rattle.runs.specs.Runs.{at, noWhole, levelsTaken, answerOf, afterOf}
+use Rattle.search.specs.Search.{Attached, eventOn, saysOf, leavesOf, leftBy}
+use Rattle.runs.specs.Runs.{at, levelsTaken, answerOf, afterOf}
 use Rattle.runs.specs.Range.{pick-if, both-true′}
-use Rattle.runs.specs.Keeps.{InRange, in-range, range-in, Good, act-good, act-named, levels-good, levels-named}
+use Rattle.runs.specs.Keeps.{in-range, range-in, Good, act-good, levels-good}
 
 -- every chip of a line is good
 abbrev pub AllGood : List Whole → Type 0

@@ -2,7 +2,7 @@
 use Prim.Native.Nat.{ℕ, _+_, _*_, _/_, _<_, _≤_}
 use native.Mathlib.Omega.{arith}
 use mathlib.Core.Bool.{Bool, true, false}
-use mathlib.Core.List.{List, [], _++_, append-nil}
+use mathlib.Core.List.{List, _++_, append-nil}
 use mathlib.Core.Path.{_≡_, refl, _∙_, ap, sym}
 use lib.Dec.{leb}
 use lib.IntN.{ℤ, pos}
@@ -12,8 +12,8 @@ use borrow.Author.Tests.{leb-true, leb-false, le-leb, lt-leb}
 use Rattle.base.specs.Pick.{pick, pick-true, pick-false}
 use Rattle.chip.specs.Chip.{setUpChip}
 use Rattle.chip.specs.declared.Chip.{Chip}
-use Rattle.line.specs.Layout.{capped, imagesAsked, padsAsked, lent}
-use Rattle.line.specs.Event.{refused, tableInRange}
+use Rattle.line.specs.Layout.{capped, imagesAsked, padsAsked}
+use Rattle.line.specs.Event.{tableInRange}
 use Rattle.line.specs.Prefix.{images-rest, pads-rest}
 use Rattle.line.specs.declared.Table.{Table}
 use Rattle.card.specs.Card.{Carded, chips, Read, all, none, readFrom, SetUp, setUp, fromRead, setUpOf}

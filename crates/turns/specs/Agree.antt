@@ -1,22 +1,22 @@
 -- Laws: the walks over a lent slice of chips are the event of the plain form.
-use Prim.Native.Nat.{ℕ, zero, suc, _+_, _-_, _*_, _<_, _≤_}
+use Prim.Native.Nat.{ℕ, zero, suc, _+_, _-_, _<_, _≤_}
 use native.Mathlib.Omega.{arith}
 use native.Mathlib.Nat.{zero-add}
 use native.Mathlib.Numerals.{add-one}
 use mathlib.Core.Bool.{Bool, true, false}
-use mathlib.Core.List.{List, [], _∷_}
-use mathlib.Core.Path.{_≡_, refl, _∙_, ap, sym, subst}
+use mathlib.Core.List.{List}
+use mathlib.Core.Path.{_≡_, refl, _∙_, ap, sym}
 use lib.Dec.{eqb, ltb, leb}
-use borrow.Author.Tests.{eqb-true, leb-true, leb-false, eq-eqb, ne-eqb, le-leb, lt-leb, lt-ltb, le-ltb, ltb-true}
-use lib.ListN.{length, getD, set, take, length-set}
-use lib.Seq.{take-length, set-getD, getD-set-other}
+use borrow.Author.Tests.{leb-true, leb-false, eq-eqb, ne-eqb, le-leb, lt-leb, lt-ltb, le-ltb, ltb-true}
+use lib.ListN.{length, getD, set}
+use lib.Seq.{take-length, set-getD}
 use Rattle.base.specs.Pick.{pick, pick-true, pick-false}
 use Rattle.base.specs.Bits.{both}
-use Rattle.chip.specs.Chip.{Whole, whole, levelsChip}
-use Rattle.chip.specs.Range.{imageSize, padSize, inRange}
+use Rattle.chip.specs.Chip.{levelsChip}
+use Rattle.chip.specs.Range.{imageSize, padSize}
 use Rattle.chip.specs.declared.Chip.{Chip}
 use Rattle.line.specs.Bridge.{actAt, bitAt, each, eachBit}
-use Rattle.line.specs.Event.{Answered, bit, refused, answered, noChip, allInRange, tableInRange, sizesFit, standingOf, levelsFit, Fits, Outcome, outcome, happens, acceptedOf, eventOf}
+use Rattle.line.specs.Event.{bit, refused, answered, noChip, allInRange, tableInRange, sizesFit, standingOf, levelsFit, Fits, outcome, happens, acceptedOf, eventOf}
 use Rattle.line.specs.Layout.{imagesSize, padsSize, Lent, lent}
 use Rattle.line.specs.Line.{actOf}
 use Rattle.line.specs.Refusals.{slot-happens, reset-happens, power-happens, levels-happen, stands-fit, event-range, event-size, event-accepted}

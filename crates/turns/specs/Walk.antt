@@ -1,6 +1,6 @@
 -- A lent slice of chips, walked from the first to the last: what each turn does, and what the walks come to.
 use Prim.Native.Nat.{ℕ, zero, suc, _+_}
-use mathlib.Core.Bool.{Bool, true, false}
+use mathlib.Core.Bool.{Bool, true}
 use mathlib.Core.List.{List, [], _∷_}
 use lib.Dec.{eqb, ltb, leb}
 use lib.ListN.{length, getD, set}
@@ -13,7 +13,6 @@ use Rattle.line.specs.Bridge.{actAt, bitAt}
 use Rattle.line.specs.Event.{answered, noChip, Outcome, outcome}
 use Rattle.line.specs.Layout.{Lent, lent}
 use Rattle.line.specs.Line.{actOf}
-use Rattle.line.specs.declared.Act.{Act}
 use Rattle.line.specs.declared.Act.the-variants as act
 use Rattle.line.specs.declared.Answer.{Answer}
 use Rattle.line.specs.declared.Answer.the-variants as answer
