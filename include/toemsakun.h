@@ -40,8 +40,9 @@ extern "C" {
 #define TK_LEVELS 4   /* outside levels of one DS2413: bit 0 for PIOA, bit 1 for PIOB */
 
 /*
- * Refusals. A result below 0 is minus one of these numbers; 0 or more is the answer. Where several hold, a card's record
- * is refused as document 01 orders them; an event by 8, 5, 6, 7; a search by 8, 5, 4.
+ * Refusals. A result below 0 is minus one of these numbers; 0 or more is the answer. Where several hold, the first in this
+ * order is given: of a card's record 3 for fewer than 4 bytes left, then 2, then 3 for its length or a cut body, then 1;
+ * of an event 8, 5, 6, 7; of a search 8, 5, 4.
  */
 #define TK_TOO_MANY 1       /* card: a 17th record, or more records than the table has places */
 #define TK_UNKNOWN_KIND 2   /* card: a kind that is neither 1 nor 2 */
@@ -101,7 +102,7 @@ extern "C" {
  *
  * Firmware need not know this: tk_card writes records and the other calls keep them. A table is refused by
  * TK_OUT_OF_RANGE where its size is no multiple of TK_RECORD_SIZE, it has over 16 records, a byte that must be 0 is not,
- * a step is not in the table above, or a field lies outside its range.
+ * a step is not in the table above or is not one of the chip's kind, or a field lies outside its range.
  */
 
 /* The bytes of a table of so many chips; more than TK_MOST_CHIPS count as TK_MOST_CHIPS. */

@@ -28,7 +28,7 @@ bool host_reset(struct host *host) { return host_event(host, TK_RESET, 0, 0) == 
 
 unsigned host_slot(struct host *host, unsigned bit)
 {
-    return (unsigned)host_event(host, bit ? TK_WRITE_1 : TK_WRITE_0, 0, 0);
+    return host_event(host, bit ? TK_WRITE_1 : TK_WRITE_0, 0, 0) == 1;
 }
 
 int32_t host_search(struct host *host, uint64_t *codes, size_t places)

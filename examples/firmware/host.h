@@ -1,6 +1,7 @@
 /*
  * A 1-Wire host on a modelled line. In firmware the lower half (host_reset, host_slot) drives a pin; here it calls the
- * library, and all above it stays as it is.
+ * library, and all above it stays as it is. host_set_up, host_event and host_search belong to the model: firmware brings
+ * its own search. host_set_up has shown that the line is not refused, so a slot always has a bit.
  */
 #ifndef HOST_H
 #define HOST_H

@@ -46,7 +46,7 @@ static void search(struct host *host)
 static void write_setpoints(struct host *host, const uint8_t page[PAGE_SIZE])
 {
     struct scratchpad read = {0};
-    uint8_t stored[PAGE_SIZE];
+    uint8_t stored[PAGE_SIZE] = {0};
     step("Write Scratchpad: the chip's CRC-16 is right",
          host_write_scratchpad(host, memory, SETPOINTS, page, PAGE_SIZE));
     step("Read Scratchpad: the chip's CRC-16 is right", host_read_scratchpad(host, memory, &read));

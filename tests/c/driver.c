@@ -12,8 +12,9 @@
  *   F       list, its size 8 times the places              tk_search (4), resets (8), slots (8), list, the line
  *   M                                                      images
  *
- * "The line" is the table, the pads and the FNV-1a sum of the images (8). The line that L gave stays, so that a tester
- * also sees what builds up over calls. Each lent piece ends where a page without access begins, so that a read or write
+ * "The line" is the table, the pads and the FNV-1a sum of the images (8). The line that L gave stays until the next L (C
+ * puts another table in its place), so that a tester also sees what builds up over calls. L comes first. Each lent piece
+ * ends where a page without access begins, so that a read or write
  * past its end stops the program; what lies before it is looked at after each call. The input's end ends the program; a
  * fault in the input, or a write outside the pieces, ends it with status 2.
  */

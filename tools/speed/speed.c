@@ -143,6 +143,8 @@ static void set_up(unsigned chips)
 {
     uint8_t card[TK_MOST_CHIPS * 12] = {0};
     size_t offset;
+    if (chips > TK_MOST_CHIPS)
+        exit(2);
     for (unsigned i = 0; i < chips; i++) {
         card[12 * i] = 10;
         card[12 * i + 2] = i % 4 == 3 ? TK_DS2413 : TK_DS28EC20;

@@ -1,10 +1,10 @@
 # The walked functions of crates/lent, and the contracts of what they call. See README.md beside this file.
 CRATE = 'lent'
 TYPES = {
-    'Chip': 'chip', 'Spot': 'turns', 'Look': 'turns', 'Sum': 'turns', 'Plan': 'turns', 'Deed': 'turns', 'Turned': 'turns',
+    'Chip': 'chip', 'Spot': 'turns', 'Look': 'turns', 'Sum': 'turns', 'Plan': 'turns', 'Task': 'turns', 'Turned': 'turns',
     'Act': 'line', 'Answer': 'line', 'Event': 'line', 'Standing': 'line', 'CardAnswer': 'card', 'Ask': 'machine', 'Machine': 'machine', 'Told': 'machine',
 }
-ENUMS = ['Act', 'Answer', 'CardAnswer', 'Standing', 'Ask', 'Plan', 'Deed']
+ENUMS = ['Act', 'Answer', 'CardAnswer', 'Standing', 'Ask', 'Plan', 'Task']
 STRUCTS = {
     'Event': [('number', 'u32'), ('chip', 'u32'), ('levels', 'u32')],
     'Sum': [('value', 'bool'), ('spot', 'Spot')],
@@ -32,10 +32,10 @@ FNS = [
     dict(name='turns::first_sum', params=[('host', 'bool')], result='Sum', ensures='r ≡ firstSum host'),
     dict(name='turns::sum_at', params=[('c', 'Chip'), ('s', 'Sum'), ('ms', '&[u8]'), ('ss', '&[u8]')], result='Sum', ensures='r ≡ sumAt c s ms ss'),
     dict(name='turns::first_spot', params=[], result='Spot', ensures='r ≡ firstSpot'),
-    dict(name='turns::act_turn', params=[('c', 'Chip'), ('p', 'Spot'), ('deed', 'Deed')] + BUFFERS, result='Turned',
-         ensures='turned (r .chip) (r .spot) ms′ ss′ ≡ turnOf deed c p ms ss'),
+    dict(name='turns::act_turn', params=[('c', 'Chip'), ('p', 'Spot'), ('task', 'Task')] + BUFFERS, result='Turned',
+         ensures='turned (r .chip) (r .spot) ms′ ss′ ≡ turnOf task c p ms ss'),
     dict(name='turns::host_bit', params=[('plan', 'Plan')], result='bool', ensures='r ≡ hostBit plan'),
-    dict(name='turns::deed_of', params=[('plan', 'Plan'), ('value', 'bool')], result='Deed', ensures='r ≡ deedOf plan value'),
+    dict(name='turns::task_of', params=[('plan', 'Plan'), ('value', 'bool')], result='Task', ensures='r ≡ taskOf plan value'),
     dict(name='turns::answer_of', params=[('plan', 'Plan'), ('value', 'bool'), ('n', 'usize')], result='Answer', ensures='r ≡ answerOf plan value n'),
     dict(name='turns::plan_of', params=[('l', 'Look'), ('n', 'usize'), ('ev', 'Event'), ('images', 'usize'), ('pads', 'usize')], result='Plan',
          ensures='r ≡ planOf l n ev images pads'),
@@ -53,21 +53,21 @@ FNS = [
                    inv='sums k i table sum ms ss ≡ sums (length table) 0 table (firstSum host) ms ss',
                    inv0='ap (λ (s : Sum). sums (length table) 0 table s ms ss) e',
                    step='ap (λ (s : Sum). sums k (suc i) table s ms ss) e ∙ inv')),
-    dict(name='all_act', walk=True, params=[TABLE, ('deed', 'Deed')] + BUFFERS, result='unit',
-         ensures='lent table′ ms′ ss′ ≡ acts deed (length table) 0 firstSpot table ms ss', uses=[WALK + '{Turn, turned, turnOf, firstSpot, acts}', NO_CHIP, LENT],
+    dict(name='all_act', walk=True, params=[TABLE, ('task', 'Task')] + BUFFERS, result='unit',
+         ensures='lent table′ ms′ ss′ ≡ acts task (length table) 0 firstSpot table ms ss', uses=[WALK + '{Turn, turned, turnOf, firstSpot, acts}', NO_CHIP, LENT],
          loop=dict(table='table', blank='noChip', state=[('spot', 'Spot')],
-                   inv='acts deed k i spot table′ ms′ ss′ ≡ acts deed (length table) 0 firstSpot table ms ss',
-                   inv0='ap (λ (p : Spot). acts deed (length table) 0 p table ms ss) e',
-                   step='ap (λ (t : Turn). acts deed k (suc i) (t .spot) (set table′ i (t .chip)) (t .images) (t .pads)) e ∙ inv')),
+                   inv='acts task k i spot table′ ms′ ss′ ≡ acts task (length table) 0 firstSpot table ms ss',
+                   inv0='ap (λ (p : Spot). acts task (length table) 0 p table ms ss) e',
+                   step='ap (λ (t : Turn). acts task k (suc i) (t .spot) (set table′ i (t .chip)) (t .images) (t .pads)) e ∙ inv')),
 
     # thin functions over the table
-    dict(name='carry_out', walk=True, params=[TABLE, ('plan', 'Plan')] + BUFFERS, result='Answer',
-         ensures='outcome (answered r) (length table′) (lent table′ ms′ ss′) ≡ carriedOut plan table ms ss',
-         uses=[WALK + '{firstSpot, firstSum, hostBit, deedOf, answerOf, sums, acts, carriedOut}', LENT, OUTCOME, AGREE + '{carried-out}'],
-         proof='carried-out plan table (ws4 .0) ms ss (ws4 .1 .1 .0) (ws4 .1 .1 .1 .0) r r2 r3 r5 e e2 e3 e4 e5 table-as-long4'),
+    dict(name='do_plan', walk=True, params=[TABLE, ('plan', 'Plan')] + BUFFERS, result='Answer',
+         ensures='outcome (answered r) (length table′) (lent table′ ms′ ss′) ≡ planDone plan table ms ss',
+         uses=[WALK + '{firstSpot, firstSum, hostBit, taskOf, answerOf, sums, acts, planDone}', LENT, OUTCOME, AGREE + '{plan-done}'],
+         proof='plan-done plan table (ws4 .0) ms ss (ws4 .1 .1 .0) (ws4 .1 .1 .1 .0) r r2 r3 r5 e e2 e3 e4 e5 table-as-long4'),
     dict(name='take_event', walk=True, params=[TABLE, ('ev', 'Event')] + BUFFERS, result='Answer',
          ensures='outcome (answered r) (length table′) (lent table′ ms′ ss′) ≡ eventOf (length table) table ev ms ss',
-         uses=[WALK + '{firstLook, lookedOver, planOf, carriedOut}', LENT, OUTCOME, 'Rattle.line.specs.Event.{eventOf}', AGREE + '{event-planned}'],
+         uses=[WALK + '{firstLook, lookedOver, planOf, planDone}', LENT, OUTCOME, 'Rattle.line.specs.Event.{eventOf}', AGREE + '{event-planned}'],
          proof='e3 ∙ event-planned table ev ms ss r r2 e e2'),
 
     # one chip's record
@@ -94,7 +94,7 @@ FNS = [
          ensures='tale (searched (r .answer)) (r .listed) (r .resets .0) (r .slots .0) ≡ tellsBy stands h'),
     dict(name='lent::seeking::ask_line', walk=True, params=[TABLE, ('ask', 'Ask')] + BUFFERS, result='Answer',
          ensures='(answered r ≡ saysTo wire ask (attached (length table) table ms ss)) × (attached (length table′) table′ ms′ ss′ ≡ leavesTo wire ask (attached (length table) table ms ss))',
-         uses=[WALK + '{firstLook, lookedOver, carriedOut}', SEEK + '{chipOf, planAsk}', LENT, OUTCOME, RUN + '{saysTo, leavesTo}', ATTACHED, 'Rattle.lent.specs.Found.{asked}'],
+         uses=[WALK + '{firstLook, lookedOver, planDone}', SEEK + '{chipOf, planAsk}', LENT, OUTCOME, RUN + '{saysTo, leavesTo}', ATTACHED, 'Rattle.lent.specs.Found.{asked}'],
          proof='asked table ask ms ss r r2 r3 r4 (ws4 .0) (ws4 .1 .1 .0) (ws4 .1 .1 .1 .0) e e2 e3 e4'),
     dict(name='lent::seeking::run_host', walk=True, params=[TABLE, ('turns', 'usize'), ('first', 'Machine'), LIST] + BUFFERS, result='Machine',
          ensures='ran r list′ (attached (length table′) table′ ms′ ss′) ≡ machineRun wire turns first list (attached (length table) table ms ss)',

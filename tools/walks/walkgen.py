@@ -30,6 +30,7 @@ def lst(x):
     return out
 
 def load_mir(crate, repo):
+    # RT_CUT=0: no line of the MIR is cut
     txt = subprocess.run(['rt', 'mir', crate], cwd=repo, capture_output=True, text=True, env={**os.environ, 'RT_CUT': '0'}).stdout
     x = sexprs(txt)
     prog = x[x.index('program') + 1]
@@ -157,7 +158,6 @@ class Gen:
         if p['form'] in ('mutr', 'shrr'): return f'(vptr {n}-b {n}-o)'
         return f'(sliceVal ({n}-b, {n}-o) (length {n}))'
     def denot(g, p): return p['n'] if p['form'] == 'val' else g.ref(p)
-    def dtype(g, p): return {'val': p['k'].D, 'mutr': f'RefT {p["k"].D}', 'shrr': f'RefT {p["k"].D}'}.get(p['form'], f'RefT (List {p["k"].D})')
 
 ROWS = {'muts': 'MutSlice', 'shrs': 'ShrSlice', 'mutr': 'MutRef', 'shrr': 'ShrRef'}
 def proved(crate, c):

@@ -177,7 +177,7 @@ tells m a a′ n n′ r r′ s s′ p q =
       ap (λ (o : Tale). o .slots) z,
     )
 
--- record, memory and scratchpad: `chip::takes` and `lent::record::takes` by `takesOf`, `line::act_at` by `actAt`, `turns::deed_at` by `deedAt`
+-- record, memory and scratchpad: `chip::takes` and `lent::record::takes` by `takesOf`, `line::act_at` by `actAt`, `turns::task_at` by `taskAt`
 pub takes : (w : Whole) (c c′ : Chip) (m m′ s s′ : List ℕ) → whole c m s ≡ w → whole c′ m′ s′ ≡ w → (c ≡ c′) × (m ≡ m′) × (s ≡ s′)
 takes w c c′ m m′ s s′ p q =
     let r = one-answer w _ _ p q in (ap (λ (o : Whole). o .chip) r, ap (λ (o : Whole). o .memory) r, ap (λ (o : Whole). o .pad) r)

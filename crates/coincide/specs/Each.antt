@@ -27,7 +27,7 @@ use Rattle.ds28ec20.specs.Map.{closedToCopying, controlAddress, held, isControl
 use Rattle.line.specs.Bridge.{bitAt}
 use Rattle.line.specs.Event.{standingOf, answered}
 use Rattle.line.specs.Layout.{capped, imagesAsked, padsAsked}
-use Rattle.packed.specs.Packed.{isRecord, packed, putRecord, putTable, sameBytes, tableFrom, unpacked}
+use Rattle.packed.specs.Packed.{packed, putRecord, putTable, sameBytes, tableFrom, unpacked}
 use Rattle.line.specs.declared.Answer.{Answer}
 use Rattle.machine.specs.Machine.{asksOf, beginOf}
 use Rattle.machine.specs.declared.Machine.{Machine}
@@ -39,7 +39,7 @@ use Rattle.scratchpad.specs.Scratchpad.{addressAtHand, inPage, memoryFunction, 
 use Rattle.base.specs.Pick.{pick}
 use Rattle.line.specs.declared.Event.{Event}
 use Rattle.line.specs.declared.Standing.{Standing}
-use Rattle.turns.specs.Walk.{firstSpot, spotAfter, firstLook, lookAt, firstSum, sumAt, standsBy, planLevels, planNumber, planBy, planOf, hostBit, deedOf, answerOf}
+use Rattle.turns.specs.Walk.{firstSpot, spotAfter, firstLook, lookAt, firstSum, sumAt, standsBy, planLevels, planNumber, planBy, planOf, hostBit, taskOf, answerOf}
 use Rattle.turns.specs.declared.Look.{Look}
 use Rattle.turns.specs.declared.Plan.{Plan}
 use Rattle.turns.specs.declared.Spot.{Spot}
@@ -375,8 +375,8 @@ turns-plan-of l n e images pads = one-answer (planOf l n e images pads)
 pub turns-host-bit : (plan : Plan) → Settled (hostBit plan)
 turns-host-bit plan = one-answer (hostBit plan)
 
-pub turns-deed-of : (plan : Plan) (value : Bool) → Settled (deedOf plan value)
-turns-deed-of plan value = one-answer (deedOf plan value)
+pub turns-task-of : (plan : Plan) (value : Bool) → Settled (taskOf plan value)
+turns-task-of plan value = one-answer (taskOf plan value)
 
 pub turns-answer-of : (plan : Plan) (value : Bool) (n : ℕ) → Settled (answerOf plan value n)
 turns-answer-of plan value n = one-answer (answerOf plan value n)
@@ -393,9 +393,6 @@ packed-unpack s = one-answer (unpacked s)
 
 pub packed-is-packed : (c : Chip) (s : List ℕ) → Settled (sameBytes (packed c) s)
 packed-is-packed c s = one-answer (sameBytes (packed c) s)
-
-pub packed-is-record : (s : List ℕ) → Settled (isRecord s)
-packed-is-record s = one-answer (isRecord s)
 
 pub packed-put-record : (s : List ℕ) (c : Chip) → Settled (putRecord c s)
 packed-put-record s c = one-answer (putRecord c s)

@@ -22,7 +22,7 @@ use Rattle.machine.specs.declared.Ask.the-variants as ask
 use Rattle.machine.specs.declared.Machine.{Machine}
 use Rattle.turns.specs.Agree.{refused-is, stands-is, event-planned}
 use Rattle.lent.specs.Seek.{chipOf, planAsk, turnsFor, tellsBy}
-use Rattle.turns.specs.Walk.{firstLook, lookedOver, standsBy, carriedOut}
+use Rattle.turns.specs.Walk.{firstLook, lookedOver, standsBy, planDone}
 use Rattle.turns.specs.declared.Look.{Look}
 use Rattle.turns.specs.declared.Plan.{Plan}
 
@@ -32,7 +32,7 @@ module _ (cs : List Chip) (ms ss : List ℕ) where
   line = attached (length cs) cs ms ss
 
   asked-line : (q : Ask) (l : Look) (a : Answer) (ds : List Chip) (xs ys : List ℕ) → l ≡ lookedOver (chipOf q) cs firstLook
-      → outcome (answered a) (length ds) (lent ds xs ys) ≡ carriedOut (planAsk q l (length cs) (length ms) (length ss)) cs ms ss
+      → outcome (answered a) (length ds) (lent ds xs ys) ≡ planDone (planAsk q l (length cs) (length ms) (length ss)) cs ms ss
       → (answered a ≡ saysTo wire q line) × (attached (length ds) ds xs ys ≡ leavesTo wire q line)
   unfolding saysOf leavesOf
   asked-line ask.Nothing l a ds xs ys f h =
@@ -44,10 +44,10 @@ module _ (cs : List Chip) (ms ss : List ℕ) where
 
 pub asked : (cs : List Chip) (q : Ask) (ms ss : List ℕ) (chip : ℕ) (l : Look) (p : Plan) (a : Answer) (ds : List Chip) (xs ys : List ℕ)
     → chip ≡ chipOf q → l ≡ lookedOver chip cs firstLook → p ≡ planAsk q l (length cs) (length ms) (length ss)
-    → outcome (answered a) (length ds) (lent ds xs ys) ≡ carriedOut p cs ms ss
+    → outcome (answered a) (length ds) (lent ds xs ys) ≡ planDone p cs ms ss
     → (answered a ≡ saysTo wire q (attached (length cs) cs ms ss)) × (attached (length ds) ds xs ys ≡ leavesTo wire q (attached (length cs) cs ms ss))
 asked cs q ms ss chip l p a ds xs ys e f g h =
-    asked-line cs ms ss q l a ds xs ys (f ∙ ap (λ (n : ℕ). lookedOver n cs firstLook) e) (h ∙ ap (λ (x : Plan). carriedOut x cs ms ss) g)
+    asked-line cs ms ss q l a ds xs ys (f ∙ ap (λ (n : ℕ). lookedOver n cs firstLook) e) (h ∙ ap (λ (x : Plan). planDone x cs ms ss) g)
 
 -- a turn of the host, and none
 pub run-on : (k : ℕ) (m : Machine) (list : List ℕ) (l : Attached) (q : Ask) (m′ : Machine) (x : Answered) (list′ : List ℕ) (l′ : Attached)

@@ -8,14 +8,14 @@ use line::Answer;
 use line::Event;
 pub use seeking::search_line;
 pub use setting::set_up;
-use turns::Deed;
 use turns::Look;
 use turns::Plan;
+use turns::Task;
 ghost use mathlib.Core.Path.{_≡_};
 ghost use lib.ListN.{length};
 ghost use Rattle.line.specs.Event.{answered, outcome, eventOf};
 ghost use Rattle.line.specs.Layout.{lent};
-ghost use Rattle.turns.specs.Walk.{firstSpot, firstLook, firstSum, lookedOver, sums, hostBit, acts, carriedOut};
+ghost use Rattle.turns.specs.Walk.{firstSpot, firstLook, firstSum, lookedOver, sums, hostBit, acts, planDone};
 
 // How many chips of a card are still to come, and where in the card the next one stands.
 pub struct Fill {
@@ -56,27 +56,27 @@ fn line_value(table: &[Chip], host: bool, ms: &[u8], ss: &[u8]) -> bool
 }
 
 // Every chip does its part: each record is read and stored in the lent slice.
-fn all_act(table: &mut [Chip], deed: Deed, ms: &mut [u8], ss: &mut [u8])
-    ensures { λ _. ⌜ lent (now (table .exit)) (now (ms .exit)) (now (ss .exit)) ≡ acts deed (length (now (table .entry))) 0 firstSpot (now (table .entry)) (now (ms .entry)) (now (ss .entry)) ⌝ }
+fn all_act(table: &mut [Chip], task: Task, ms: &mut [u8], ss: &mut [u8])
+    ensures { λ _. ⌜ lent (now (table .exit)) (now (ms .exit)) (now (ss .exit)) ≡ acts task (length (now (table .entry))) 0 firstSpot (now (table .entry)) (now (ms .entry)) (now (ss .entry)) ⌝ }
 {
     let mut spot = turns::first_spot();
     let mut i = 0;
     while i < table.len() {
-        let t = turns::act_turn(table[i], spot, deed, ms, ss);
+        let t = turns::act_turn(table[i], spot, task, ms, ss);
         table[i] = t.chip;
         spot = t.spot;
         i += 1;
     }
 }
 
-// A plan is carried out.
-fn carry_out(table: &mut [Chip], plan: Plan, ms: &mut [u8], ss: &mut [u8]) -> Answer
-    ensures { λ r. ⌜ outcome (answered r) (length (now (table .exit))) (lent (now (table .exit)) (now (ms .exit)) (now (ss .exit))) ≡ carriedOut plan (now (table .entry)) (now (ms .entry)) (now (ss .entry)) ⌝ }
+// What a plan comes to on the table.
+fn do_plan(table: &mut [Chip], plan: Plan, ms: &mut [u8], ss: &mut [u8]) -> Answer
+    ensures { λ r. ⌜ outcome (answered r) (length (now (table .exit))) (lent (now (table .exit)) (now (ms .exit)) (now (ss .exit))) ≡ planDone plan (now (table .entry)) (now (ms .entry)) (now (ss .entry)) ⌝ }
 {
     let host = turns::host_bit(plan);
     let value = line_value(table, host, ms, ss);
-    let deed = turns::deed_of(plan, value);
-    all_act(table, deed, ms, ss);
+    let task = turns::task_of(plan, value);
+    all_act(table, task, ms, ss);
     turns::answer_of(plan, value, table.len())
 }
 
@@ -87,5 +87,5 @@ pub fn take_event(table: &mut [Chip], e: Event, ms: &mut [u8], ss: &mut [u8]) ->
 {
     let look = look_over(table, e.chip);
     let plan = turns::plan_of(look, table.len(), e, ms.len(), ss.len());
-    carry_out(table, plan, ms, ss)
+    do_plan(table, plan, ms, ss)
 }

@@ -1,5 +1,5 @@
 // The search over a lent table: the host's machine puts one event a turn on the line.
-use crate::carry_out;
+use crate::do_plan;
 use crate::look_over;
 use chip::Chip;
 use line::Answer;
@@ -82,7 +82,7 @@ fn ask_line(table: &mut [Chip], ask: Ask, ms: &mut [u8], ss: &mut [u8]) -> Answe
     let chip = chip_of(ask);
     let look = look_over(table, chip);
     let plan = plan_ask(ask, look, table.len(), ms.len(), ss.len());
-    carry_out(table, plan, ms, ss)
+    do_plan(table, plan, ms, ss)
 }
 
 // So many turns of the host.

@@ -1,5 +1,5 @@
 -- Document 01, "Search": "The host knows the line by the answers to its events alone". The host of the search as a machine:
--- what it asks of the line next, and how it goes on by what it hears. `Run` has the law that it plays `searchHost`.
+-- what it asks of the line next, and how it goes on by what it hears. `Searches` has the law that it plays `searchHost`.
 use Prim.Native.Nat.{ℕ, _+_, _-_, _^_}
 use mathlib.Core.Bool.{Bool, true, false}
 use mathlib.Core.List.{List}

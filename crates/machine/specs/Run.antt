@@ -1,9 +1,7 @@
 -- A run of the machine on a wire, and what it shows.
-use Prim.Native.Nat.{ℕ, zero, suc, _+_, _-_, _<_, _≤_}
-use native.Mathlib.Omega.{arith}
+use Prim.Native.Nat.{ℕ, zero, suc, _+_}
 use mathlib.Core.Bool.{Bool, true}
 use mathlib.Core.List.{List, _++_}
-use mathlib.Core.Path.{_≡_, sym, _∙_, ap}
 use lib.ListN.{length, drop}
 use Rattle.line.specs.Event.{Answered, bit}
 use Rattle.search.specs.Host.{Wire, Played, Listed}
@@ -69,21 +67,3 @@ seenOf list p = record {
   slots = p .slots;
   line = p .line;
 }
-
--- a turn of a loop that runs n of them
-pub run-more : (W : Wire) (n i : ℕ) (m m′ : Machine) (list list′ : List ℕ) (l l′ : W .L) (x : Answered) → i < n
-    → x ≡ saysTo W (asksOf m) l → l′ ≡ leavesTo W (asksOf m) l → stand m′ list′ ≡ hearsOf m x list
-    → run W (n - i) m list l ≡ run W (n - (i + 1)) m′ list′ l′
-unfolding run
-run-more W n i m m′ list list′ l l′ x h ex el es =
-    let e : n - i ≡ suc (n - (i + 1)) = omega arith in
-    let f : stand m′ list′ ≡ hearsOf m (saysTo W (asksOf m) l) list = es ∙ ap (λ (y : Answered). hearsOf m y list) ex in
-    ap (λ (k : ℕ). run W k m list l) e
-    ∙ λ k. run W (n - (i + 1)) (sym f k .machine) (sym f k .list) (sym el k)
-
--- its end
-pub run-end : (W : Wire) (n i : ℕ) (m : Machine) (list : List ℕ) (l : W .L) → n ≤ i → run W (n - i) m list l ≡ ran m list l
-unfolding run
-run-end W n i m list l h =
-    let e : n - i ≡ 0 = omega arith in
-    rw e

@@ -5,7 +5,6 @@ mod table;
 
 use line::Table;
 pub use record::is_packed;
-pub use record::is_record;
 pub use record::pack;
 pub use record::put_record;
 pub use record::unpack;

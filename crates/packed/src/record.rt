@@ -7,7 +7,7 @@ use scratchpad::Registers;
 ghost use mathlib.Core.Path.{_≡_};
 ghost use Prim.Native.Nat.{_+_, _*_, _<_, _≤_};
 ghost use lib.ListN.{length, getD};
-ghost use Rattle.packed.specs.Packed.{numberAt, stepAt, packedWith, packed, unpacked, sameBytes, isRecord, putRecord};
+ghost use Rattle.packed.specs.Packed.{numberAt, stepAt, packedWith, packed, unpacked, sameBytes, putRecord};
 
 // The bytes of a chip's record, by the step that its level is.
 fn bytes_of(c: Chip, s: Step) -> [u8; 24]
@@ -168,14 +168,6 @@ pub fn is_packed(c: Chip, s: &[u8]) -> bool
 {
     let r = pack(c);
     same_bytes(&r, s)
-}
-
-// Bytes are a record.
-pub fn is_record(s: &[u8]) -> bool
-    ensures { λ r. ⌜ r ≡ isRecord (now (s .entry)) ⌝ }
-{
-    let c = unpack(s);
-    is_packed(c, s)
 }
 
 // A chip's record put in the first 24 bytes; where there are fewer, nothing is put.

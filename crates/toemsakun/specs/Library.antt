@@ -21,7 +21,7 @@ minus r = negℤ (pos r)
 unfoldable pub tableSize : ℕ → ℕ
 tableSize chips = capped chips * 24
 
--- "The bytes of images, and of scratchpads, to lend with a table; 0 for bytes that are no records, or over 16."
+-- "The bytes of images, and of scratchpads, to lend with a table; 0 where it has over 16 records, or bytes that are no records."
 unfoldable pub imagesBytes : List ℕ → ℕ
 imagesBytes bs = let cs = unpackedTable bs in pick (isTable bs) (imagesAsked (length cs) cs) 0
 

@@ -24,8 +24,8 @@ use Rattle.turns.specs.declared.Look.{Look}
 use Rattle.turns.specs.declared.Sum.{Sum}
 use Rattle.turns.specs.declared.Plan.{Plan}
 use Rattle.turns.specs.declared.Plan.the-variants as plan
-use Rattle.turns.specs.declared.Deed.{Deed}
-use Rattle.turns.specs.declared.Deed.the-variants as deed
+use Rattle.turns.specs.declared.Task.{Task}
+use Rattle.turns.specs.declared.Task.the-variants as task
 
 -- where a walk begins
 abbrev pub firstSpot : Spot
@@ -72,10 +72,10 @@ sums zero i cs s ms ss = s .value
 sums (suc k) i cs s ms ss = sums k (suc i) cs (sumAt (getD cs i noChip) s ms ss) ms ss
 
 -- what one chip does, with what it leaves of the buffers
-abbrev pub deedAt : Deed → Chip → Spot → List ℕ → List ℕ → Whole
-deedAt deed.Nothing c p ms ss = whole c ms ss
-deedAt (deed.Every a) c p ms ss = actAt (actOf a) c (p .image) (p .pad) ms ss
-deedAt (deed.Levels place levels) c p ms ss = whole (pick (eqb (p .place) place) (levelsChip levels c) c) ms ss
+abbrev pub taskAt : Task → Chip → Spot → List ℕ → List ℕ → Whole
+taskAt task.Nothing c p ms ss = whole c ms ss
+taskAt (task.Every a) c p ms ss = actAt (actOf a) c (p .image) (p .pad) ms ss
+taskAt (task.Levels place levels) c p ms ss = whole (pick (eqb (p .place) place) (levelsChip levels c) c) ms ss
 
 -- a turn: the chip, where the next one stands, and the buffers
 pub record Turn : Type 0 where
@@ -87,13 +87,13 @@ pub record Turn : Type 0 where
 abbrev pub turned : Chip → Spot → List ℕ → List ℕ → Turn
 turned c p ms ss = record { chip = c; spot = p; images = ms; pads = ss }
 
-unfoldable pub turnOf : Deed → Chip → Spot → List ℕ → List ℕ → Turn
+unfoldable pub turnOf : Task → Chip → Spot → List ℕ → List ℕ → Turn
 turnOf d c p ms ss =
-    let x = deedAt d c p ms ss in
+    let x = taskAt d c p ms ss in
     turned (x .chip) (spotAfter (c .kind) p) (x .memory) (x .pad)
 
 -- k chips from place i on
-abbrev pub acts : Deed → ℕ → ℕ → Spot → List Chip → List ℕ → List ℕ → Lent
+abbrev pub acts : Task → ℕ → ℕ → Spot → List Chip → List ℕ → List ℕ → Lent
 acts d zero i p cs ms ss = lent cs ms ss
 acts d (suc k) i p cs ms ss =
     let x = turnOf d (getD cs i noChip) p ms ss in
@@ -144,12 +144,12 @@ hostBit plan.Reset = true
 hostBit plan.PowerOn = true
 hostBit (plan.Levels place levels) = true
 
-abbrev pub deedOf : Plan → Bool → Deed
-deedOf (plan.Nothing a) v = deed.Nothing
-deedOf (plan.Slot b) v = deed.Every (act.Take v)
-deedOf plan.Reset v = deed.Every act.Reset
-deedOf plan.PowerOn v = deed.Every act.PowerOn
-deedOf (plan.Levels place levels) v = deed.Levels place levels
+abbrev pub taskOf : Plan → Bool → Task
+taskOf (plan.Nothing a) v = task.Nothing
+taskOf (plan.Slot b) v = task.Every (act.Take v)
+taskOf plan.Reset v = task.Every act.Reset
+taskOf plan.PowerOn v = task.Every act.PowerOn
+taskOf (plan.Levels place levels) v = task.Levels place levels
 
 abbrev pub answerOf : Plan → Bool → ℕ → Answer
 answerOf (plan.Nothing a) v n = a
@@ -158,12 +158,12 @@ answerOf plan.Reset v n = answer.Bit (eqb n 0)
 answerOf plan.PowerOn v n = answer.Bit true
 answerOf (plan.Levels place levels) v n = answer.Bit true
 
--- the value of the line while a plan is carried out
+-- the value of the line at a plan
 abbrev pub valueBy : Plan → List Chip → List ℕ → List ℕ → Bool
 valueBy p cs ms ss = sums (length cs) 0 cs (firstSum (hostBit p)) ms ss
 
--- a plan that is carried out
-unfoldable pub carriedOut : Plan → List Chip → List ℕ → List ℕ → Outcome
-carriedOut p cs ms ss =
+-- what a plan comes to
+unfoldable pub planDone : Plan → List Chip → List ℕ → List ℕ → Outcome
+planDone p cs ms ss =
     let v = valueBy p cs ms ss in
-    outcome (answered (answerOf p v (length cs))) (length cs) (acts (deedOf p v) (length cs) 0 firstSpot cs ms ss)
+    outcome (answered (answerOf p v (length cs))) (length cs) (acts (taskOf p v) (length cs) 0 firstSpot cs ms ss)

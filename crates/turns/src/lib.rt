@@ -8,7 +8,7 @@ use line::Standing;
 ghost use mathlib.Core.Path.{_≡_};
 ghost use Rattle.base.specs.Pick.{pick};
 ghost use Rattle.chip.specs.Chip.{whole, levelsChip};
-ghost use Rattle.turns.specs.Walk.{firstSpot, spotAfter, firstLook, lookAt, firstSum, sumAt, deedAt, turned, turnOf, standsBy, planLevels, planNumber, planBy, planOf, hostBit, deedOf, answerOf};
+ghost use Rattle.turns.specs.Walk.{firstSpot, spotAfter, firstLook, lookAt, firstSum, sumAt, taskAt, turned, turnOf, standsBy, planLevels, planNumber, planBy, planOf, hostBit, taskOf, answerOf};
 
 // Where the next chip of a walk stands: its number, and where its parts of the buffers begin.
 pub struct Spot {
@@ -43,7 +43,7 @@ pub enum Plan {
 }
 
 // What the chips do.
-pub enum Deed {
+pub enum Task {
     Nothing,
     Every(Act),
     // new outside levels of one chip
@@ -160,21 +160,21 @@ pub fn levels_if(named: bool, c: Chip, levels: u8) -> Chip
 }
 
 // What one chip does.
-pub fn deed_at(c: Chip, p: Spot, deed: Deed, ms: &mut [u8], ss: &mut [u8]) -> Chip
-    ensures { λ r. ⌜ whole r (now (ms .exit)) (now (ss .exit)) ≡ deedAt deed c p (now (ms .entry)) (now (ss .entry)) ⌝ }
+pub fn task_at(c: Chip, p: Spot, task: Task, ms: &mut [u8], ss: &mut [u8]) -> Chip
+    ensures { λ r. ⌜ whole r (now (ms .exit)) (now (ss .exit)) ≡ taskAt task c p (now (ms .entry)) (now (ss .entry)) ⌝ }
 {
-    match deed {
-        Deed::Nothing => c,
-        Deed::Every(act) => line::act_at(c, act, p.image, p.pad, ms, ss),
-        Deed::Levels { place, levels } => levels_if(p.place == place, c, levels),
+    match task {
+        Task::Nothing => c,
+        Task::Every(act) => line::act_at(c, act, p.image, p.pad, ms, ss),
+        Task::Levels { place, levels } => levels_if(p.place == place, c, levels),
     }
 }
 
 // A turn: one chip, and on to the next.
-pub fn act_turn(c: Chip, p: Spot, deed: Deed, ms: &mut [u8], ss: &mut [u8]) -> Turned
-    ensures { λ r. ⌜ turned (r .chip) (r .spot) (now (ms .exit)) (now (ss .exit)) ≡ turnOf deed c p (now (ms .entry)) (now (ss .entry)) ⌝ }
+pub fn act_turn(c: Chip, p: Spot, task: Task, ms: &mut [u8], ss: &mut [u8]) -> Turned
+    ensures { λ r. ⌜ turned (r .chip) (r .spot) (now (ms .exit)) (now (ss .exit)) ≡ turnOf task c p (now (ms .entry)) (now (ss .entry)) ⌝ }
 {
-    let after = deed_at(c, p, deed, ms, ss);
+    let after = task_at(c, p, task, ms, ss);
     let spot = spot_after(p, c.kind);
     Turned {
         chip: after,
@@ -279,15 +279,15 @@ pub fn host_bit(plan: Plan) -> bool
 }
 
 // What the chips do, once the value of the line is known.
-pub fn deed_of(plan: Plan, value: bool) -> Deed
-    ensures { λ r. ⌜ r ≡ deedOf plan value ⌝ }
+pub fn task_of(plan: Plan, value: bool) -> Task
+    ensures { λ r. ⌜ r ≡ taskOf plan value ⌝ }
 {
     match plan {
-        Plan::Nothing(_) => Deed::Nothing,
-        Plan::Slot(_) => Deed::Every(Act::Take(value)),
-        Plan::Reset => Deed::Every(Act::Reset),
-        Plan::PowerOn => Deed::Every(Act::PowerOn),
-        Plan::Levels { place, levels } => Deed::Levels {
+        Plan::Nothing(_) => Task::Nothing,
+        Plan::Slot(_) => Task::Every(Act::Take(value)),
+        Plan::Reset => Task::Every(Act::Reset),
+        Plan::PowerOn => Task::Every(Act::PowerOn),
+        Plan::Levels { place, levels } => Task::Levels {
             place: place,
             levels: levels,
         },

@@ -49,8 +49,8 @@ use denote.Triple.Walked.{says, Stays, stay-slice, stay-none, walkOf, goes-none,
 use denote.Triple.Clauses.{ensured, Lasts, lasts}
 use denote.Exit.{yes}
 use Rattle.chip.specs.declared.Chip.{Chip}
-use Rattle.turns.specs.declared.Deed.{Deed}
 use Rattle.turns.specs.declared.Spot.{Spot}
+use Rattle.turns.specs.declared.Task.{Task}
 use Rattle.turns.specs.declared.Turned.{Turned}
 use Rattle.turns.specs.Walk.{Turn, turned, turnOf, firstSpot, acts}
 use Rattle.line.specs.Event.{noChip}
@@ -59,10 +59,10 @@ use Rattle.lent.proofs.Again.{LentAgain, lends-at, back-at}
 use Rattle.lent.proofs.Rows.{holds, fails}
 use Rattle.chip.proofs.Chip as Chip-row
 use Rattle.chip.proofs.Chip.Laws as Chip-laws
-use Rattle.turns.proofs.Deed as Deed-row
-use Rattle.turns.proofs.Deed.Laws as Deed-laws
 use Rattle.turns.proofs.Spot as Spot-row
 use Rattle.turns.proofs.Spot.Laws as Spot-laws
+use Rattle.turns.proofs.Task as Task-row
+use Rattle.turns.proofs.Task.Laws as Task-laws
 use Rattle.turns.proofs.Turned as Turned-row
 use Rattle.turns.proofs.Turned.Laws as Turned-laws
 use Rattle.turns.proofs.first_spot as turns-first-spot′
@@ -99,7 +99,7 @@ over : (i n : ℕ) → i + zero ≡ n → i < n → ⊥
 over i n e l = omega (arith, e, l)
 
 abbrev stayed : Stays (f.ended .signature .params) (f.ended .kept)
-stayed = (stay-slice (0 ∷ []) tt (plain (λ _. Chip-row.the-row)), (stay-none (λ _. Deed-row.the-row) yes, (stay-slice (1 ∷ []) tt (plain (λ _. u8)), (stay-slice (2 ∷ []) tt (plain (λ _. u8)), tt))))
+stayed = (stay-slice (0 ∷ []) tt (plain (λ _. Chip-row.the-row)), (stay-none (λ _. Task-row.the-row) yes, (stay-slice (1 ∷ []) tt (plain (λ _. u8)), (stay-slice (2 ∷ []) tt (plain (λ _. u8)), tt))))
 
 abbrev turns-first-spot-says : {M : Type 1} (𝓤 : URA M) (H : Heap 𝓤) (A : Atoms 𝓤) (at-mem : Memory → SProp 𝓤) (run : Routine → Fun 𝓤) → Contract 𝓤
 turns-first-spot-says 𝓤 H A at-mem run = tripleOf 𝓤 H A turns-first-spot′.signature (turns-first-spot′.spec 𝓤 H A at-mem run)
@@ -107,13 +107,13 @@ turns-first-spot-says 𝓤 H A at-mem run = tripleOf 𝓤 H A turns-first-spot�
 abbrev turns-act-turn-says : {M : Type 1} (𝓤 : URA M) (H : Heap 𝓤) (A : Atoms 𝓤) (at-mem : Memory → SProp 𝓤) (run : Routine → Fun 𝓤) → Contract 𝓤
 turns-act-turn-says 𝓤 H A at-mem run = tripleOf 𝓤 H A turns-act-turn′.signature (turns-act-turn′.spec 𝓤 H A at-mem run)
 
-module _ {M : Type 1} (𝓤 : URA M) (H : Heap 𝓤) (A : Atoms 𝓤) (W : Given 𝓤 H A) (at-mem : Memory → SProp 𝓤) (run : Routine → Fun 𝓤) (κ-table : Lft) (q-table : Share) (κ-ms : Lft) (q-ms : Share) (κ-ss : Lft) (q-ss : Share) (table-b table-o : ℕ) (table-γ : GName) (table : List Chip) (table-room : Room Chip-row.the-row (length table)) (deed : Deed) (deed-is : Is Deed-row.the-row deed ((EL.vals Deed-row.the-type Deed-laws.the-laws) deed)) (ms-b ms-o : ℕ) (ms-γ : GName) (ms : List ℕ) (ms-room : Room u8 (length ms)) (ss-b ss-o : ℕ) (ss-γ : GName) (ss : List ℕ) (ss-room : Room u8 (length ss)) where
+module _ {M : Type 1} (𝓤 : URA M) (H : Heap 𝓤) (A : Atoms 𝓤) (W : Given 𝓤 H A) (at-mem : Memory → SProp 𝓤) (run : Routine → Fun 𝓤) (κ-table : Lft) (q-table : Share) (κ-ms : Lft) (q-ms : Share) (κ-ss : Lft) (q-ss : Share) (table-b table-o : ℕ) (table-γ : GName) (table : List Chip) (table-room : Room Chip-row.the-row (length table)) (task : Task) (task-is : Is Task-row.the-row task ((EL.vals Task-row.the-type Task-laws.the-laws) task)) (ms-b ms-o : ℕ) (ms-γ : GName) (ms : List ℕ) (ms-room : Room u8 (length ms)) (ss-b ss-o : ℕ) (ss-γ : GName) (ss : List ℕ) (ss-room : Room u8 (length ss)) where
   abbrev Post : Val → SProp 𝓤
-  Post = walkOf 𝓤 H A f.ended stayed (f.clauses 𝓤 H A at-mem run) .post (((κ-table, (κ-ms, (κ-ss, tt))), (q-table, (q-ms, (q-ss, tt))), tt, ((record { ptr = (table-b, table-o); name = table-γ; now = table }), (deed, ((record { ptr = (ms-b, ms-o); name = ms-γ; now = ms }), ((record { ptr = (ss-b, ss-o); name = ss-γ; now = ss }), tt)))), ((sliceVal (table-b, table-o) (length table)) ∷ [], (((EL.vals Deed-row.the-type Deed-laws.the-laws) deed), ((sliceVal (ms-b, ms-o) (length ms)) ∷ [], ((sliceVal (ss-b, ss-o) (length ss)) ∷ [], tt))))), tt)
+  Post = walkOf 𝓤 H A f.ended stayed (f.clauses 𝓤 H A at-mem run) .post (((κ-table, (κ-ms, (κ-ss, tt))), (q-table, (q-ms, (q-ss, tt))), tt, ((record { ptr = (table-b, table-o); name = table-γ; now = table }), (task, ((record { ptr = (ms-b, ms-o); name = ms-γ; now = ms }), ((record { ptr = (ss-b, ss-o); name = ss-γ; now = ss }), tt)))), ((sliceVal (table-b, table-o) (length table)) ∷ [], (((EL.vals Task-row.the-type Task-laws.the-laws) task), ((sliceVal (ms-b, ms-o) (length ms)) ∷ [], ((sliceVal (ss-b, ss-o) (length ss)) ∷ [], tt))))), tt)
 
-  exits : (r : (Unit {0})) (r-is : Is unit r (nothing-vals r)) (table′ : List Chip) (table-len : length table′ ≡ length table) (ms′ : List ℕ) (ms-len : length ms′ ≡ length ms) (ss′ : List ℕ) (ss-len : length ss′ ≡ length ss) → (lent table′ ms′ ss′ ≡ acts deed (length table) 0 firstSpot table ms ss) → ent 𝓤 (⋆ 𝓤 H A (‵ (MutSlice (named 0) κ-table Chip-row.the-row .own (record { ptr = (table-b, table-o); name = table-γ; now = table′ }) ((sliceVal (table-b, table-o) (length table)) ∷ [])) ∷ ‵ (flft κ-table q-table) ∷ ‵ (MutSlice (named 1) κ-ms u8 .own (record { ptr = (ms-b, ms-o); name = ms-γ; now = ms′ }) ((sliceVal (ms-b, ms-o) (length ms)) ∷ [])) ∷ ‵ (flft κ-ms q-ms) ∷ ‵ (MutSlice (named 2) κ-ss u8 .own (record { ptr = (ss-b, ss-o); name = ss-γ; now = ss′ }) ((sliceVal (ss-b, ss-o) (length ss)) ∷ [])) ∷ ‵ (flft κ-ss q-ss) ∷ [])) (Post vunit)
+  exits : (r : (Unit {0})) (r-is : Is unit r (nothing-vals r)) (table′ : List Chip) (table-len : length table′ ≡ length table) (ms′ : List ℕ) (ms-len : length ms′ ≡ length ms) (ss′ : List ℕ) (ss-len : length ss′ ≡ length ss) → (lent table′ ms′ ss′ ≡ acts task (length table) 0 firstSpot table ms ss) → ent 𝓤 (⋆ 𝓤 H A (‵ (MutSlice (named 0) κ-table Chip-row.the-row .own (record { ptr = (table-b, table-o); name = table-γ; now = table′ }) ((sliceVal (table-b, table-o) (length table)) ∷ [])) ∷ ‵ (flft κ-table q-table) ∷ ‵ (MutSlice (named 1) κ-ms u8 .own (record { ptr = (ms-b, ms-o); name = ms-γ; now = ms′ }) ((sliceVal (ms-b, ms-o) (length ms)) ∷ [])) ∷ ‵ (flft κ-ms q-ms) ∷ ‵ (MutSlice (named 2) κ-ss u8 .own (record { ptr = (ss-b, ss-o); name = ss-γ; now = ss′ }) ((sliceVal (ss-b, ss-o) (length ss)) ∷ [])) ∷ ‵ (flft κ-ss q-ss) ∷ [])) (Post vunit)
   exits r r-is table′ table-len ms′ ms-len ss′ ss-len e =
-      qed W (‵ (MutSlice (named 0) κ-table Chip-row.the-row .own (record { ptr = (table-b, table-o); name = table-γ; now = table′ }) ((sliceVal (table-b, table-o) (length table)) ∷ [])) ∷ ‵ (flft κ-table q-table) ∷ ‵ (MutSlice (named 1) κ-ms u8 .own (record { ptr = (ms-b, ms-o); name = ms-γ; now = ms′ }) ((sliceVal (ms-b, ms-o) (length ms)) ∷ [])) ∷ ‵ (flft κ-ms q-ms) ∷ ‵ (MutSlice (named 2) κ-ss u8 .own (record { ptr = (ss-b, ss-o); name = ss-γ; now = ss′ }) ((sliceVal (ss-b, ss-o) (length ss)) ∷ [])) ∷ ‵ (flft κ-ss q-ss) ∷ []) ∵ suffices ! _ (ends-at 𝓤 H A f.ended stayed (f.clauses 𝓤 H A at-mem run) W (((κ-table, (κ-ms, (κ-ss, tt))), (q-table, (q-ms, (q-ss, tt))), tt, ((record { ptr = (table-b, table-o); name = table-γ; now = table }), (deed, ((record { ptr = (ms-b, ms-o); name = ms-γ; now = ms }), ((record { ptr = (ss-b, ss-o); name = ss-γ; now = ss }), tt)))), ((sliceVal (table-b, table-o) (length table)) ∷ [], (((EL.vals Deed-row.the-type Deed-laws.the-laws) deed), ((sliceVal (ms-b, ms-o) (length ms)) ∷ [], ((sliceVal (ss-b, ss-o) (length ss)) ∷ [], tt))))), tt) vunit r (table′, (_, (ms′, (ss′, tt)))) (table-len, (tt, (ms-len, (ss-len, tt))))) $ says ! e $ nothing ! $ move ! (6 ∷ 0 ∷ []) $ join ! $ move ! (4 ∷ 0 ∷ []) $ join ! $ move ! (2 ∷ 0 ∷ []) $ join ! $ frame ! $ nothing ! $ move ! (3 ∷ 0 ∷ []) $ fjoin ! $ move ! (2 ∷ 0 ∷ []) $ fjoin ! $ owned ! Deed-row.the-row (Is Deed-row.the-row) (EL.makes Deed-row.the-type Deed-laws.the-plain 𝓤 H A) deed _ deed-is $ fjoin ! $ move ! (1 ∷ 0 ∷ []) $ fjoin ! $ frame ! $ owned ! unit (Is unit) (nothing-makes 𝓤 H A W) r _ r-is $ done !
+      qed W (‵ (MutSlice (named 0) κ-table Chip-row.the-row .own (record { ptr = (table-b, table-o); name = table-γ; now = table′ }) ((sliceVal (table-b, table-o) (length table)) ∷ [])) ∷ ‵ (flft κ-table q-table) ∷ ‵ (MutSlice (named 1) κ-ms u8 .own (record { ptr = (ms-b, ms-o); name = ms-γ; now = ms′ }) ((sliceVal (ms-b, ms-o) (length ms)) ∷ [])) ∷ ‵ (flft κ-ms q-ms) ∷ ‵ (MutSlice (named 2) κ-ss u8 .own (record { ptr = (ss-b, ss-o); name = ss-γ; now = ss′ }) ((sliceVal (ss-b, ss-o) (length ss)) ∷ [])) ∷ ‵ (flft κ-ss q-ss) ∷ []) ∵ suffices ! _ (ends-at 𝓤 H A f.ended stayed (f.clauses 𝓤 H A at-mem run) W (((κ-table, (κ-ms, (κ-ss, tt))), (q-table, (q-ms, (q-ss, tt))), tt, ((record { ptr = (table-b, table-o); name = table-γ; now = table }), (task, ((record { ptr = (ms-b, ms-o); name = ms-γ; now = ms }), ((record { ptr = (ss-b, ss-o); name = ss-γ; now = ss }), tt)))), ((sliceVal (table-b, table-o) (length table)) ∷ [], (((EL.vals Task-row.the-type Task-laws.the-laws) task), ((sliceVal (ms-b, ms-o) (length ms)) ∷ [], ((sliceVal (ss-b, ss-o) (length ss)) ∷ [], tt))))), tt) vunit r (table′, (_, (ms′, (ss′, tt)))) (table-len, (tt, (ms-len, (ss-len, tt))))) $ says ! e $ nothing ! $ move ! (6 ∷ 0 ∷ []) $ join ! $ move ! (4 ∷ 0 ∷ []) $ join ! $ move ! (2 ∷ 0 ∷ []) $ join ! $ frame ! $ nothing ! $ move ! (3 ∷ 0 ∷ []) $ fjoin ! $ move ! (2 ∷ 0 ∷ []) $ fjoin ! $ owned ! Task-row.the-row (Is Task-row.the-row) (EL.makes Task-row.the-type Task-laws.the-plain 𝓤 H A) task _ task-is $ fjoin ! $ move ! (1 ∷ 0 ∷ []) $ fjoin ! $ frame ! $ owned ! unit (Is unit) (nothing-makes 𝓤 H A W) r _ r-is $ done !
 
   module _ (𝓣 : Tables 𝓤 H) (known-turns-first-spot : Triple 𝓤 (𝓣 .C #turns-first-spot) (turns-first-spot-says 𝓤 H A at-mem run)) (known-turns-act-turn : Triple 𝓤 (𝓣 .C #turns-act-turn) (turns-act-turn-says 𝓤 H A at-mem run)) (l₀ l₁ l₂ l₃ l₄ l₅ l₆ l₇ l₈ l₉ l₁₀ l₁₁ l₁₂ l₁₃ l₁₄ l₁₅ l₁₆ : ℕ) where
     abbrev C : Calls 𝓤 H
@@ -126,11 +126,11 @@ module _ {M : Type 1} (𝓤 : URA M) (H : Heap 𝓤) (A : Atoms 𝓤) (W : Given
     fm = fmOf 𝓤 H (W .laws) 𝓣
 
     abbrev En : Env 𝓤 H
-    En = (tyUnit, l₀) ∷ ((sliceTy (tyRef (named 0) mut (pointee (Chip-row.the-row .written)))), l₁) ∷ (Deed-laws.mir, l₂) ∷ ((sliceTy (tyRef (named 1) mut (tyInt w8))), l₃) ∷ ((sliceTy (tyRef (named 2) mut (tyInt w8))), l₄) ∷ (Spot-laws.mir, l₅) ∷ ((tyInt w64), l₆) ∷ (Turned-laws.mir, l₇) ∷ ((tyInt w64), l₈) ∷ (tyBool, l₉) ∷ (tyPtr, l₁₀) ∷ (Chip-laws.mir, l₁₁) ∷ ((tyRef erased mut (tyInt w8)), l₁₂) ∷ ((sliceTy (tyRef erased mut (tyInt w8))), l₁₃) ∷ ((tyRef erased mut (tyInt w8)), l₁₄) ∷ ((sliceTy (tyRef erased mut (tyInt w8))), l₁₅) ∷ (tyPtr, l₁₆) ∷ []
+    En = (tyUnit, l₀) ∷ ((sliceTy (tyRef (named 0) mut (pointee (Chip-row.the-row .written)))), l₁) ∷ (Task-laws.mir, l₂) ∷ ((sliceTy (tyRef (named 1) mut (tyInt w8))), l₃) ∷ ((sliceTy (tyRef (named 2) mut (tyInt w8))), l₄) ∷ (Spot-laws.mir, l₅) ∷ ((tyInt w64), l₆) ∷ (Turned-laws.mir, l₇) ∷ ((tyInt w64), l₈) ∷ (tyBool, l₉) ∷ (tyPtr, l₁₀) ∷ (Chip-laws.mir, l₁₁) ∷ ((tyRef erased mut (tyInt w8)), l₁₂) ∷ ((sliceTy (tyRef erased mut (tyInt w8))), l₁₃) ∷ ((tyRef erased mut (tyInt w8)), l₁₄) ∷ ((sliceTy (tyRef erased mut (tyInt w8))), l₁₅) ∷ (tyPtr, l₁₆) ∷ []
 
     -- where a turn begins: the index is i
     abbrev At : (i : ℕ) (table′ : List Chip) (spot : Spot) (ms′ : List ℕ) (ss′ : List ℕ) → List (Item 𝓤)
-    At i table′ spot ms′ ss′ = ‵ (row Chip-row.the-row fullShare table′ table-b table-o) ∷ ‵ (fobor κ-table q-table (Held Chip-row.the-row (length table) table-b table-o table-γ)) ∷ ‵ (fobs table-γ (codedHoleys Chip-row.the-row .code (heres Chip-row.the-row table))) ∷ ‵ (fauth table-γ (codedHoleys Chip-row.the-row .code (heres Chip-row.the-row table))) ∷ ‵ (flft κ-ss q-ss) ∷ ‵ (flft κ-ms q-ms) ∷ ‵ (MutSlice (named 2) κ-ss u8 .own (record { ptr = (ss-b, ss-o); name = ss-γ; now = ss′ }) ((sliceVal (ss-b, ss-o) (length ss)) ∷ [])) ∷ ‵ (MutSlice (named 1) κ-ms u8 .own (record { ptr = (ms-b, ms-o); name = ms-γ; now = ms′ }) ((sliceVal (ms-b, ms-o) (length ms)) ∷ [])) ∷ ‵ (froom tyPtr l₁₆ 0) ∷ ‵ (fdies tyPtr l₁₆) ∷ ‵ (froom (sliceTy (tyRef erased mut (tyInt w8))) l₁₅ 0) ∷ ‵ (fdies (sliceTy (tyRef erased mut (tyInt w8))) l₁₅) ∷ ‵ (froom (tyRef erased mut (tyInt w8)) l₁₄ 0) ∷ ‵ (fdies (tyRef erased mut (tyInt w8)) l₁₄) ∷ ‵ (froom (sliceTy (tyRef erased mut (tyInt w8))) l₁₃ 0) ∷ ‵ (fdies (sliceTy (tyRef erased mut (tyInt w8))) l₁₃) ∷ ‵ (froom (tyRef erased mut (tyInt w8)) l₁₂ 0) ∷ ‵ (fdies (tyRef erased mut (tyInt w8)) l₁₂) ∷ ‵ (froom Chip-laws.mir l₁₁ 0) ∷ ‵ (fdies Chip-laws.mir l₁₁) ∷ ‵ (froom tyPtr l₁₀ 0) ∷ ‵ (fdies tyPtr l₁₀) ∷ ‵ (froom tyBool l₉ 0) ∷ ‵ (fdies tyBool l₉) ∷ ‵ (froom (tyInt w64) l₈ 0) ∷ ‵ (fdies (tyInt w64) l₈) ∷ ‵ (froom Turned-laws.mir l₇ 0) ∷ ‵ (fdies Turned-laws.mir l₇) ∷ ‵ (fat fullShare (tyInt w64) l₆ 0 (vint w64 i)) ∷ ‵ (fdies (tyInt w64) l₆) ∷ ‵ (fat fullShare Spot-laws.mir l₅ 0 (LL.val Spot-row.the-type Spot-laws.the-laws spot)) ∷ ‵ (fdies Spot-laws.mir l₅) ∷ ‵ (fat fullShare (sliceTy (tyRef (named 2) mut (tyInt w8))) l₄ 0 (sliceVal (ss-b, ss-o) (length ss))) ∷ ‵ (fdies (sliceTy (tyRef (named 2) mut (tyInt w8))) l₄) ∷ ‵ (fat fullShare (sliceTy (tyRef (named 1) mut (tyInt w8))) l₃ 0 (sliceVal (ms-b, ms-o) (length ms))) ∷ ‵ (fdies (sliceTy (tyRef (named 1) mut (tyInt w8))) l₃) ∷ ‵ (fat fullShare Deed-laws.mir l₂ 0 (EL.val Deed-row.the-type Deed-laws.the-laws deed)) ∷ ‵ (fdies Deed-laws.mir l₂) ∷ ‵ (fat fullShare (sliceTy (tyRef (named 0) mut (pointee (Chip-row.the-row .written)))) l₁ 0 (sliceVal (table-b, table-o) (length table))) ∷ ‵ (fdies (sliceTy (tyRef (named 0) mut (pointee (Chip-row.the-row .written)))) l₁) ∷ ‵ (froom tyUnit l₀ 0) ∷ ‵ (fdies tyUnit l₀) ∷ []
+    At i table′ spot ms′ ss′ = ‵ (row Chip-row.the-row fullShare table′ table-b table-o) ∷ ‵ (fobor κ-table q-table (Held Chip-row.the-row (length table) table-b table-o table-γ)) ∷ ‵ (fobs table-γ (codedHoleys Chip-row.the-row .code (heres Chip-row.the-row table))) ∷ ‵ (fauth table-γ (codedHoleys Chip-row.the-row .code (heres Chip-row.the-row table))) ∷ ‵ (flft κ-ss q-ss) ∷ ‵ (flft κ-ms q-ms) ∷ ‵ (MutSlice (named 2) κ-ss u8 .own (record { ptr = (ss-b, ss-o); name = ss-γ; now = ss′ }) ((sliceVal (ss-b, ss-o) (length ss)) ∷ [])) ∷ ‵ (MutSlice (named 1) κ-ms u8 .own (record { ptr = (ms-b, ms-o); name = ms-γ; now = ms′ }) ((sliceVal (ms-b, ms-o) (length ms)) ∷ [])) ∷ ‵ (froom tyPtr l₁₆ 0) ∷ ‵ (fdies tyPtr l₁₆) ∷ ‵ (froom (sliceTy (tyRef erased mut (tyInt w8))) l₁₅ 0) ∷ ‵ (fdies (sliceTy (tyRef erased mut (tyInt w8))) l₁₅) ∷ ‵ (froom (tyRef erased mut (tyInt w8)) l₁₄ 0) ∷ ‵ (fdies (tyRef erased mut (tyInt w8)) l₁₄) ∷ ‵ (froom (sliceTy (tyRef erased mut (tyInt w8))) l₁₃ 0) ∷ ‵ (fdies (sliceTy (tyRef erased mut (tyInt w8))) l₁₃) ∷ ‵ (froom (tyRef erased mut (tyInt w8)) l₁₂ 0) ∷ ‵ (fdies (tyRef erased mut (tyInt w8)) l₁₂) ∷ ‵ (froom Chip-laws.mir l₁₁ 0) ∷ ‵ (fdies Chip-laws.mir l₁₁) ∷ ‵ (froom tyPtr l₁₀ 0) ∷ ‵ (fdies tyPtr l₁₀) ∷ ‵ (froom tyBool l₉ 0) ∷ ‵ (fdies tyBool l₉) ∷ ‵ (froom (tyInt w64) l₈ 0) ∷ ‵ (fdies (tyInt w64) l₈) ∷ ‵ (froom Turned-laws.mir l₇ 0) ∷ ‵ (fdies Turned-laws.mir l₇) ∷ ‵ (fat fullShare (tyInt w64) l₆ 0 (vint w64 i)) ∷ ‵ (fdies (tyInt w64) l₆) ∷ ‵ (fat fullShare Spot-laws.mir l₅ 0 (LL.val Spot-row.the-type Spot-laws.the-laws spot)) ∷ ‵ (fdies Spot-laws.mir l₅) ∷ ‵ (fat fullShare (sliceTy (tyRef (named 2) mut (tyInt w8))) l₄ 0 (sliceVal (ss-b, ss-o) (length ss))) ∷ ‵ (fdies (sliceTy (tyRef (named 2) mut (tyInt w8))) l₄) ∷ ‵ (fat fullShare (sliceTy (tyRef (named 1) mut (tyInt w8))) l₃ 0 (sliceVal (ms-b, ms-o) (length ms))) ∷ ‵ (fdies (sliceTy (tyRef (named 1) mut (tyInt w8))) l₃) ∷ ‵ (fat fullShare Task-laws.mir l₂ 0 (EL.val Task-row.the-type Task-laws.the-laws task)) ∷ ‵ (fdies Task-laws.mir l₂) ∷ ‵ (fat fullShare (sliceTy (tyRef (named 0) mut (pointee (Chip-row.the-row .written)))) l₁ 0 (sliceVal (table-b, table-o) (length table))) ∷ ‵ (fdies (sliceTy (tyRef (named 0) mut (pointee (Chip-row.the-row .written)))) l₁) ∷ ‵ (froom tyUnit l₀ 0) ∷ ‵ (fdies tyUnit l₀) ∷ []
 
     -- when the loop is left, the rest of the body runs
     abbrev Left : Out → SProp 𝓤
@@ -140,7 +140,7 @@ module _ {M : Type 1} (𝓤 : URA M) (H : Heap 𝓤) (A : Atoms 𝓤) (W : Given
     Again = Wp 𝓤 H C Λ En mir.turn-1 (afterTurn 𝓤 H (Λ mir.turn-1 En Left) Left)
 
     -- the turn that leaves the loop, and the rest of the body
-    ends : (i : ℕ) (table′ : List Chip) (spot : Spot) (ms′ : List ℕ) (ss′ : List ℕ) (table-len : length table′ ≡ length table) (spot-is : Is Spot-row.the-row spot ((LL.vals Spot-row.the-type Spot-laws.the-laws) spot)) (ms-len : length ms′ ≡ length ms) (ss-len : length ss′ ≡ length ss) → i + zero ≡ (length table) → (acts deed zero i spot table′ ms′ ss′ ≡ acts deed (length table) 0 firstSpot table ms ss) → ent 𝓤 (⋆ 𝓤 H A (At i table′ spot ms′ ss′)) Again
+    ends : (i : ℕ) (table′ : List Chip) (spot : Spot) (ms′ : List ℕ) (ss′ : List ℕ) (table-len : length table′ ≡ length table) (spot-is : Is Spot-row.the-row spot ((LL.vals Spot-row.the-type Spot-laws.the-laws) spot)) (ms-len : length ms′ ≡ length ms) (ss-len : length ss′ ≡ length ss) → i + zero ≡ (length table) → (acts task zero i spot table′ ms′ ss′ ≡ acts task (length table) 0 firstSpot table ms ss) → ent 𝓤 (⋆ 𝓤 H A (At i table′ spot ms′ ss′)) Again
     unfolding afterTurn
     ends i table′ spot ms′ ss′ table-len spot-is ms-len ss-len left inv =
         qed W (At i table′ spot ms′ ss′) ∵ exec ! C Λ En mir.turn-1 (anyQ (afterTurn 𝓤 H (Λ mir.turn-1 En Left) Left)) $
@@ -157,7 +157,7 @@ module _ {M : Type 1} (𝓤 : URA M) (H : Heap 𝓤) (A : Atoms 𝓤) (W : Given
         by ! (exits tt refl table′ table-len ms′ ms-len ss′ ss-len (inv))
 
     -- a turn: what is to run next is shown of what it leaves
-    more : (k i : ℕ) (table′ : List Chip) (spot : Spot) (ms′ : List ℕ) (ss′ : List ℕ) (table-len : length table′ ≡ length table) (spot-is : Is Spot-row.the-row spot ((LL.vals Spot-row.the-type Spot-laws.the-laws) spot)) (ms-len : length ms′ ≡ length ms) (ss-len : length ss′ ≡ length ss) → i < (length table) → (acts deed (suc k) i spot table′ ms′ ss′ ≡ acts deed (length table) 0 firstSpot table ms ss) → ((table′ : List Chip) (spot : Spot) (ms′ : List ℕ) (ss′ : List ℕ) (table-len : length table′ ≡ length table) (spot-is : Is Spot-row.the-row spot ((LL.vals Spot-row.the-type Spot-laws.the-laws) spot)) (ms-len : length ms′ ≡ length ms) (ss-len : length ss′ ≡ length ss) → (acts deed k (suc i) spot table′ ms′ ss′ ≡ acts deed (length table) 0 firstSpot table ms ss) → ent 𝓤 (⋆ 𝓤 H A (At (suc i) table′ spot ms′ ss′)) (Λ mir.turn-1 En Left)) → ent 𝓤 (⋆ 𝓤 H A (At i table′ spot ms′ ss′)) Again
+    more : (k i : ℕ) (table′ : List Chip) (spot : Spot) (ms′ : List ℕ) (ss′ : List ℕ) (table-len : length table′ ≡ length table) (spot-is : Is Spot-row.the-row spot ((LL.vals Spot-row.the-type Spot-laws.the-laws) spot)) (ms-len : length ms′ ≡ length ms) (ss-len : length ss′ ≡ length ss) → i < (length table) → (acts task (suc k) i spot table′ ms′ ss′ ≡ acts task (length table) 0 firstSpot table ms ss) → ((table′ : List Chip) (spot : Spot) (ms′ : List ℕ) (ss′ : List ℕ) (table-len : length table′ ≡ length table) (spot-is : Is Spot-row.the-row spot ((LL.vals Spot-row.the-type Spot-laws.the-laws) spot)) (ms-len : length ms′ ≡ length ms) (ss-len : length ss′ ≡ length ss) → (acts task k (suc i) spot table′ ms′ ss′ ≡ acts task (length table) 0 firstSpot table ms ss) → ent 𝓤 (⋆ 𝓤 H A (At (suc i) table′ spot ms′ ss′)) (Λ mir.turn-1 En Left)) → ent 𝓤 (⋆ 𝓤 H A (At i table′ spot ms′ ss′)) Again
     unfolding afterTurn
     more k i table′ spot ms′ ss′ table-len spot-is ms-len ss-len small inv next =
         qed W (At i table′ spot ms′ ss′) ∵ exec ! C Λ En mir.turn-1 (anyQ (afterTurn 𝓤 H (Λ mir.turn-1 En Left) Left)) $
@@ -179,15 +179,15 @@ module _ {M : Type 1} (𝓤 : URA M) (H : Heap 𝓤) (A : Atoms 𝓤) (W : Given
         lft-new ! tt (λ ν-ss. move ! (10 ∷ 9 ∷ []) $
         use2 W (later (some (λ (δ-ss : GName). ‵ (MutSlice (named 1) (ν-ss ∷ []) u8 .own (record { ptr = (ss-b, ss-o); name = δ-ss; now = ss′ }) ((sliceVal (ss-b, ss-o) (length ss)) ∷ [])) ⊛ ‵ (LentAgain u8 κ-ss (ν-ss ∷ []) q-ss ss-γ ss-b ss-o δ-ss ss′)))) (lends-at u8 κ-ss (ν-ss ∷ []) q-ss ss-γ ss-b ss-o 𝓤 H A W (named 2) (named 1) ss′ (length ss) ss-len) $ await ! tt $ pick ! (λ δ-ss. split ! $
         nothing ! $ move ! (1 ∷ 0 ∷ []) $ fjoin ! $ move ! (3 ∷ 0 ∷ []) $ fjoin ! $
-        owned ! Deed-row.the-row (Is Deed-row.the-row) (EL.makes Deed-row.the-type Deed-laws.the-plain 𝓤 H A) deed ((EL.vals Deed-row.the-type Deed-laws.the-laws) deed) deed-is $ fjoin ! $
+        owned ! Task-row.the-row (Is Task-row.the-row) (EL.makes Task-row.the-type Task-laws.the-plain 𝓤 H A) task ((EL.vals Task-row.the-type Task-laws.the-laws) task) task-is $ fjoin ! $
         owned ! Spot-row.the-row (Is Spot-row.the-row) (LL.makes Spot-row.the-type Spot-laws.the-plain 𝓤 H A) spot ((LL.vals Spot-row.the-type Spot-laws.the-laws) spot) spot-is $ fjoin ! $
         owned ! Chip-row.the-row (Is Chip-row.the-row) (LL.makes Chip-row.the-type Chip-laws.the-plain 𝓤 H A) (getD table′ i noChip) ((LL.vals Chip-row.the-type Chip-laws.the-laws) (getD table′ i noChip)) table-was $ fjoin ! $
         nothing ! $ move ! (3 ∷ 0 ∷ []) $ join ! $ move ! (4 ∷ 0 ∷ []) $ join ! $ join ! $
-        use1 W (raw (turns-act-turn-says 𝓤 H A at-mem run .pre ((((ν-ms ∷ []), ((ν-ss ∷ []), tt)), (fullShare, (fullShare, tt)), tt, ((getD table′ i noChip), (spot, (deed, ((record { ptr = (ms-b, ms-o); name = δ-ms; now = ms′ }), ((record { ptr = (ss-b, ss-o); name = δ-ss; now = ss′ }), tt))))), (((LL.vals Chip-row.the-type Chip-laws.the-laws) (getD table′ i noChip)), (((LL.vals Spot-row.the-type Spot-laws.the-laws) spot), (((EL.vals Deed-row.the-type Deed-laws.the-laws) deed), (((sliceVal (ms-b, ms-o) (length ms)) ∷ []), (((sliceVal (ss-b, ss-o) (length ss)) ∷ []), tt)))))), tt))) (qed W (((‵ (flft (ν-ms ∷ []) fullShare) ⊛ ‵ (flft (ν-ss ∷ []) fullShare) ⊛ ‵ ftrue) ⊛ ‵ (owns (Chip-row.the-row ∷ Spot-row.the-row ∷ Deed-row.the-row ∷ MutSlice (named 0) (ν-ms ∷ []) u8 ∷ MutSlice (named 1) (ν-ss ∷ []) u8 ∷ []) ((getD table′ i noChip), (spot, (deed, ((record { ptr = (ms-b, ms-o); name = δ-ms; now = ms′ }), ((record { ptr = (ss-b, ss-o); name = δ-ss; now = ss′ }), tt))))) (((LL.vals Chip-row.the-type Chip-laws.the-laws) (getD table′ i noChip)), (((LL.vals Spot-row.the-type Spot-laws.the-laws) spot), (((EL.vals Deed-row.the-type Deed-laws.the-laws) deed), (((sliceVal (ms-b, ms-o) (length ms)) ∷ []), (((sliceVal (ss-b, ss-o) (length ss)) ∷ []), tt))))))) ∷ []) ∵ nothing ! $ move ! (1 ∷ 0 ∷ []) $ split ! $ join ! $ frame ! $ done !) $
-        calls-at ! fm (turns-act-turn-says 𝓤 H A at-mem run) known-turns-act-turn ((((ν-ms ∷ []), ((ν-ss ∷ []), tt)), (fullShare, (fullShare, tt)), tt, ((getD table′ i noChip), (spot, (deed, ((record { ptr = (ms-b, ms-o); name = δ-ms; now = ms′ }), ((record { ptr = (ss-b, ss-o); name = δ-ss; now = ss′ }), tt))))), (((LL.vals Chip-row.the-type Chip-laws.the-laws) (getD table′ i noChip)), (((LL.vals Spot-row.the-type Spot-laws.the-laws) spot), (((EL.vals Deed-row.the-type Deed-laws.the-laws) deed), (((sliceVal (ms-b, ms-o) (length ms)) ∷ []), (((sliceVal (ss-b, ss-o) (length ss)) ∷ []), tt)))))), tt) (and-then ! (load ! (from ! (stop !)) (look ! 18 refl)) (and-then ! (load ! (from ! (stop !)) (look ! 30 refl)) (and-then ! (load ! (from ! (stop !)) (look ! 36 refl)) (and-then ! (load ! (from ! (stop !)) (look ! 14 refl)) (and-then ! (load ! (from ! (stop !)) (look ! 10 refl)) (no-more !)))))) (λ w.
-        use1 W (later (some (λ (r : Turned). ((‵ (flft (ν-ms ∷ []) fullShare) ⊛ ‵ (flft (ν-ss ∷ []) fullShare) ⊛ ‵ ftrue) ⊛ ‵ (Turned-row.the-row .own r (w ∷ []))) ⊛ raw (ensured 𝓤 H A turns-act-turn′.ended (turns-act-turn′.clauses 𝓤 H A at-mem run) ((ν-ms ∷ []), ((ν-ss ∷ []), tt)) ((getD table′ i noChip), (spot, (deed, ((record { ptr = (ms-b, ms-o); name = δ-ms; now = ms′ }), ((record { ptr = (ss-b, ss-o); name = δ-ss; now = ss′ }), tt))))) tt r)))) (id⊢ 𝓤 _) $ await ! tt $ pick ! (λ r. split ! $ move ! (1 ∷ []) $
-        use1 W (some (λ (ws : Lasts turns-act-turn′.ended ((ν-ms ∷ []), ((ν-ss ∷ []), tt)) ((getD table′ i noChip), (spot, (deed, ((record { ptr = (ms-b, ms-o); name = δ-ms; now = ms′ }), ((record { ptr = (ss-b, ss-o); name = δ-ss; now = ss′ }), tt)))))). ‵ (lasts turns-act-turn′.ended ((ν-ms ∷ []), ((ν-ss ∷ []), tt)) ((getD table′ i noChip), (spot, (deed, ((record { ptr = (ms-b, ms-o); name = δ-ms; now = ms′ }), ((record { ptr = (ss-b, ss-o); name = δ-ss; now = ss′ }), tt))))) ws) ⊛ raw (fact 𝓤 (turned (r .chip) (r .spot) (ws .1 .1 .1 .0) (ws .1 .1 .1 .1 .0) ≡ turnOf deed (getD table′ i noChip) spot ms′ ss′)))) (id⊢ 𝓤 _) $ pick ! (λ ws. split ! $ move ! (1 ∷ []) $
-        heard ! (turned (r .chip) (r .spot) (ws .1 .1 .1 .0) (ws .1 .1 .1 .1 .0) ≡ turnOf deed (getD table′ i noChip) spot ms′ ss′) (λ e. fsplit ! $ drop ! $ fsplit ! $ drop ! $ fsplit ! $ drop ! $ fsplit ! $ fsplit ! $
+        use1 W (raw (turns-act-turn-says 𝓤 H A at-mem run .pre ((((ν-ms ∷ []), ((ν-ss ∷ []), tt)), (fullShare, (fullShare, tt)), tt, ((getD table′ i noChip), (spot, (task, ((record { ptr = (ms-b, ms-o); name = δ-ms; now = ms′ }), ((record { ptr = (ss-b, ss-o); name = δ-ss; now = ss′ }), tt))))), (((LL.vals Chip-row.the-type Chip-laws.the-laws) (getD table′ i noChip)), (((LL.vals Spot-row.the-type Spot-laws.the-laws) spot), (((EL.vals Task-row.the-type Task-laws.the-laws) task), (((sliceVal (ms-b, ms-o) (length ms)) ∷ []), (((sliceVal (ss-b, ss-o) (length ss)) ∷ []), tt)))))), tt))) (qed W (((‵ (flft (ν-ms ∷ []) fullShare) ⊛ ‵ (flft (ν-ss ∷ []) fullShare) ⊛ ‵ ftrue) ⊛ ‵ (owns (Chip-row.the-row ∷ Spot-row.the-row ∷ Task-row.the-row ∷ MutSlice (named 0) (ν-ms ∷ []) u8 ∷ MutSlice (named 1) (ν-ss ∷ []) u8 ∷ []) ((getD table′ i noChip), (spot, (task, ((record { ptr = (ms-b, ms-o); name = δ-ms; now = ms′ }), ((record { ptr = (ss-b, ss-o); name = δ-ss; now = ss′ }), tt))))) (((LL.vals Chip-row.the-type Chip-laws.the-laws) (getD table′ i noChip)), (((LL.vals Spot-row.the-type Spot-laws.the-laws) spot), (((EL.vals Task-row.the-type Task-laws.the-laws) task), (((sliceVal (ms-b, ms-o) (length ms)) ∷ []), (((sliceVal (ss-b, ss-o) (length ss)) ∷ []), tt))))))) ∷ []) ∵ nothing ! $ move ! (1 ∷ 0 ∷ []) $ split ! $ join ! $ frame ! $ done !) $
+        calls-at ! fm (turns-act-turn-says 𝓤 H A at-mem run) known-turns-act-turn ((((ν-ms ∷ []), ((ν-ss ∷ []), tt)), (fullShare, (fullShare, tt)), tt, ((getD table′ i noChip), (spot, (task, ((record { ptr = (ms-b, ms-o); name = δ-ms; now = ms′ }), ((record { ptr = (ss-b, ss-o); name = δ-ss; now = ss′ }), tt))))), (((LL.vals Chip-row.the-type Chip-laws.the-laws) (getD table′ i noChip)), (((LL.vals Spot-row.the-type Spot-laws.the-laws) spot), (((EL.vals Task-row.the-type Task-laws.the-laws) task), (((sliceVal (ms-b, ms-o) (length ms)) ∷ []), (((sliceVal (ss-b, ss-o) (length ss)) ∷ []), tt)))))), tt) (and-then ! (load ! (from ! (stop !)) (look ! 18 refl)) (and-then ! (load ! (from ! (stop !)) (look ! 30 refl)) (and-then ! (load ! (from ! (stop !)) (look ! 36 refl)) (and-then ! (load ! (from ! (stop !)) (look ! 14 refl)) (and-then ! (load ! (from ! (stop !)) (look ! 10 refl)) (no-more !)))))) (λ w.
+        use1 W (later (some (λ (r : Turned). ((‵ (flft (ν-ms ∷ []) fullShare) ⊛ ‵ (flft (ν-ss ∷ []) fullShare) ⊛ ‵ ftrue) ⊛ ‵ (Turned-row.the-row .own r (w ∷ []))) ⊛ raw (ensured 𝓤 H A turns-act-turn′.ended (turns-act-turn′.clauses 𝓤 H A at-mem run) ((ν-ms ∷ []), ((ν-ss ∷ []), tt)) ((getD table′ i noChip), (spot, (task, ((record { ptr = (ms-b, ms-o); name = δ-ms; now = ms′ }), ((record { ptr = (ss-b, ss-o); name = δ-ss; now = ss′ }), tt))))) tt r)))) (id⊢ 𝓤 _) $ await ! tt $ pick ! (λ r. split ! $ move ! (1 ∷ []) $
+        use1 W (some (λ (ws : Lasts turns-act-turn′.ended ((ν-ms ∷ []), ((ν-ss ∷ []), tt)) ((getD table′ i noChip), (spot, (task, ((record { ptr = (ms-b, ms-o); name = δ-ms; now = ms′ }), ((record { ptr = (ss-b, ss-o); name = δ-ss; now = ss′ }), tt)))))). ‵ (lasts turns-act-turn′.ended ((ν-ms ∷ []), ((ν-ss ∷ []), tt)) ((getD table′ i noChip), (spot, (task, ((record { ptr = (ms-b, ms-o); name = δ-ms; now = ms′ }), ((record { ptr = (ss-b, ss-o); name = δ-ss; now = ss′ }), tt))))) ws) ⊛ raw (fact 𝓤 (turned (r .chip) (r .spot) (ws .1 .1 .1 .0) (ws .1 .1 .1 .1 .0) ≡ turnOf task (getD table′ i noChip) spot ms′ ss′)))) (id⊢ 𝓤 _) $ pick ! (λ ws. split ! $ move ! (1 ∷ []) $
+        heard ! (turned (r .chip) (r .spot) (ws .1 .1 .1 .0) (ws .1 .1 .1 .1 .0) ≡ turnOf task (getD table′ i noChip) spot ms′ ss′) (λ e. fsplit ! $ drop ! $ fsplit ! $ drop ! $ fsplit ! $ drop ! $ fsplit ! $ fsplit ! $
         move ! (1 ∷ []) $ feqL ! (λ ms-as-long. move ! (1 ∷ []) $ fsplit ! $ fsplit ! $ move ! (1 ∷ []) $ feqL ! (λ ss-as-long. move ! (1 ∷ []) $ drop ! $ move ! (2 ∷ []) $ split ! $ split ! $ move ! (1 ∷ []) $ split ! $
         move ! (1 ∷ []) $ drop ! $ move ! (2 ∷ []) $ peeks ! Turned-row.the-row (Is Turned-row.the-row) (shows 𝓤 H A Turned-row.the-row) r (w ∷ []) (λ is. drop ! $
         land ! (from ! (stop !)) (init ! 29 refl ((LL.lawful Turned-row.the-type Turned-laws.the-laws 𝓤 H A W) .typed r _ is .0)) $
@@ -208,18 +208,18 @@ module _ {M : Type 1} (𝓤 : URA M) (H : Heap 𝓤) (A : Atoms 𝓤) (W : Given
         rewrite ! 28 (λ (j : ℕ). ‵ (fat fullShare (tyInt w64) l₆ 0 (vint w64 j))) (add-one i) refl $ forget ! 8 refl $ forget ! 10 refl $ forget ! 12 refl $ forget ! 14 refl $ forget ! 16 refl $ forget ! 18 refl $
         forget ! 20 refl $ forget ! 22 refl $ forget ! 24 refl $ forget ! 26 refl $
         keep ! (0 ∷ 5 ∷ 6 ∷ 7 ∷ 2 ∷ 4 ∷ 1 ∷ 3 ∷ 8 ∷ 9 ∷ 10 ∷ 11 ∷ 12 ∷ 13 ∷ 14 ∷ 15 ∷ 16 ∷ 17 ∷ 18 ∷ 19 ∷ 20 ∷ 21 ∷ 22 ∷ 23 ∷ 24 ∷ 25 ∷ 26 ∷ 27 ∷ 28 ∷ 29 ∷ 30 ∷ 31 ∷ 32 ∷ 33 ∷ 34 ∷ 35 ∷ 36 ∷ 37 ∷ 38 ∷ 39 ∷ 40 ∷ 41 ∷ []) $
-        by ! (next (set table′ i (r .chip)) (r .spot) (ws .1 .1 .1 .0) (ws .1 .1 .1 .1 .0) (length-set table′ i (r .chip) ∙ table-len) (LL.owed Turned-row.the-type Turned-laws.the-laws r _ (subst (λ (us : List Val). Is Turned-row.the-row r us) ((LL.tells Turned-row.the-type Turned-laws.the-laws) r _ is) is) .1 .0) (ms-as-long ∙ ms-len) (ss-as-long ∙ ss-len) (ap (λ (t : Turn). acts deed k (suc i) (t .spot) (set table′ i (t .chip)) (t .images) (t .pads)) e ∙ inv))))))))))))))
+        by ! (next (set table′ i (r .chip)) (r .spot) (ws .1 .1 .1 .0) (ws .1 .1 .1 .1 .0) (length-set table′ i (r .chip) ∙ table-len) (LL.owed Turned-row.the-type Turned-laws.the-laws r _ (subst (λ (us : List Val). Is Turned-row.the-row r us) ((LL.tells Turned-row.the-type Turned-laws.the-laws) r _ is) is) .1 .0) (ms-as-long ∙ ms-len) (ss-as-long ∙ ss-len) (ap (λ (t : Turn). acts task k (suc i) (t .spot) (set table′ i (t .chip)) (t .images) (t .pads)) e ∙ inv))))))))))))))
 
     -- the loop from index i on, where k elements are left
-    loop-at : (k i : ℕ) (table′ : List Chip) (spot : Spot) (ms′ : List ℕ) (ss′ : List ℕ) (table-len : length table′ ≡ length table) (spot-is : Is Spot-row.the-row spot ((LL.vals Spot-row.the-type Spot-laws.the-laws) spot)) (ms-len : length ms′ ≡ length ms) (ss-len : length ss′ ≡ length ss) → i + k ≡ (length table) → (acts deed k i spot table′ ms′ ss′ ≡ acts deed (length table) 0 firstSpot table ms ss) → ent 𝓤 (⋆ 𝓤 H A (At i table′ spot ms′ ss′)) (Λ mir.turn-1 En Left)
+    loop-at : (k i : ℕ) (table′ : List Chip) (spot : Spot) (ms′ : List ℕ) (ss′ : List ℕ) (table-len : length table′ ≡ length table) (spot-is : Is Spot-row.the-row spot ((LL.vals Spot-row.the-type Spot-laws.the-laws) spot)) (ms-len : length ms′ ≡ length ms) (ss-len : length ss′ ≡ length ss) → i + k ≡ (length table) → (acts task k i spot table′ ms′ ss′ ≡ acts task (length table) 0 firstSpot table ms ss) → ent 𝓤 (⋆ 𝓤 H A (At i table′ spot ms′ ss′)) (Λ mir.turn-1 En Left)
     loop-at zero i table′ spot ms′ ss′ table-len spot-is ms-len ss-len left inv = via 𝓤 Again (ends i table′ spot ms′ ss′ table-len spot-is ms-len ss-len left inv) (unroll 𝓤 H (W .laws) 𝓣 En mir.turn-1 Left (Λ mir.turn-1 En Left) (id⊢ 𝓤 _))
     loop-at (suc k) i table′ spot ms′ ss′ table-len spot-is ms-len ss-len left inv = via 𝓤 Again (more k i table′ spot ms′ ss′ table-len spot-is ms-len ss-len (within i k (length table) left) inv (λ table′₁ spot₁ ms′₁ ss′₁ table-len₁ spot-is₁ ms-len₁ ss-len₁ inv₁. loop-at k (suc i) table′₁ spot₁ ms′₁ ss′₁ table-len₁ spot-is₁ ms-len₁ ss-len₁ (further i k (length table) left) inv₁)) (unroll 𝓤 H (W .laws) 𝓣 En mir.turn-1 Left (Λ mir.turn-1 En Left) (id⊢ 𝓤 _))
 
-    loops : (table′ : List Chip) (spot : Spot) (ms′ : List ℕ) (ss′ : List ℕ) (table-len : length table′ ≡ length table) (spot-is : Is Spot-row.the-row spot ((LL.vals Spot-row.the-type Spot-laws.the-laws) spot)) (ms-len : length ms′ ≡ length ms) (ss-len : length ss′ ≡ length ss) → (acts deed (length table) 0 spot table′ ms′ ss′ ≡ acts deed (length table) 0 firstSpot table ms ss) → ent 𝓤 (⋆ 𝓤 H A (At 0 table′ spot ms′ ss′)) (Wp 𝓤 H C Λ En (loop mir.turn-1) Left)
+    loops : (table′ : List Chip) (spot : Spot) (ms′ : List ℕ) (ss′ : List ℕ) (table-len : length table′ ≡ length table) (spot-is : Is Spot-row.the-row spot ((LL.vals Spot-row.the-type Spot-laws.the-laws) spot)) (ms-len : length ms′ ≡ length ms) (ss-len : length ss′ ≡ length ss) → (acts task (length table) 0 spot table′ ms′ ss′ ≡ acts task (length table) 0 firstSpot table ms ss) → ent 𝓤 (⋆ 𝓤 H A (At 0 table′ spot ms′ ss′)) (Wp 𝓤 H C Λ En (loop mir.turn-1) Left)
     loops table′ spot ms′ ss′ table-len spot-is ms-len ss-len inv = via 𝓤 (Λ mir.turn-1 En Left) (loop-at (length table) 0 table′ spot ms′ ss′ table-len spot-is ms-len ss-len (zero-add (length table)) inv) (W .laws .⇛-intro _)
 
     -- the MIR, once the arguments are stored
-    starts : Sq W (‵ (froom tyPtr l₁₆ 0) ∷ ‵ (fdies tyPtr l₁₆) ∷ ‵ (froom (sliceTy (tyRef erased mut (tyInt w8))) l₁₅ 0) ∷ ‵ (fdies (sliceTy (tyRef erased mut (tyInt w8))) l₁₅) ∷ ‵ (froom (tyRef erased mut (tyInt w8)) l₁₄ 0) ∷ ‵ (fdies (tyRef erased mut (tyInt w8)) l₁₄) ∷ ‵ (froom (sliceTy (tyRef erased mut (tyInt w8))) l₁₃ 0) ∷ ‵ (fdies (sliceTy (tyRef erased mut (tyInt w8))) l₁₃) ∷ ‵ (froom (tyRef erased mut (tyInt w8)) l₁₂ 0) ∷ ‵ (fdies (tyRef erased mut (tyInt w8)) l₁₂) ∷ ‵ (froom Chip-laws.mir l₁₁ 0) ∷ ‵ (fdies Chip-laws.mir l₁₁) ∷ ‵ (froom tyPtr l₁₀ 0) ∷ ‵ (fdies tyPtr l₁₀) ∷ ‵ (froom tyBool l₉ 0) ∷ ‵ (fdies tyBool l₉) ∷ ‵ (froom (tyInt w64) l₈ 0) ∷ ‵ (fdies (tyInt w64) l₈) ∷ ‵ (froom Turned-laws.mir l₇ 0) ∷ ‵ (fdies Turned-laws.mir l₇) ∷ ‵ (froom (tyInt w64) l₆ 0) ∷ ‵ (fdies (tyInt w64) l₆) ∷ ‵ (froom Spot-laws.mir l₅ 0) ∷ ‵ (fdies Spot-laws.mir l₅) ∷ ‵ (fat fullShare (sliceTy (tyRef (named 2) mut (tyInt w8))) l₄ 0 (sliceVal (ss-b, ss-o) (length ss))) ∷ ‵ (fdies (sliceTy (tyRef (named 2) mut (tyInt w8))) l₄) ∷ ‵ (fat fullShare (sliceTy (tyRef (named 1) mut (tyInt w8))) l₃ 0 (sliceVal (ms-b, ms-o) (length ms))) ∷ ‵ (fdies (sliceTy (tyRef (named 1) mut (tyInt w8))) l₃) ∷ ‵ (fat fullShare Deed-laws.mir l₂ 0 (EL.val Deed-row.the-type Deed-laws.the-laws deed)) ∷ ‵ (fdies Deed-laws.mir l₂) ∷ ‵ (fat fullShare (sliceTy (tyRef (named 0) mut (pointee (Chip-row.the-row .written)))) l₁ 0 (sliceVal (table-b, table-o) (length table))) ∷ ‵ (fdies (sliceTy (tyRef (named 0) mut (pointee (Chip-row.the-row .written)))) l₁) ∷ ‵ (froom tyUnit l₀ 0) ∷ ‵ (fdies tyUnit l₀) ∷ (‵ (flft κ-table q-table) ⊛ ‵ (flft κ-ms q-ms) ⊛ ‵ (flft κ-ss q-ss) ⊛ ‵ ftrue) ∷ ‵ (owns (MutSlice (named 0) κ-table Chip-row.the-row ∷ Deed-row.the-row ∷ MutSlice (named 1) κ-ms u8 ∷ MutSlice (named 2) κ-ss u8 ∷ []) ((record { ptr = (table-b, table-o); name = table-γ; now = table }), (deed, ((record { ptr = (ms-b, ms-o); name = ms-γ; now = ms }), ((record { ptr = (ss-b, ss-o); name = ss-γ; now = ss }), tt)))) ((sliceVal (table-b, table-o) (length table)) ∷ [], (((EL.vals Deed-row.the-type Deed-laws.the-laws) deed), ((sliceVal (ms-b, ms-o) (length ms)) ∷ [], ((sliceVal (ss-b, ss-o) (length ss)) ∷ [], tt))))) ∷ []) (runs C Λ En mir.t-1 (atRet En Post))
+    starts : Sq W (‵ (froom tyPtr l₁₆ 0) ∷ ‵ (fdies tyPtr l₁₆) ∷ ‵ (froom (sliceTy (tyRef erased mut (tyInt w8))) l₁₅ 0) ∷ ‵ (fdies (sliceTy (tyRef erased mut (tyInt w8))) l₁₅) ∷ ‵ (froom (tyRef erased mut (tyInt w8)) l₁₄ 0) ∷ ‵ (fdies (tyRef erased mut (tyInt w8)) l₁₄) ∷ ‵ (froom (sliceTy (tyRef erased mut (tyInt w8))) l₁₃ 0) ∷ ‵ (fdies (sliceTy (tyRef erased mut (tyInt w8))) l₁₃) ∷ ‵ (froom (tyRef erased mut (tyInt w8)) l₁₂ 0) ∷ ‵ (fdies (tyRef erased mut (tyInt w8)) l₁₂) ∷ ‵ (froom Chip-laws.mir l₁₁ 0) ∷ ‵ (fdies Chip-laws.mir l₁₁) ∷ ‵ (froom tyPtr l₁₀ 0) ∷ ‵ (fdies tyPtr l₁₀) ∷ ‵ (froom tyBool l₉ 0) ∷ ‵ (fdies tyBool l₉) ∷ ‵ (froom (tyInt w64) l₈ 0) ∷ ‵ (fdies (tyInt w64) l₈) ∷ ‵ (froom Turned-laws.mir l₇ 0) ∷ ‵ (fdies Turned-laws.mir l₇) ∷ ‵ (froom (tyInt w64) l₆ 0) ∷ ‵ (fdies (tyInt w64) l₆) ∷ ‵ (froom Spot-laws.mir l₅ 0) ∷ ‵ (fdies Spot-laws.mir l₅) ∷ ‵ (fat fullShare (sliceTy (tyRef (named 2) mut (tyInt w8))) l₄ 0 (sliceVal (ss-b, ss-o) (length ss))) ∷ ‵ (fdies (sliceTy (tyRef (named 2) mut (tyInt w8))) l₄) ∷ ‵ (fat fullShare (sliceTy (tyRef (named 1) mut (tyInt w8))) l₃ 0 (sliceVal (ms-b, ms-o) (length ms))) ∷ ‵ (fdies (sliceTy (tyRef (named 1) mut (tyInt w8))) l₃) ∷ ‵ (fat fullShare Task-laws.mir l₂ 0 (EL.val Task-row.the-type Task-laws.the-laws task)) ∷ ‵ (fdies Task-laws.mir l₂) ∷ ‵ (fat fullShare (sliceTy (tyRef (named 0) mut (pointee (Chip-row.the-row .written)))) l₁ 0 (sliceVal (table-b, table-o) (length table))) ∷ ‵ (fdies (sliceTy (tyRef (named 0) mut (pointee (Chip-row.the-row .written)))) l₁) ∷ ‵ (froom tyUnit l₀ 0) ∷ ‵ (fdies tyUnit l₀) ∷ (‵ (flft κ-table q-table) ⊛ ‵ (flft κ-ms q-ms) ⊛ ‵ (flft κ-ss q-ss) ⊛ ‵ ftrue) ∷ ‵ (owns (MutSlice (named 0) κ-table Chip-row.the-row ∷ Task-row.the-row ∷ MutSlice (named 1) κ-ms u8 ∷ MutSlice (named 2) κ-ss u8 ∷ []) ((record { ptr = (table-b, table-o); name = table-γ; now = table }), (task, ((record { ptr = (ms-b, ms-o); name = ms-γ; now = ms }), ((record { ptr = (ss-b, ss-o); name = ss-γ; now = ss }), tt)))) ((sliceVal (table-b, table-o) (length table)) ∷ [], (((EL.vals Task-row.the-type Task-laws.the-laws) task), ((sliceVal (ms-b, ms-o) (length ms)) ∷ [], ((sliceVal (ss-b, ss-o) (length ss)) ∷ [], tt))))) ∷ []) (runs C Λ En mir.t-1 (atRet En Post))
     starts =
         move ! (35 ∷ []) $ fsplit ! $ move ! (1 ∷ []) $ fsplit ! $ drop ! $ fsplit ! $ move ! (1 ∷ []) $ fsplit ! $ move ! (1 ∷ []) $ drop ! $ move ! (37 ∷ []) $ split ! $ move ! (1 ∷ []) $ split ! $ move ! (1 ∷ []) $ split ! $
         move ! (1 ∷ []) $ drop ! $
@@ -235,21 +235,21 @@ module _ {M : Type 1} (𝓤 : URA M) (H : Heap 𝓤) (A : Atoms 𝓤) (W : Given
         -- [lft ss; lft ms; lft table; own ss; own ms; own table | _16 (6); _15 (8); _14 (10); _13 (12); _12 (14); _11 (16); _10 (18); _9 (20); _8 (22); _7 (24); _6 (26); _5 (28); _4 (30); _3 (32); _2 (34); _1 (36); _0 (38)]
         assigns ! (of-opd ! (lit ! tt)) (from ! (stop !)) (init ! 26 refl ((uint-lawful 𝓤 H A W w64) .typed 0 ((uint-vals w64) 0) (refl, lit< tt) .0)) $ move ! (5 ∷ []) $ fsplit ! $ drop ! $ fsplit ! $ move ! (0 ∷ 1 ∷ 4 ∷ []) $
         opens-slice ! tt Chip-row.the-row table table-b table-o $
-        by ! (loops table r ms ss refl (subst (λ (us : List Val). Is Spot-row.the-row r us) ((LL.tells Spot-row.the-type Spot-laws.the-laws) r _ is) is) refl refl (ap (λ (p : Spot). acts deed (length table) 0 p table ms ss) e)))))))
+        by ! (loops table r ms ss refl (subst (λ (us : List Val). Is Spot-row.the-row r us) ((LL.tells Spot-row.the-type Spot-laws.the-laws) r _ is) is) refl refl (ap (λ (p : Spot). acts task (length table) 0 p table ms ss) e)))))))
 
-  walk : (𝓣 : Tables 𝓤 H) → Triple 𝓤 (𝓣 .C #turns-first-spot) (turns-first-spot-says 𝓤 H A at-mem run) → Triple 𝓤 (𝓣 .C #turns-act-turn) (turns-act-turn-says 𝓤 H A at-mem run) → ent 𝓤 (onEntry 𝓤 H A f.signature (κ-table, (κ-ms, (κ-ss, tt))) (q-table, (q-ms, (q-ss, tt))) ((record { ptr = (table-b, table-o); name = table-γ; now = table }), (deed, ((record { ptr = (ms-b, ms-o); name = ms-γ; now = ms }), ((record { ptr = (ss-b, ss-o); name = ss-γ; now = ss }), tt)))) ((sliceVal (table-b, table-o) (length table)) ∷ [], (((EL.vals Deed-row.the-type Deed-laws.the-laws) deed), ((sliceVal (ms-b, ms-o) (length ms)) ∷ [], ((sliceVal (ss-b, ss-o) (length ss)) ∷ [], tt))))) (WpFn 𝓤 H (𝓣 .C) (𝓣 .Λ) code.function ((sliceVal (table-b, table-o) (length table)) ∷ (EL.val Deed-row.the-type Deed-laws.the-laws deed) ∷ (sliceVal (ms-b, ms-o) (length ms)) ∷ (sliceVal (ss-b, ss-o) (length ss)) ∷ []) Post)
+  walk : (𝓣 : Tables 𝓤 H) → Triple 𝓤 (𝓣 .C #turns-first-spot) (turns-first-spot-says 𝓤 H A at-mem run) → Triple 𝓤 (𝓣 .C #turns-act-turn) (turns-act-turn-says 𝓤 H A at-mem run) → ent 𝓤 (onEntry 𝓤 H A f.signature (κ-table, (κ-ms, (κ-ss, tt))) (q-table, (q-ms, (q-ss, tt))) ((record { ptr = (table-b, table-o); name = table-γ; now = table }), (task, ((record { ptr = (ms-b, ms-o); name = ms-γ; now = ms }), ((record { ptr = (ss-b, ss-o); name = ss-γ; now = ss }), tt)))) ((sliceVal (table-b, table-o) (length table)) ∷ [], (((EL.vals Task-row.the-type Task-laws.the-laws) task), ((sliceVal (ms-b, ms-o) (length ms)) ∷ [], ((sliceVal (ss-b, ss-o) (length ss)) ∷ [], tt))))) (WpFn 𝓤 H (𝓣 .C) (𝓣 .Λ) code.function ((sliceVal (table-b, table-o) (length table)) ∷ (EL.val Task-row.the-type Task-laws.the-laws task) ∷ (sliceVal (ms-b, ms-o) (length ms)) ∷ (sliceVal (ss-b, ss-o) (length ss)) ∷ []) Post)
   walk 𝓣 known-turns-first-spot known-turns-act-turn =
-      qed W ((‵ (flft κ-table q-table) ⊛ ‵ (flft κ-ms q-ms) ⊛ ‵ (flft κ-ss q-ss) ⊛ ‵ ftrue) ∷ ‵ (owns (MutSlice (named 0) κ-table Chip-row.the-row ∷ Deed-row.the-row ∷ MutSlice (named 1) κ-ms u8 ∷ MutSlice (named 2) κ-ss u8 ∷ []) ((record { ptr = (table-b, table-o); name = table-γ; now = table }), (deed, ((record { ptr = (ms-b, ms-o); name = ms-γ; now = ms }), ((record { ptr = (ss-b, ss-o); name = ss-γ; now = ss }), tt)))) ((sliceVal (table-b, table-o) (length table)) ∷ [], (((EL.vals Deed-row.the-type Deed-laws.the-laws) deed), ((sliceVal (ms-b, ms-o) (length ms)) ∷ [], ((sliceVal (ss-b, ss-o) (length ss)) ∷ [], tt))))) ∷ []) ∵ enter ! (𝓣 .C) (𝓣 .Λ) code.function ((sliceVal (table-b, table-o) (length table)) ∷ (EL.val Deed-row.the-type Deed-laws.the-laws deed) ∷ (sliceVal (ms-b, ms-o) (length ms)) ∷ (sliceVal (ss-b, ss-o) (length ss)) ∷ []) _ $
-      alloc1 ! (λ l₀. alloc1 ! (λ l₁. alloc1 ! (λ l₂. alloc1 ! (λ l₃. alloc1 ! (λ l₄. alloc1 ! (λ l₅. alloc1 ! (λ l₆. alloc1 ! (λ l₇. alloc1 ! (λ l₈. alloc1 ! (λ l₉. alloc1 ! (λ l₁₀. alloc1 ! (λ l₁₁. alloc1 ! (λ l₁₂. alloc1 ! (λ l₁₃. alloc1 ! (λ l₁₄. alloc1 ! (λ l₁₅. alloc1 ! (λ l₁₆. alloc0 ! $ params1 ! $ pass1 ! (init ! 30 refl (tt, (tt, (record { fits = table-room .0 }, tt)))) $ pass1 ! (init ! 28 refl ((EL.lawful Deed-row.the-type Deed-laws.the-laws 𝓤 H A W tt) .typed deed ((EL.vals Deed-row.the-type Deed-laws.the-laws) deed) deed-is .0)) $ pass1 ! (init ! 26 refl (tt, (tt, (record { fits = ms-room .0 }, tt)))) $ pass1 ! (init ! 24 refl (tt, (tt, (record { fits = ss-room .0 }, tt)))) $ pass0 ! $
+      qed W ((‵ (flft κ-table q-table) ⊛ ‵ (flft κ-ms q-ms) ⊛ ‵ (flft κ-ss q-ss) ⊛ ‵ ftrue) ∷ ‵ (owns (MutSlice (named 0) κ-table Chip-row.the-row ∷ Task-row.the-row ∷ MutSlice (named 1) κ-ms u8 ∷ MutSlice (named 2) κ-ss u8 ∷ []) ((record { ptr = (table-b, table-o); name = table-γ; now = table }), (task, ((record { ptr = (ms-b, ms-o); name = ms-γ; now = ms }), ((record { ptr = (ss-b, ss-o); name = ss-γ; now = ss }), tt)))) ((sliceVal (table-b, table-o) (length table)) ∷ [], (((EL.vals Task-row.the-type Task-laws.the-laws) task), ((sliceVal (ms-b, ms-o) (length ms)) ∷ [], ((sliceVal (ss-b, ss-o) (length ss)) ∷ [], tt))))) ∷ []) ∵ enter ! (𝓣 .C) (𝓣 .Λ) code.function ((sliceVal (table-b, table-o) (length table)) ∷ (EL.val Task-row.the-type Task-laws.the-laws task) ∷ (sliceVal (ms-b, ms-o) (length ms)) ∷ (sliceVal (ss-b, ss-o) (length ss)) ∷ []) _ $
+      alloc1 ! (λ l₀. alloc1 ! (λ l₁. alloc1 ! (λ l₂. alloc1 ! (λ l₃. alloc1 ! (λ l₄. alloc1 ! (λ l₅. alloc1 ! (λ l₆. alloc1 ! (λ l₇. alloc1 ! (λ l₈. alloc1 ! (λ l₉. alloc1 ! (λ l₁₀. alloc1 ! (λ l₁₁. alloc1 ! (λ l₁₂. alloc1 ! (λ l₁₃. alloc1 ! (λ l₁₄. alloc1 ! (λ l₁₅. alloc1 ! (λ l₁₆. alloc0 ! $ params1 ! $ pass1 ! (init ! 30 refl (tt, (tt, (record { fits = table-room .0 }, tt)))) $ pass1 ! (init ! 28 refl ((EL.lawful Task-row.the-type Task-laws.the-laws 𝓤 H A W tt) .typed task ((EL.vals Task-row.the-type Task-laws.the-laws) task) task-is .0)) $ pass1 ! (init ! 26 refl (tt, (tt, (record { fits = ms-room .0 }, tt)))) $ pass1 ! (init ! 24 refl (tt, (tt, (record { fits = ss-room .0 }, tt)))) $ pass0 ! $
       starts 𝓣 known-turns-first-spot known-turns-act-turn l₀ l₁ l₂ l₃ l₄ l₅ l₆ l₇ l₈ l₉ l₁₀ l₁₁ l₁₂ l₁₃ l₁₄ l₁₅ l₁₆)))))))))))))))))
 
 module _ {M : Type 1} (𝓤 : URA M) (H : Heap 𝓤) (A : Atoms 𝓤) (W : Given 𝓤 H A) (at-mem : Memory → SProp 𝓤) (run : Routine → Fun 𝓤) where
   walks : (𝓣 : Tables 𝓤 H) → Triple 𝓤 (𝓣 .C #turns-first-spot) (turns-first-spot-says 𝓤 H A at-mem run) → Triple 𝓤 (𝓣 .C #turns-act-turn) (turns-act-turn-says 𝓤 H A at-mem run) → Walks 𝓤 H A f.ended stayed (WpFn 𝓤 H (𝓣 .C) (𝓣 .Λ) code.function) (f.clauses 𝓤 H A at-mem run)
-  walks 𝓣 known-turns-first-spot known-turns-act-turn = walked 𝓤 H A f.ended stayed (f.clauses 𝓤 H A at-mem run) (WpFn 𝓤 H (𝓣 .C) (𝓣 .Λ) code.function) (λ κs. (slice-vals, ((EL.vals Deed-row.the-type Deed-laws.the-laws), (slice-vals, (slice-vals, tt))))) (λ κs. (mut-slice-tells (named 0) (κs .0) Chip-row.the-row, ((EL.tells Deed-row.the-type Deed-laws.the-laws), (mut-slice-tells (named 1) (κs .1 .0) u8, (mut-slice-tells (named 2) (κs .1 .1 .0) u8, tt)))))
+  walks 𝓣 known-turns-first-spot known-turns-act-turn = walked 𝓤 H A f.ended stayed (f.clauses 𝓤 H A at-mem run) (WpFn 𝓤 H (𝓣 .C) (𝓣 .Λ) code.function) (λ κs. (slice-vals, ((EL.vals Task-row.the-type Task-laws.the-laws), (slice-vals, (slice-vals, tt))))) (λ κs. (mut-slice-tells (named 0) (κs .0) Chip-row.the-row, ((EL.tells Task-row.the-type Task-laws.the-laws), (mut-slice-tells (named 1) (κs .1 .0) u8, (mut-slice-tells (named 2) (κs .1 .1 .0) u8, tt)))))
       (λ κs qs bounds a _ are. via 𝓤 _ (fst∗ 𝓤 _ (emp 𝓤)) (walk 𝓤 H A W at-mem run (κs .0) (qs .0) (κs .1 .0) (qs .1 .0) (κs .1 .1 .0) (qs .1 .1 .0) (a .0 .ptr .0) (a .0 .ptr .1) (a .0 .name) (a .0 .now) (are .0 .0 .1) (a .1 .0) (are .1 .0) (a .1 .1 .0 .ptr .0) (a .1 .1 .0 .ptr .1) (a .1 .1 .0 .name) (a .1 .1 .0 .now) (are .1 .1 .0 .0 .1) (a .1 .1 .1 .0 .ptr .0) (a .1 .1 .1 .0 .ptr .1) (a .1 .1 .1 .0 .name) (a .1 .1 .1 .0 .now) (are .1 .1 .1 .0 .0 .1) 𝓣 known-turns-first-spot known-turns-act-turn))
 
   meets : (𝓣 : Tables 𝓤 H) → Triple 𝓤 (𝓣 .C #turns-first-spot) (turns-first-spot-says 𝓤 H A at-mem run) → Triple 𝓤 (𝓣 .C #turns-act-turn) (turns-act-turn-says 𝓤 H A at-mem run) → Meets 𝓤 H A f.signature (WpFn 𝓤 H (𝓣 .C) (𝓣 .Λ) code.function) (f.spec 𝓤 H A at-mem run)
-  meets 𝓣 known-turns-first-spot known-turns-act-turn = walk-meets 𝓤 H A f.ended stayed W (goes-slice 𝓤 H A W 3 0 tt (plain (λ _. Chip-row.the-row)), (goes-none 𝓤 H A W 3 (λ _. Deed-row.the-row) yes (λ κs x f. refl), (goes-slice 𝓤 H A W 3 1 tt (plain (λ _. u8)), (goes-slice 𝓤 H A W 3 2 tt (plain (λ _. u8)), tt)))) (f.clauses 𝓤 H A at-mem run)
+  meets 𝓣 known-turns-first-spot known-turns-act-turn = walk-meets 𝓤 H A f.ended stayed W (goes-slice 𝓤 H A W 3 0 tt (plain (λ _. Chip-row.the-row)), (goes-none 𝓤 H A W 3 (λ _. Task-row.the-row) yes (λ κs x f. refl), (goes-slice 𝓤 H A W 3 1 tt (plain (λ _. u8)), (goes-slice 𝓤 H A W 3 2 tt (plain (λ _. u8)), tt)))) (f.clauses 𝓤 H A at-mem run)
       (WpFn 𝓤 H (𝓣 .C) (𝓣 .Λ) code.function) (WpFn-mono 𝓤 H (W .laws) 𝓣 code.function) (walks 𝓣 known-turns-first-spot known-turns-act-turn)
 
 pub all-act-spec : {M : Type 1} → stated.statement M

@@ -1,10 +1,10 @@
 use Rattle.base.specs.Rules.{cases}
-use Rattle.turns.specs.Turns.{deed-of-at}
+use Rattle.turns.specs.Turns.{task-of-at}
 use borrow.Author.Needs.{needs}
-use Rattle.turns.proofs.deed_of.Statement.{statement}
-use Rattle.turns.proofs.deed_of.Tie as tie
-use Rattle.turns.proofs.deed_of.Reads as reads
-use Rattle.turns.proofs.deed_of.Lts as lts
+use Rattle.turns.proofs.task_of.Statement.{statement}
+use Rattle.turns.proofs.task_of.Tie as tie
+use Rattle.turns.proofs.task_of.Reads as reads
+use Rattle.turns.proofs.task_of.Lts as lts
 
 -- src/lib.rt:245:29
 enum-told : tie.Need-enum-told
@@ -32,22 +32,22 @@ returns c = search needs
 
 -- src/lib.rt:241:1
 returns-2 : tie.Need-returns-2
-returns-2 c = search (cases, deed-of-at)
+returns-2 c = search (cases, task-of-at)
 
 -- src/lib.rt:241:1
 returns-3 : tie.Need-returns-3
-returns-3 c = search (cases, deed-of-at)
+returns-3 c = search (cases, task-of-at)
 
 -- src/lib.rt:241:1
 returns-4 : tie.Need-returns-4
-returns-4 c = search (cases, deed-of-at)
+returns-4 c = search (cases, task-of-at)
 
 -- src/lib.rt:241:1
 returns-5 : tie.Need-returns-5
-returns-5 c = search (cases, deed-of-at)
+returns-5 c = search (cases, task-of-at)
 
-pub deed-of-spec : {M : Type 1} → statement M
-deed-of-spec =
+pub task-of-spec : {M : Type 1} → statement M
+task-of-spec =
     tie.close
     (tie.spec
     enum-told

@@ -1,4 +1,4 @@
--- `lent::carry_out` meets its contract: a walk of its MIR, written by tools/walks.
+-- `lent::do_plan` meets its contract: a walk of its MIR, written by tools/walks.
 -- Each record behind a reference is copied out whole and stored whole, no field of it is named, and a slice is lent again for each call.
 use mathlib.Core.Path.{_≡_, refl, ap, subst}
 use Prim.Native.Nat.{ℕ}
@@ -41,20 +41,20 @@ use denote.Triple.Clauses.{ensured, Lasts, lasts}
 use denote.Exit.{yes}
 use Rattle.line.specs.declared.Answer.{Answer}
 use Rattle.chip.specs.declared.Chip.{Chip}
-use Rattle.turns.specs.declared.Deed.{Deed}
 use Rattle.turns.specs.declared.Plan.{Plan}
-use Rattle.turns.specs.Walk.{firstSpot, firstSum, hostBit, deedOf, answerOf, sums, acts, carriedOut}
+use Rattle.turns.specs.declared.Task.{Task}
+use Rattle.turns.specs.Walk.{firstSpot, firstSum, hostBit, taskOf, answerOf, sums, acts, planDone}
 use Rattle.line.specs.Layout.{lent}
 use Rattle.line.specs.Event.{answered, outcome}
-use Rattle.turns.specs.Agree.{carried-out}
+use Rattle.turns.specs.Agree.{plan-done}
 use Rattle.lent.proofs.Again.{LentAgain, lends-at, back-at, LentShared, lends-shared, shared-back}
 use Rattle.line.proofs.Answer as Answer-row
 use Rattle.line.proofs.Answer.Laws as Answer-laws
 use Rattle.chip.proofs.Chip as Chip-row
-use Rattle.turns.proofs.Deed as Deed-row
-use Rattle.turns.proofs.Deed.Laws as Deed-laws
 use Rattle.turns.proofs.Plan as Plan-row
 use Rattle.turns.proofs.Plan.Laws as Plan-laws
+use Rattle.turns.proofs.Task as Task-row
+use Rattle.turns.proofs.Task.Laws as Task-laws
 use Rattle.turns.proofs.host_bit as turns-host-bit′
 use Rattle.turns.proofs.host_bit.Symbol as turns-host-bit-def
 use Rattle.turns.proofs.host_bit.Symbol.{name as #turns-host-bit}
@@ -63,10 +63,10 @@ use Rattle.lent.proofs.line_value as lent-line-value′
 use Rattle.lent.proofs.line_value.Symbol as lent-line-value-def
 use Rattle.lent.proofs.line_value.Symbol.{name as #lent-line-value}
 use Rattle.lent.proofs.line_value.Met as lent-line-value-thm
-use Rattle.turns.proofs.deed_of as turns-deed-of′
-use Rattle.turns.proofs.deed_of.Symbol as turns-deed-of-def
-use Rattle.turns.proofs.deed_of.Symbol.{name as #turns-deed-of}
-use Rattle.turns.proofs.deed_of.Met as turns-deed-of-thm
+use Rattle.turns.proofs.task_of as turns-task-of′
+use Rattle.turns.proofs.task_of.Symbol as turns-task-of-def
+use Rattle.turns.proofs.task_of.Symbol.{name as #turns-task-of}
+use Rattle.turns.proofs.task_of.Met as turns-task-of-thm
 use Rattle.lent.proofs.all_act as lent-all-act′
 use Rattle.lent.proofs.all_act.Symbol as lent-all-act-def
 use Rattle.lent.proofs.all_act.Symbol.{name as #lent-all-act}
@@ -75,11 +75,11 @@ use Rattle.turns.proofs.answer_of as turns-answer-of′
 use Rattle.turns.proofs.answer_of.Symbol as turns-answer-of-def
 use Rattle.turns.proofs.answer_of.Symbol.{name as #turns-answer-of}
 use Rattle.turns.proofs.answer_of.Met as turns-answer-of-thm
-use Rattle.lent.proofs.carry_out.Key.{name as #carry-out}
-use Rattle.lent.proofs.carry_out as f
-use Rattle.lent.proofs.carry_out.Statement as stated
-use Rattle.lent.proofs.carry_out.Code as code
-use Rattle.lent.proofs.carry_out.Code.Mir as mir
+use Rattle.lent.proofs.do_plan.Key.{name as #do-plan}
+use Rattle.lent.proofs.do_plan as f
+use Rattle.lent.proofs.do_plan.Statement as stated
+use Rattle.lent.proofs.do_plan.Code as code
+use Rattle.lent.proofs.do_plan.Code.Mir as mir
 
 abbrev stayed : Stays (f.ended .signature .params) (f.ended .kept)
 stayed = (stay-slice (0 ∷ []) tt (plain (λ _. Chip-row.the-row)), (stay-none (λ _. Plan-row.the-row) yes, (stay-slice (1 ∷ []) tt (plain (λ _. u8)), (stay-slice (2 ∷ []) tt (plain (λ _. u8)), tt))))
@@ -90,8 +90,8 @@ turns-host-bit-says 𝓤 H A at-mem run = tripleOf 𝓤 H A turns-host-bit′.si
 abbrev lent-line-value-says : {M : Type 1} (𝓤 : URA M) (H : Heap 𝓤) (A : Atoms 𝓤) (at-mem : Memory → SProp 𝓤) (run : Routine → Fun 𝓤) → Contract 𝓤
 lent-line-value-says 𝓤 H A at-mem run = tripleOf 𝓤 H A lent-line-value′.signature (lent-line-value′.spec 𝓤 H A at-mem run)
 
-abbrev turns-deed-of-says : {M : Type 1} (𝓤 : URA M) (H : Heap 𝓤) (A : Atoms 𝓤) (at-mem : Memory → SProp 𝓤) (run : Routine → Fun 𝓤) → Contract 𝓤
-turns-deed-of-says 𝓤 H A at-mem run = tripleOf 𝓤 H A turns-deed-of′.signature (turns-deed-of′.spec 𝓤 H A at-mem run)
+abbrev turns-task-of-says : {M : Type 1} (𝓤 : URA M) (H : Heap 𝓤) (A : Atoms 𝓤) (at-mem : Memory → SProp 𝓤) (run : Routine → Fun 𝓤) → Contract 𝓤
+turns-task-of-says 𝓤 H A at-mem run = tripleOf 𝓤 H A turns-task-of′.signature (turns-task-of′.spec 𝓤 H A at-mem run)
 
 abbrev lent-all-act-says : {M : Type 1} (𝓤 : URA M) (H : Heap 𝓤) (A : Atoms 𝓤) (at-mem : Memory → SProp 𝓤) (run : Routine → Fun 𝓤) → Contract 𝓤
 lent-all-act-says 𝓤 H A at-mem run = tripleOf 𝓤 H A lent-all-act′.signature (lent-all-act′.spec 𝓤 H A at-mem run)
@@ -103,16 +103,16 @@ module _ {M : Type 1} (𝓤 : URA M) (H : Heap 𝓤) (A : Atoms 𝓤) (W : Given
   abbrev Post : Val → SProp 𝓤
   Post = walkOf 𝓤 H A f.ended stayed (f.clauses 𝓤 H A at-mem run) .post (((κ-table, (κ-ms, (κ-ss, tt))), (q-table, (q-ms, (q-ss, tt))), tt, ((record { ptr = (table-b, table-o); name = table-γ; now = table }), (plan, ((record { ptr = (ms-b, ms-o); name = ms-γ; now = ms }), ((record { ptr = (ss-b, ss-o); name = ss-γ; now = ss }), tt)))), ((sliceVal (table-b, table-o) (length table)) ∷ [], (((EL.vals Plan-row.the-type Plan-laws.the-laws) plan), ((sliceVal (ms-b, ms-o) (length ms)) ∷ [], ((sliceVal (ss-b, ss-o) (length ss)) ∷ [], tt))))), tt)
 
-  exits : (r : Answer) (r-is : Is Answer-row.the-row r ((EL.vals Answer-row.the-type Answer-laws.the-laws) r)) (table′ : List Chip) (table-len : length table′ ≡ length table) (ms′ : List ℕ) (ms-len : length ms′ ≡ length ms) (ss′ : List ℕ) (ss-len : length ss′ ≡ length ss) → (outcome (answered r) (length table′) (lent table′ ms′ ss′) ≡ carriedOut plan table ms ss) → ent 𝓤 (⋆ 𝓤 H A (‵ (MutSlice (named 0) κ-table Chip-row.the-row .own (record { ptr = (table-b, table-o); name = table-γ; now = table′ }) ((sliceVal (table-b, table-o) (length table)) ∷ [])) ∷ ‵ (flft κ-table q-table) ∷ ‵ (MutSlice (named 1) κ-ms u8 .own (record { ptr = (ms-b, ms-o); name = ms-γ; now = ms′ }) ((sliceVal (ms-b, ms-o) (length ms)) ∷ [])) ∷ ‵ (flft κ-ms q-ms) ∷ ‵ (MutSlice (named 2) κ-ss u8 .own (record { ptr = (ss-b, ss-o); name = ss-γ; now = ss′ }) ((sliceVal (ss-b, ss-o) (length ss)) ∷ [])) ∷ ‵ (flft κ-ss q-ss) ∷ [])) (Post (EL.val Answer-row.the-type Answer-laws.the-laws r))
+  exits : (r : Answer) (r-is : Is Answer-row.the-row r ((EL.vals Answer-row.the-type Answer-laws.the-laws) r)) (table′ : List Chip) (table-len : length table′ ≡ length table) (ms′ : List ℕ) (ms-len : length ms′ ≡ length ms) (ss′ : List ℕ) (ss-len : length ss′ ≡ length ss) → (outcome (answered r) (length table′) (lent table′ ms′ ss′) ≡ planDone plan table ms ss) → ent 𝓤 (⋆ 𝓤 H A (‵ (MutSlice (named 0) κ-table Chip-row.the-row .own (record { ptr = (table-b, table-o); name = table-γ; now = table′ }) ((sliceVal (table-b, table-o) (length table)) ∷ [])) ∷ ‵ (flft κ-table q-table) ∷ ‵ (MutSlice (named 1) κ-ms u8 .own (record { ptr = (ms-b, ms-o); name = ms-γ; now = ms′ }) ((sliceVal (ms-b, ms-o) (length ms)) ∷ [])) ∷ ‵ (flft κ-ms q-ms) ∷ ‵ (MutSlice (named 2) κ-ss u8 .own (record { ptr = (ss-b, ss-o); name = ss-γ; now = ss′ }) ((sliceVal (ss-b, ss-o) (length ss)) ∷ [])) ∷ ‵ (flft κ-ss q-ss) ∷ [])) (Post (EL.val Answer-row.the-type Answer-laws.the-laws r))
   exits r r-is table′ table-len ms′ ms-len ss′ ss-len e =
       qed W (‵ (MutSlice (named 0) κ-table Chip-row.the-row .own (record { ptr = (table-b, table-o); name = table-γ; now = table′ }) ((sliceVal (table-b, table-o) (length table)) ∷ [])) ∷ ‵ (flft κ-table q-table) ∷ ‵ (MutSlice (named 1) κ-ms u8 .own (record { ptr = (ms-b, ms-o); name = ms-γ; now = ms′ }) ((sliceVal (ms-b, ms-o) (length ms)) ∷ [])) ∷ ‵ (flft κ-ms q-ms) ∷ ‵ (MutSlice (named 2) κ-ss u8 .own (record { ptr = (ss-b, ss-o); name = ss-γ; now = ss′ }) ((sliceVal (ss-b, ss-o) (length ss)) ∷ [])) ∷ ‵ (flft κ-ss q-ss) ∷ []) ∵ suffices ! _ (ends-at 𝓤 H A f.ended stayed (f.clauses 𝓤 H A at-mem run) W (((κ-table, (κ-ms, (κ-ss, tt))), (q-table, (q-ms, (q-ss, tt))), tt, ((record { ptr = (table-b, table-o); name = table-γ; now = table }), (plan, ((record { ptr = (ms-b, ms-o); name = ms-γ; now = ms }), ((record { ptr = (ss-b, ss-o); name = ss-γ; now = ss }), tt)))), ((sliceVal (table-b, table-o) (length table)) ∷ [], (((EL.vals Plan-row.the-type Plan-laws.the-laws) plan), ((sliceVal (ms-b, ms-o) (length ms)) ∷ [], ((sliceVal (ss-b, ss-o) (length ss)) ∷ [], tt))))), tt) (EL.val Answer-row.the-type Answer-laws.the-laws r) r (table′, (_, (ms′, (ss′, tt)))) (table-len, (tt, (ms-len, (ss-len, tt))))) $ says ! e $ nothing ! $ move ! (6 ∷ 0 ∷ []) $ join ! $ move ! (4 ∷ 0 ∷ []) $ join ! $ move ! (2 ∷ 0 ∷ []) $ join ! $ frame ! $ nothing ! $ move ! (3 ∷ 0 ∷ []) $ fjoin ! $ move ! (2 ∷ 0 ∷ []) $ fjoin ! $ owned ! Plan-row.the-row (Is Plan-row.the-row) (EL.makes Plan-row.the-type Plan-laws.the-plain 𝓤 H A) plan _ plan-is $ fjoin ! $ move ! (1 ∷ 0 ∷ []) $ fjoin ! $ frame ! $ owned ! Answer-row.the-row (Is Answer-row.the-row) (EL.makes Answer-row.the-type Answer-laws.the-plain 𝓤 H A) r _ r-is $ done !
 
-  module _ (C : Calls 𝓤 H) (Λ : Loops 𝓤 H) (fm : FmC 𝓤 H (W .laws) C) (known-turns-host-bit : Triple 𝓤 (C #turns-host-bit) (turns-host-bit-says 𝓤 H A at-mem run)) (known-lent-line-value : Triple 𝓤 (C #lent-line-value) (lent-line-value-says 𝓤 H A at-mem run)) (known-turns-deed-of : Triple 𝓤 (C #turns-deed-of) (turns-deed-of-says 𝓤 H A at-mem run)) (known-lent-all-act : Triple 𝓤 (C #lent-all-act) (lent-all-act-says 𝓤 H A at-mem run)) (known-turns-answer-of : Triple 𝓤 (C #turns-answer-of) (turns-answer-of-says 𝓤 H A at-mem run)) (l₀ l₁ l₂ l₃ l₄ l₅ l₆ l₇ l₈ l₉ l₁₀ l₁₁ l₁₂ l₁₃ l₁₄ l₁₅ l₁₆ l₁₇ l₁₈ l₁₉ l₂₀ l₂₁ : ℕ) where
+  module _ (C : Calls 𝓤 H) (Λ : Loops 𝓤 H) (fm : FmC 𝓤 H (W .laws) C) (known-turns-host-bit : Triple 𝓤 (C #turns-host-bit) (turns-host-bit-says 𝓤 H A at-mem run)) (known-lent-line-value : Triple 𝓤 (C #lent-line-value) (lent-line-value-says 𝓤 H A at-mem run)) (known-turns-task-of : Triple 𝓤 (C #turns-task-of) (turns-task-of-says 𝓤 H A at-mem run)) (known-lent-all-act : Triple 𝓤 (C #lent-all-act) (lent-all-act-says 𝓤 H A at-mem run)) (known-turns-answer-of : Triple 𝓤 (C #turns-answer-of) (turns-answer-of-says 𝓤 H A at-mem run)) (l₀ l₁ l₂ l₃ l₄ l₅ l₆ l₇ l₈ l₉ l₁₀ l₁₁ l₁₂ l₁₃ l₁₄ l₁₅ l₁₆ l₁₇ l₁₈ l₁₉ l₂₀ l₂₁ : ℕ) where
     abbrev En : Env 𝓤 H
-    En = (Answer-laws.mir, l₀) ∷ ((sliceTy (tyRef (named 0) mut (pointee (Chip-row.the-row .written)))), l₁) ∷ (Plan-laws.mir, l₂) ∷ ((sliceTy (tyRef (named 1) mut (tyInt w8))), l₃) ∷ ((sliceTy (tyRef (named 2) mut (tyInt w8))), l₄) ∷ (tyBool, l₅) ∷ (tyBool, l₆) ∷ (Deed-laws.mir, l₇) ∷ ((tyRef erased imm (pointee (Chip-row.the-row .written))), l₈) ∷ ((sliceTy (tyRef erased imm (pointee (Chip-row.the-row .written)))), l₉) ∷ ((tyRef erased imm (tyInt w8)), l₁₀) ∷ ((sliceTy (tyRef erased imm (tyInt w8))), l₁₁) ∷ ((tyRef erased imm (tyInt w8)), l₁₂) ∷ ((sliceTy (tyRef erased imm (tyInt w8))), l₁₃) ∷ (tyUnit, l₁₄) ∷ ((tyRef erased mut (pointee (Chip-row.the-row .written))), l₁₅) ∷ ((sliceTy (tyRef erased mut (pointee (Chip-row.the-row .written)))), l₁₆) ∷ ((tyRef erased mut (tyInt w8)), l₁₇) ∷ ((sliceTy (tyRef erased mut (tyInt w8))), l₁₈) ∷ ((tyRef erased mut (tyInt w8)), l₁₉) ∷ ((sliceTy (tyRef erased mut (tyInt w8))), l₂₀) ∷ ((tyInt w64), l₂₁) ∷ []
+    En = (Answer-laws.mir, l₀) ∷ ((sliceTy (tyRef (named 0) mut (pointee (Chip-row.the-row .written)))), l₁) ∷ (Plan-laws.mir, l₂) ∷ ((sliceTy (tyRef (named 1) mut (tyInt w8))), l₃) ∷ ((sliceTy (tyRef (named 2) mut (tyInt w8))), l₄) ∷ (tyBool, l₅) ∷ (tyBool, l₆) ∷ (Task-laws.mir, l₇) ∷ ((tyRef erased imm (pointee (Chip-row.the-row .written))), l₈) ∷ ((sliceTy (tyRef erased imm (pointee (Chip-row.the-row .written)))), l₉) ∷ ((tyRef erased imm (tyInt w8)), l₁₀) ∷ ((sliceTy (tyRef erased imm (tyInt w8))), l₁₁) ∷ ((tyRef erased imm (tyInt w8)), l₁₂) ∷ ((sliceTy (tyRef erased imm (tyInt w8))), l₁₃) ∷ (tyUnit, l₁₄) ∷ ((tyRef erased mut (pointee (Chip-row.the-row .written))), l₁₅) ∷ ((sliceTy (tyRef erased mut (pointee (Chip-row.the-row .written)))), l₁₆) ∷ ((tyRef erased mut (tyInt w8)), l₁₇) ∷ ((sliceTy (tyRef erased mut (tyInt w8))), l₁₈) ∷ ((tyRef erased mut (tyInt w8)), l₁₉) ∷ ((sliceTy (tyRef erased mut (tyInt w8))), l₂₀) ∷ ((tyInt w64), l₂₁) ∷ []
 
     -- the MIR, once the arguments are stored
-    starts : Sq W (‵ (froom (tyInt w64) l₂₁ 0) ∷ ‵ (fdies (tyInt w64) l₂₁) ∷ ‵ (froom (sliceTy (tyRef erased mut (tyInt w8))) l₂₀ 0) ∷ ‵ (fdies (sliceTy (tyRef erased mut (tyInt w8))) l₂₀) ∷ ‵ (froom (tyRef erased mut (tyInt w8)) l₁₉ 0) ∷ ‵ (fdies (tyRef erased mut (tyInt w8)) l₁₉) ∷ ‵ (froom (sliceTy (tyRef erased mut (tyInt w8))) l₁₈ 0) ∷ ‵ (fdies (sliceTy (tyRef erased mut (tyInt w8))) l₁₈) ∷ ‵ (froom (tyRef erased mut (tyInt w8)) l₁₇ 0) ∷ ‵ (fdies (tyRef erased mut (tyInt w8)) l₁₇) ∷ ‵ (froom (sliceTy (tyRef erased mut (pointee (Chip-row.the-row .written)))) l₁₆ 0) ∷ ‵ (fdies (sliceTy (tyRef erased mut (pointee (Chip-row.the-row .written)))) l₁₆) ∷ ‵ (froom (tyRef erased mut (pointee (Chip-row.the-row .written))) l₁₅ 0) ∷ ‵ (fdies (tyRef erased mut (pointee (Chip-row.the-row .written))) l₁₅) ∷ ‵ (froom tyUnit l₁₄ 0) ∷ ‵ (fdies tyUnit l₁₄) ∷ ‵ (froom (sliceTy (tyRef erased imm (tyInt w8))) l₁₃ 0) ∷ ‵ (fdies (sliceTy (tyRef erased imm (tyInt w8))) l₁₃) ∷ ‵ (froom (tyRef erased imm (tyInt w8)) l₁₂ 0) ∷ ‵ (fdies (tyRef erased imm (tyInt w8)) l₁₂) ∷ ‵ (froom (sliceTy (tyRef erased imm (tyInt w8))) l₁₁ 0) ∷ ‵ (fdies (sliceTy (tyRef erased imm (tyInt w8))) l₁₁) ∷ ‵ (froom (tyRef erased imm (tyInt w8)) l₁₀ 0) ∷ ‵ (fdies (tyRef erased imm (tyInt w8)) l₁₀) ∷ ‵ (froom (sliceTy (tyRef erased imm (pointee (Chip-row.the-row .written)))) l₉ 0) ∷ ‵ (fdies (sliceTy (tyRef erased imm (pointee (Chip-row.the-row .written)))) l₉) ∷ ‵ (froom (tyRef erased imm (pointee (Chip-row.the-row .written))) l₈ 0) ∷ ‵ (fdies (tyRef erased imm (pointee (Chip-row.the-row .written))) l₈) ∷ ‵ (froom Deed-laws.mir l₇ 0) ∷ ‵ (fdies Deed-laws.mir l₇) ∷ ‵ (froom tyBool l₆ 0) ∷ ‵ (fdies tyBool l₆) ∷ ‵ (froom tyBool l₅ 0) ∷ ‵ (fdies tyBool l₅) ∷ ‵ (fat fullShare (sliceTy (tyRef (named 2) mut (tyInt w8))) l₄ 0 (sliceVal (ss-b, ss-o) (length ss))) ∷ ‵ (fdies (sliceTy (tyRef (named 2) mut (tyInt w8))) l₄) ∷ ‵ (fat fullShare (sliceTy (tyRef (named 1) mut (tyInt w8))) l₃ 0 (sliceVal (ms-b, ms-o) (length ms))) ∷ ‵ (fdies (sliceTy (tyRef (named 1) mut (tyInt w8))) l₃) ∷ ‵ (fat fullShare Plan-laws.mir l₂ 0 (EL.val Plan-row.the-type Plan-laws.the-laws plan)) ∷ ‵ (fdies Plan-laws.mir l₂) ∷ ‵ (fat fullShare (sliceTy (tyRef (named 0) mut (pointee (Chip-row.the-row .written)))) l₁ 0 (sliceVal (table-b, table-o) (length table))) ∷ ‵ (fdies (sliceTy (tyRef (named 0) mut (pointee (Chip-row.the-row .written)))) l₁) ∷ ‵ (froom Answer-laws.mir l₀ 0) ∷ ‵ (fdies Answer-laws.mir l₀) ∷ (‵ (flft κ-table q-table) ⊛ ‵ (flft κ-ms q-ms) ⊛ ‵ (flft κ-ss q-ss) ⊛ ‵ ftrue) ∷ ‵ (owns (MutSlice (named 0) κ-table Chip-row.the-row ∷ Plan-row.the-row ∷ MutSlice (named 1) κ-ms u8 ∷ MutSlice (named 2) κ-ss u8 ∷ []) ((record { ptr = (table-b, table-o); name = table-γ; now = table }), (plan, ((record { ptr = (ms-b, ms-o); name = ms-γ; now = ms }), ((record { ptr = (ss-b, ss-o); name = ss-γ; now = ss }), tt)))) ((sliceVal (table-b, table-o) (length table)) ∷ [], (((EL.vals Plan-row.the-type Plan-laws.the-laws) plan), ((sliceVal (ms-b, ms-o) (length ms)) ∷ [], ((sliceVal (ss-b, ss-o) (length ss)) ∷ [], tt))))) ∷ []) (runs C Λ En mir.t-1 (atRet En Post))
+    starts : Sq W (‵ (froom (tyInt w64) l₂₁ 0) ∷ ‵ (fdies (tyInt w64) l₂₁) ∷ ‵ (froom (sliceTy (tyRef erased mut (tyInt w8))) l₂₀ 0) ∷ ‵ (fdies (sliceTy (tyRef erased mut (tyInt w8))) l₂₀) ∷ ‵ (froom (tyRef erased mut (tyInt w8)) l₁₉ 0) ∷ ‵ (fdies (tyRef erased mut (tyInt w8)) l₁₉) ∷ ‵ (froom (sliceTy (tyRef erased mut (tyInt w8))) l₁₈ 0) ∷ ‵ (fdies (sliceTy (tyRef erased mut (tyInt w8))) l₁₈) ∷ ‵ (froom (tyRef erased mut (tyInt w8)) l₁₇ 0) ∷ ‵ (fdies (tyRef erased mut (tyInt w8)) l₁₇) ∷ ‵ (froom (sliceTy (tyRef erased mut (pointee (Chip-row.the-row .written)))) l₁₆ 0) ∷ ‵ (fdies (sliceTy (tyRef erased mut (pointee (Chip-row.the-row .written)))) l₁₆) ∷ ‵ (froom (tyRef erased mut (pointee (Chip-row.the-row .written))) l₁₅ 0) ∷ ‵ (fdies (tyRef erased mut (pointee (Chip-row.the-row .written))) l₁₅) ∷ ‵ (froom tyUnit l₁₄ 0) ∷ ‵ (fdies tyUnit l₁₄) ∷ ‵ (froom (sliceTy (tyRef erased imm (tyInt w8))) l₁₃ 0) ∷ ‵ (fdies (sliceTy (tyRef erased imm (tyInt w8))) l₁₃) ∷ ‵ (froom (tyRef erased imm (tyInt w8)) l₁₂ 0) ∷ ‵ (fdies (tyRef erased imm (tyInt w8)) l₁₂) ∷ ‵ (froom (sliceTy (tyRef erased imm (tyInt w8))) l₁₁ 0) ∷ ‵ (fdies (sliceTy (tyRef erased imm (tyInt w8))) l₁₁) ∷ ‵ (froom (tyRef erased imm (tyInt w8)) l₁₀ 0) ∷ ‵ (fdies (tyRef erased imm (tyInt w8)) l₁₀) ∷ ‵ (froom (sliceTy (tyRef erased imm (pointee (Chip-row.the-row .written)))) l₉ 0) ∷ ‵ (fdies (sliceTy (tyRef erased imm (pointee (Chip-row.the-row .written)))) l₉) ∷ ‵ (froom (tyRef erased imm (pointee (Chip-row.the-row .written))) l₈ 0) ∷ ‵ (fdies (tyRef erased imm (pointee (Chip-row.the-row .written))) l₈) ∷ ‵ (froom Task-laws.mir l₇ 0) ∷ ‵ (fdies Task-laws.mir l₇) ∷ ‵ (froom tyBool l₆ 0) ∷ ‵ (fdies tyBool l₆) ∷ ‵ (froom tyBool l₅ 0) ∷ ‵ (fdies tyBool l₅) ∷ ‵ (fat fullShare (sliceTy (tyRef (named 2) mut (tyInt w8))) l₄ 0 (sliceVal (ss-b, ss-o) (length ss))) ∷ ‵ (fdies (sliceTy (tyRef (named 2) mut (tyInt w8))) l₄) ∷ ‵ (fat fullShare (sliceTy (tyRef (named 1) mut (tyInt w8))) l₃ 0 (sliceVal (ms-b, ms-o) (length ms))) ∷ ‵ (fdies (sliceTy (tyRef (named 1) mut (tyInt w8))) l₃) ∷ ‵ (fat fullShare Plan-laws.mir l₂ 0 (EL.val Plan-row.the-type Plan-laws.the-laws plan)) ∷ ‵ (fdies Plan-laws.mir l₂) ∷ ‵ (fat fullShare (sliceTy (tyRef (named 0) mut (pointee (Chip-row.the-row .written)))) l₁ 0 (sliceVal (table-b, table-o) (length table))) ∷ ‵ (fdies (sliceTy (tyRef (named 0) mut (pointee (Chip-row.the-row .written)))) l₁) ∷ ‵ (froom Answer-laws.mir l₀ 0) ∷ ‵ (fdies Answer-laws.mir l₀) ∷ (‵ (flft κ-table q-table) ⊛ ‵ (flft κ-ms q-ms) ⊛ ‵ (flft κ-ss q-ss) ⊛ ‵ ftrue) ∷ ‵ (owns (MutSlice (named 0) κ-table Chip-row.the-row ∷ Plan-row.the-row ∷ MutSlice (named 1) κ-ms u8 ∷ MutSlice (named 2) κ-ss u8 ∷ []) ((record { ptr = (table-b, table-o); name = table-γ; now = table }), (plan, ((record { ptr = (ms-b, ms-o); name = ms-γ; now = ms }), ((record { ptr = (ss-b, ss-o); name = ss-γ; now = ss }), tt)))) ((sliceVal (table-b, table-o) (length table)) ∷ [], (((EL.vals Plan-row.the-type Plan-laws.the-laws) plan), ((sliceVal (ms-b, ms-o) (length ms)) ∷ [], ((sliceVal (ss-b, ss-o) (length ss)) ∷ [], tt))))) ∷ []) (runs C Λ En mir.t-1 (atRet En Post))
     starts =
         move ! (45 ∷ []) $ fsplit ! $ move ! (1 ∷ []) $ fsplit ! $ drop ! $ fsplit ! $ move ! (1 ∷ []) $ fsplit ! $ move ! (1 ∷ []) $ drop ! $ move ! (47 ∷ []) $ split ! $ move ! (1 ∷ []) $ split ! $ move ! (1 ∷ []) $ split ! $
         move ! (1 ∷ []) $ drop ! $
@@ -156,13 +156,13 @@ module _ {M : Type 1} (𝓤 : URA M) (H : Heap 𝓤) (A : Atoms 𝓤) (W : Given
         -- [own ss; lft ss; own ms; lft ms; own table; lft table | _21 (6); _20 (8); _19 (10); _18 (12); _17 (14); _16 (16); _15 (18); _14 (20); _13 (22); _12 (24); _11 (26); _10 (28); _9 (30); _8 (32); _7 (34); _6 (36); _5 (38); _4 (40); _3 (42); _2 (44); _1 (46); _0 (48)]
         nothing ! $ owned ! bool (Is bool) (bool-makes 𝓤 H A W) r2 (bool-vals r2) (subst (λ (us : List Val). Is bool r2 us) (bool-tells r2 _ is2) is2) $ fjoin ! $
         owned ! Plan-row.the-row (Is Plan-row.the-row) (EL.makes Plan-row.the-type Plan-laws.the-plain 𝓤 H A) plan ((EL.vals Plan-row.the-type Plan-laws.the-laws) plan) plan-is $ fjoin ! $ nothing ! $ join ! $
-        use1 W (raw (turns-deed-of-says 𝓤 H A at-mem run .pre ((tt, tt, tt, (plan, (r2, tt)), (((EL.vals Plan-row.the-type Plan-laws.the-laws) plan), ((bool-vals r2), tt))), tt))) (qed W (((‵ ftrue) ⊛ ‵ (owns (Plan-row.the-row ∷ bool ∷ []) (plan, (r2, tt)) (((EL.vals Plan-row.the-type Plan-laws.the-laws) plan), ((bool-vals r2), tt)))) ∷ []) ∵ nothing ! $ move ! (1 ∷ 0 ∷ []) $ split ! $ join ! $ frame ! $ done !) $
-        calls-at ! fm (turns-deed-of-says 𝓤 H A at-mem run) known-turns-deed-of ((tt, tt, tt, (plan, (r2, tt)), (((EL.vals Plan-row.the-type Plan-laws.the-laws) plan), ((bool-vals r2), tt))), tt) (and-then ! (load ! (from ! (stop !)) (look ! 45 refl)) (and-then ! (load ! (from ! (stop !)) (look ! 37 refl)) (no-more !))) (λ w3.
-        use1 W (later (some (λ (r3 : Deed). ((‵ ftrue) ⊛ ‵ (Deed-row.the-row .own r3 (w3 ∷ []))) ⊛ raw (ensured 𝓤 H A turns-deed-of′.ended (turns-deed-of′.clauses 𝓤 H A at-mem run) tt (plan, (r2, tt)) tt r3)))) (id⊢ 𝓤 _) $ await ! tt $ pick ! (λ r3. split ! $ move ! (1 ∷ []) $
-        use1 W (some (λ (ws3 : Lasts turns-deed-of′.ended tt (plan, (r2, tt))). ‵ (lasts turns-deed-of′.ended tt (plan, (r2, tt)) ws3) ⊛ raw (fact 𝓤 (r3 ≡ deedOf plan r2)))) (id⊢ 𝓤 _) $ pick ! (λ ws3. split ! $ move ! (1 ∷ []) $
-        heard ! (r3 ≡ deedOf plan r2) (λ e3. fsplit ! $ drop ! $ fsplit ! $ drop ! $ drop ! $ split ! $ drop ! $ peeks ! Deed-row.the-row (Is Deed-row.the-row) (shows 𝓤 H A Deed-row.the-row) r3 (w3 ∷ []) (λ is3. drop ! $
-        land ! (from ! (stop !)) (init ! 34 refl ((EL.lawful Deed-row.the-type Deed-laws.the-laws 𝓤 H A W tt) .typed r3 _ is3 .0)) $
-        rewrite ! 34 (λ (u : Val). ‵ (fat fullShare Deed-laws.mir l₇ 0 u)) (ap only ((EL.tells Deed-row.the-type Deed-laws.the-laws) r3 _ is3)) refl $
+        use1 W (raw (turns-task-of-says 𝓤 H A at-mem run .pre ((tt, tt, tt, (plan, (r2, tt)), (((EL.vals Plan-row.the-type Plan-laws.the-laws) plan), ((bool-vals r2), tt))), tt))) (qed W (((‵ ftrue) ⊛ ‵ (owns (Plan-row.the-row ∷ bool ∷ []) (plan, (r2, tt)) (((EL.vals Plan-row.the-type Plan-laws.the-laws) plan), ((bool-vals r2), tt)))) ∷ []) ∵ nothing ! $ move ! (1 ∷ 0 ∷ []) $ split ! $ join ! $ frame ! $ done !) $
+        calls-at ! fm (turns-task-of-says 𝓤 H A at-mem run) known-turns-task-of ((tt, tt, tt, (plan, (r2, tt)), (((EL.vals Plan-row.the-type Plan-laws.the-laws) plan), ((bool-vals r2), tt))), tt) (and-then ! (load ! (from ! (stop !)) (look ! 45 refl)) (and-then ! (load ! (from ! (stop !)) (look ! 37 refl)) (no-more !))) (λ w3.
+        use1 W (later (some (λ (r3 : Task). ((‵ ftrue) ⊛ ‵ (Task-row.the-row .own r3 (w3 ∷ []))) ⊛ raw (ensured 𝓤 H A turns-task-of′.ended (turns-task-of′.clauses 𝓤 H A at-mem run) tt (plan, (r2, tt)) tt r3)))) (id⊢ 𝓤 _) $ await ! tt $ pick ! (λ r3. split ! $ move ! (1 ∷ []) $
+        use1 W (some (λ (ws3 : Lasts turns-task-of′.ended tt (plan, (r2, tt))). ‵ (lasts turns-task-of′.ended tt (plan, (r2, tt)) ws3) ⊛ raw (fact 𝓤 (r3 ≡ taskOf plan r2)))) (id⊢ 𝓤 _) $ pick ! (λ ws3. split ! $ move ! (1 ∷ []) $
+        heard ! (r3 ≡ taskOf plan r2) (λ e3. fsplit ! $ drop ! $ fsplit ! $ drop ! $ drop ! $ split ! $ drop ! $ peeks ! Task-row.the-row (Is Task-row.the-row) (shows 𝓤 H A Task-row.the-row) r3 (w3 ∷ []) (λ is3. drop ! $
+        land ! (from ! (stop !)) (init ! 34 refl ((EL.lawful Task-row.the-type Task-laws.the-laws 𝓤 H A W tt) .typed r3 _ is3 .0)) $
+        rewrite ! 34 (λ (u : Val). ‵ (fat fullShare Task-laws.mir l₇ 0 u)) (ap only ((EL.tells Task-row.the-type Task-laws.the-laws) r3 _ is3)) refl $
         -- [own ss; lft ss; own ms; lft ms; own table; lft table | _21 (6); _20 (8); _19 (10); _18 (12); _17 (14); _16 (16); _15 (18); _14 (20); _13 (22); _12 (24); _11 (26); _10 (28); _9 (30); _8 (32); _7 (34); _6 (36); _5 (38); _4 (40); _3 (42); _2 (44); _1 (46); _0 (48)]
         assigns ! (addr ! (from ! (fld ! refl (hop ! (look-in ! 46 (sub ! 0 refl (whole !))) (stop !))))) (from ! (stop !)) (init ! 18 refl (tt, tt)) $
         assigns ! (agg ! (and-then ! (load ! (from ! (stop !)) (look ! 18 refl)) (and-then ! (load ! (from ! (fld ! refl (stop !))) (look-in ! 46 (sub ! 1 refl (whole !)))) (no-more !)))) (from ! (stop !)) (init ! 16 refl (tt, (tt, (record { fits = table-room .0 }, tt)))) $
@@ -177,10 +177,10 @@ module _ {M : Type 1} (𝓤 : URA M) (H : Heap 𝓤) (A : Atoms 𝓤) (W : Given
         lft-new ! tt (λ ν-ss4. move ! (7 ∷ 8 ∷ []) $
         use2 W (later (some (λ (δ-ss4 : GName). ‵ (MutSlice (named 2) (ν-ss4 ∷ []) u8 .own (record { ptr = (ss-b, ss-o); name = δ-ss4; now = ss }) ((sliceVal (ss-b, ss-o) (length ss)) ∷ [])) ⊛ ‵ (LentAgain u8 κ-ss (ν-ss4 ∷ []) q-ss ss-γ ss-b ss-o δ-ss4 ss)))) (lends-at u8 κ-ss (ν-ss4 ∷ []) q-ss ss-γ ss-b ss-o 𝓤 H A W (named 2) (named 2) ss (length ss) refl) $ await ! tt $ pick ! (λ δ-ss4. split ! $
         nothing ! $ move ! (1 ∷ 0 ∷ []) $ fjoin ! $ move ! (3 ∷ 0 ∷ []) $ fjoin ! $
-        owned ! Deed-row.the-row (Is Deed-row.the-row) (EL.makes Deed-row.the-type Deed-laws.the-plain 𝓤 H A) r3 ((EL.vals Deed-row.the-type Deed-laws.the-laws) r3) (subst (λ (us : List Val). Is Deed-row.the-row r3 us) ((EL.tells Deed-row.the-type Deed-laws.the-laws) r3 _ is3) is3) $
+        owned ! Task-row.the-row (Is Task-row.the-row) (EL.makes Task-row.the-type Task-laws.the-plain 𝓤 H A) r3 ((EL.vals Task-row.the-type Task-laws.the-laws) r3) (subst (λ (us : List Val). Is Task-row.the-row r3 us) ((EL.tells Task-row.the-type Task-laws.the-laws) r3 _ is3) is3) $
         fjoin ! $ move ! (5 ∷ 0 ∷ []) $ fjoin ! $ nothing ! $ move ! (3 ∷ 0 ∷ []) $ join ! $ move ! (4 ∷ 0 ∷ []) $ join ! $ move ! (5 ∷ 0 ∷ []) $ join ! $ join ! $
-        use1 W (raw (lent-all-act-says 𝓤 H A at-mem run .pre ((((ν-table4 ∷ []), ((ν-ms4 ∷ []), ((ν-ss4 ∷ []), tt))), (fullShare, (fullShare, (fullShare, tt))), tt, ((record { ptr = (table-b, table-o); name = δ-table4; now = table }), (r3, ((record { ptr = (ms-b, ms-o); name = δ-ms4; now = ms }), ((record { ptr = (ss-b, ss-o); name = δ-ss4; now = ss }), tt)))), (((sliceVal (table-b, table-o) (length table)) ∷ []), (((EL.vals Deed-row.the-type Deed-laws.the-laws) r3), (((sliceVal (ms-b, ms-o) (length ms)) ∷ []), (((sliceVal (ss-b, ss-o) (length ss)) ∷ []), tt))))), tt))) (qed W (((‵ (flft (ν-table4 ∷ []) fullShare) ⊛ ‵ (flft (ν-ms4 ∷ []) fullShare) ⊛ ‵ (flft (ν-ss4 ∷ []) fullShare) ⊛ ‵ ftrue) ⊛ ‵ (owns (MutSlice (named 0) (ν-table4 ∷ []) Chip-row.the-row ∷ Deed-row.the-row ∷ MutSlice (named 1) (ν-ms4 ∷ []) u8 ∷ MutSlice (named 2) (ν-ss4 ∷ []) u8 ∷ []) ((record { ptr = (table-b, table-o); name = δ-table4; now = table }), (r3, ((record { ptr = (ms-b, ms-o); name = δ-ms4; now = ms }), ((record { ptr = (ss-b, ss-o); name = δ-ss4; now = ss }), tt)))) (((sliceVal (table-b, table-o) (length table)) ∷ []), (((EL.vals Deed-row.the-type Deed-laws.the-laws) r3), (((sliceVal (ms-b, ms-o) (length ms)) ∷ []), (((sliceVal (ss-b, ss-o) (length ss)) ∷ []), tt)))))) ∷ []) ∵ nothing ! $ move ! (1 ∷ 0 ∷ []) $ split ! $ join ! $ frame ! $ done !) $
-        calls-at ! fm (lent-all-act-says 𝓤 H A at-mem run) known-lent-all-act ((((ν-table4 ∷ []), ((ν-ms4 ∷ []), ((ν-ss4 ∷ []), tt))), (fullShare, (fullShare, (fullShare, tt))), tt, ((record { ptr = (table-b, table-o); name = δ-table4; now = table }), (r3, ((record { ptr = (ms-b, ms-o); name = δ-ms4; now = ms }), ((record { ptr = (ss-b, ss-o); name = δ-ss4; now = ss }), tt)))), (((sliceVal (table-b, table-o) (length table)) ∷ []), (((EL.vals Deed-row.the-type Deed-laws.the-laws) r3), (((sliceVal (ms-b, ms-o) (length ms)) ∷ []), (((sliceVal (ss-b, ss-o) (length ss)) ∷ []), tt))))), tt) (and-then ! (load ! (from ! (stop !)) (look ! 14 refl)) (and-then ! (load ! (from ! (stop !)) (look ! 32 refl)) (and-then ! (load ! (from ! (stop !)) (look ! 10 refl)) (and-then ! (load ! (from ! (stop !)) (look ! 6 refl)) (no-more !))))) (λ w4.
+        use1 W (raw (lent-all-act-says 𝓤 H A at-mem run .pre ((((ν-table4 ∷ []), ((ν-ms4 ∷ []), ((ν-ss4 ∷ []), tt))), (fullShare, (fullShare, (fullShare, tt))), tt, ((record { ptr = (table-b, table-o); name = δ-table4; now = table }), (r3, ((record { ptr = (ms-b, ms-o); name = δ-ms4; now = ms }), ((record { ptr = (ss-b, ss-o); name = δ-ss4; now = ss }), tt)))), (((sliceVal (table-b, table-o) (length table)) ∷ []), (((EL.vals Task-row.the-type Task-laws.the-laws) r3), (((sliceVal (ms-b, ms-o) (length ms)) ∷ []), (((sliceVal (ss-b, ss-o) (length ss)) ∷ []), tt))))), tt))) (qed W (((‵ (flft (ν-table4 ∷ []) fullShare) ⊛ ‵ (flft (ν-ms4 ∷ []) fullShare) ⊛ ‵ (flft (ν-ss4 ∷ []) fullShare) ⊛ ‵ ftrue) ⊛ ‵ (owns (MutSlice (named 0) (ν-table4 ∷ []) Chip-row.the-row ∷ Task-row.the-row ∷ MutSlice (named 1) (ν-ms4 ∷ []) u8 ∷ MutSlice (named 2) (ν-ss4 ∷ []) u8 ∷ []) ((record { ptr = (table-b, table-o); name = δ-table4; now = table }), (r3, ((record { ptr = (ms-b, ms-o); name = δ-ms4; now = ms }), ((record { ptr = (ss-b, ss-o); name = δ-ss4; now = ss }), tt)))) (((sliceVal (table-b, table-o) (length table)) ∷ []), (((EL.vals Task-row.the-type Task-laws.the-laws) r3), (((sliceVal (ms-b, ms-o) (length ms)) ∷ []), (((sliceVal (ss-b, ss-o) (length ss)) ∷ []), tt)))))) ∷ []) ∵ nothing ! $ move ! (1 ∷ 0 ∷ []) $ split ! $ join ! $ frame ! $ done !) $
+        calls-at ! fm (lent-all-act-says 𝓤 H A at-mem run) known-lent-all-act ((((ν-table4 ∷ []), ((ν-ms4 ∷ []), ((ν-ss4 ∷ []), tt))), (fullShare, (fullShare, (fullShare, tt))), tt, ((record { ptr = (table-b, table-o); name = δ-table4; now = table }), (r3, ((record { ptr = (ms-b, ms-o); name = δ-ms4; now = ms }), ((record { ptr = (ss-b, ss-o); name = δ-ss4; now = ss }), tt)))), (((sliceVal (table-b, table-o) (length table)) ∷ []), (((EL.vals Task-row.the-type Task-laws.the-laws) r3), (((sliceVal (ms-b, ms-o) (length ms)) ∷ []), (((sliceVal (ss-b, ss-o) (length ss)) ∷ []), tt))))), tt) (and-then ! (load ! (from ! (stop !)) (look ! 14 refl)) (and-then ! (load ! (from ! (stop !)) (look ! 32 refl)) (and-then ! (load ! (from ! (stop !)) (look ! 10 refl)) (and-then ! (load ! (from ! (stop !)) (look ! 6 refl)) (no-more !))))) (λ w4.
         use1 W (later (some (λ (r4 : (Unit {0})). ((‵ (flft (ν-table4 ∷ []) fullShare) ⊛ ‵ (flft (ν-ms4 ∷ []) fullShare) ⊛ ‵ (flft (ν-ss4 ∷ []) fullShare) ⊛ ‵ ftrue) ⊛ ‵ (unit .own r4 (w4 ∷ []))) ⊛ raw (ensured 𝓤 H A lent-all-act′.ended (lent-all-act′.clauses 𝓤 H A at-mem run) ((ν-table4 ∷ []), ((ν-ms4 ∷ []), ((ν-ss4 ∷ []), tt))) ((record { ptr = (table-b, table-o); name = δ-table4; now = table }), (r3, ((record { ptr = (ms-b, ms-o); name = δ-ms4; now = ms }), ((record { ptr = (ss-b, ss-o); name = δ-ss4; now = ss }), tt)))) tt r4)))) (id⊢ 𝓤 _) $ await ! tt $ pick ! (λ r4. split ! $ move ! (1 ∷ []) $
         use1 W (some (λ (ws4 : Lasts lent-all-act′.ended ((ν-table4 ∷ []), ((ν-ms4 ∷ []), ((ν-ss4 ∷ []), tt))) ((record { ptr = (table-b, table-o); name = δ-table4; now = table }), (r3, ((record { ptr = (ms-b, ms-o); name = δ-ms4; now = ms }), ((record { ptr = (ss-b, ss-o); name = δ-ss4; now = ss }), tt))))). ‵ (lasts lent-all-act′.ended ((ν-table4 ∷ []), ((ν-ms4 ∷ []), ((ν-ss4 ∷ []), tt))) ((record { ptr = (table-b, table-o); name = δ-table4; now = table }), (r3, ((record { ptr = (ms-b, ms-o); name = δ-ms4; now = ms }), ((record { ptr = (ss-b, ss-o); name = δ-ss4; now = ss }), tt)))) ws4) ⊛ raw (fact 𝓤 (lent (ws4 .0) (ws4 .1 .1 .0) (ws4 .1 .1 .1 .0) ≡ acts r3 (length table) 0 firstSpot table ms ss)))) (id⊢ 𝓤 _) $ pick ! (λ ws4. split ! $ move ! (1 ∷ []) $
         heard ! (lent (ws4 .0) (ws4 .1 .1 .0) (ws4 .1 .1 .1 .0) ≡ acts r3 (length table) 0 firstSpot table ms ss) (λ e4. fsplit ! $ fsplit ! $ move ! (1 ∷ []) $ feqL ! (λ table-as-long4. move ! (1 ∷ []) $ fsplit ! $ drop ! $
@@ -214,31 +214,31 @@ module _ {M : Type 1} (𝓤 : URA M) (H : Heap 𝓤) (A : Atoms 𝓤) (W : Given
         free1 ! $ move ! (36 ∷ 37 ∷ []) $ free1 ! $ move ! (34 ∷ 35 ∷ []) $ free1 ! $ move ! (32 ∷ 33 ∷ []) $ free1 ! $ move ! (30 ∷ 31 ∷ []) $ free1 ! $ move ! (28 ∷ 29 ∷ []) $ free1 ! $ move ! (26 ∷ 27 ∷ []) $ free1 ! $
         move ! (24 ∷ 25 ∷ []) $ free1 ! $ move ! (22 ∷ 23 ∷ []) $ free1 ! $ move ! (20 ∷ 21 ∷ []) $ free1 ! $ move ! (18 ∷ 19 ∷ []) $ free1 ! $ move ! (16 ∷ 17 ∷ []) $ free1 ! $ move ! (14 ∷ 15 ∷ []) $ free1 ! $
         move ! (12 ∷ 13 ∷ []) $ free1 ! $ move ! (10 ∷ 11 ∷ []) $ free1 ! $ move ! (8 ∷ 9 ∷ []) $ free1 ! $ move ! (6 ∷ 7 ∷ []) $ free1 ! $ free0 ! $ keep ! (4 ∷ 5 ∷ 2 ∷ 3 ∷ 0 ∷ 1 ∷ []) $
-        by ! (exits r5 (subst (λ (us : List Val). Is Answer-row.the-row r5 us) ((EL.tells Answer-row.the-type Answer-laws.the-laws) r5 _ is5) is5) (ws4 .0) table-as-long4 (ws4 .1 .1 .0) ms-as-long4 (ws4 .1 .1 .1 .0) ss-as-long4 (carried-out plan table (ws4 .0) ms ss (ws4 .1 .1 .0) (ws4 .1 .1 .1 .0) r r2 r3 r5 e e2 e3 e4 e5 table-as-long4))))))))))))))))))))))))))))))))))))))))))
+        by ! (exits r5 (subst (λ (us : List Val). Is Answer-row.the-row r5 us) ((EL.tells Answer-row.the-type Answer-laws.the-laws) r5 _ is5) is5) (ws4 .0) table-as-long4 (ws4 .1 .1 .0) ms-as-long4 (ws4 .1 .1 .1 .0) ss-as-long4 (plan-done plan table (ws4 .0) ms ss (ws4 .1 .1 .0) (ws4 .1 .1 .1 .0) r r2 r3 r5 e e2 e3 e4 e5 table-as-long4))))))))))))))))))))))))))))))))))))))))))
 
-  walk : (C : Calls 𝓤 H) (Λ : Loops 𝓤 H) → FmC 𝓤 H (W .laws) C → Triple 𝓤 (C #turns-host-bit) (turns-host-bit-says 𝓤 H A at-mem run) → Triple 𝓤 (C #lent-line-value) (lent-line-value-says 𝓤 H A at-mem run) → Triple 𝓤 (C #turns-deed-of) (turns-deed-of-says 𝓤 H A at-mem run) → Triple 𝓤 (C #lent-all-act) (lent-all-act-says 𝓤 H A at-mem run) → Triple 𝓤 (C #turns-answer-of) (turns-answer-of-says 𝓤 H A at-mem run) → ent 𝓤 (onEntry 𝓤 H A f.signature (κ-table, (κ-ms, (κ-ss, tt))) (q-table, (q-ms, (q-ss, tt))) ((record { ptr = (table-b, table-o); name = table-γ; now = table }), (plan, ((record { ptr = (ms-b, ms-o); name = ms-γ; now = ms }), ((record { ptr = (ss-b, ss-o); name = ss-γ; now = ss }), tt)))) ((sliceVal (table-b, table-o) (length table)) ∷ [], (((EL.vals Plan-row.the-type Plan-laws.the-laws) plan), ((sliceVal (ms-b, ms-o) (length ms)) ∷ [], ((sliceVal (ss-b, ss-o) (length ss)) ∷ [], tt))))) (WpFn 𝓤 H C Λ code.function ((sliceVal (table-b, table-o) (length table)) ∷ (EL.val Plan-row.the-type Plan-laws.the-laws plan) ∷ (sliceVal (ms-b, ms-o) (length ms)) ∷ (sliceVal (ss-b, ss-o) (length ss)) ∷ []) Post)
-  walk C Λ fm known-turns-host-bit known-lent-line-value known-turns-deed-of known-lent-all-act known-turns-answer-of =
+  walk : (C : Calls 𝓤 H) (Λ : Loops 𝓤 H) → FmC 𝓤 H (W .laws) C → Triple 𝓤 (C #turns-host-bit) (turns-host-bit-says 𝓤 H A at-mem run) → Triple 𝓤 (C #lent-line-value) (lent-line-value-says 𝓤 H A at-mem run) → Triple 𝓤 (C #turns-task-of) (turns-task-of-says 𝓤 H A at-mem run) → Triple 𝓤 (C #lent-all-act) (lent-all-act-says 𝓤 H A at-mem run) → Triple 𝓤 (C #turns-answer-of) (turns-answer-of-says 𝓤 H A at-mem run) → ent 𝓤 (onEntry 𝓤 H A f.signature (κ-table, (κ-ms, (κ-ss, tt))) (q-table, (q-ms, (q-ss, tt))) ((record { ptr = (table-b, table-o); name = table-γ; now = table }), (plan, ((record { ptr = (ms-b, ms-o); name = ms-γ; now = ms }), ((record { ptr = (ss-b, ss-o); name = ss-γ; now = ss }), tt)))) ((sliceVal (table-b, table-o) (length table)) ∷ [], (((EL.vals Plan-row.the-type Plan-laws.the-laws) plan), ((sliceVal (ms-b, ms-o) (length ms)) ∷ [], ((sliceVal (ss-b, ss-o) (length ss)) ∷ [], tt))))) (WpFn 𝓤 H C Λ code.function ((sliceVal (table-b, table-o) (length table)) ∷ (EL.val Plan-row.the-type Plan-laws.the-laws plan) ∷ (sliceVal (ms-b, ms-o) (length ms)) ∷ (sliceVal (ss-b, ss-o) (length ss)) ∷ []) Post)
+  walk C Λ fm known-turns-host-bit known-lent-line-value known-turns-task-of known-lent-all-act known-turns-answer-of =
       qed W ((‵ (flft κ-table q-table) ⊛ ‵ (flft κ-ms q-ms) ⊛ ‵ (flft κ-ss q-ss) ⊛ ‵ ftrue) ∷ ‵ (owns (MutSlice (named 0) κ-table Chip-row.the-row ∷ Plan-row.the-row ∷ MutSlice (named 1) κ-ms u8 ∷ MutSlice (named 2) κ-ss u8 ∷ []) ((record { ptr = (table-b, table-o); name = table-γ; now = table }), (plan, ((record { ptr = (ms-b, ms-o); name = ms-γ; now = ms }), ((record { ptr = (ss-b, ss-o); name = ss-γ; now = ss }), tt)))) ((sliceVal (table-b, table-o) (length table)) ∷ [], (((EL.vals Plan-row.the-type Plan-laws.the-laws) plan), ((sliceVal (ms-b, ms-o) (length ms)) ∷ [], ((sliceVal (ss-b, ss-o) (length ss)) ∷ [], tt))))) ∷ []) ∵ enter ! C Λ code.function ((sliceVal (table-b, table-o) (length table)) ∷ (EL.val Plan-row.the-type Plan-laws.the-laws plan) ∷ (sliceVal (ms-b, ms-o) (length ms)) ∷ (sliceVal (ss-b, ss-o) (length ss)) ∷ []) _ $
       alloc1 ! (λ l₀. alloc1 ! (λ l₁. alloc1 ! (λ l₂. alloc1 ! (λ l₃. alloc1 ! (λ l₄. alloc1 ! (λ l₅. alloc1 ! (λ l₆. alloc1 ! (λ l₇. alloc1 ! (λ l₈. alloc1 ! (λ l₉. alloc1 ! (λ l₁₀. alloc1 ! (λ l₁₁. alloc1 ! (λ l₁₂. alloc1 ! (λ l₁₃. alloc1 ! (λ l₁₄. alloc1 ! (λ l₁₅. alloc1 ! (λ l₁₆. alloc1 ! (λ l₁₇. alloc1 ! (λ l₁₈. alloc1 ! (λ l₁₉. alloc1 ! (λ l₂₀. alloc1 ! (λ l₂₁. alloc0 ! $ params1 ! $ pass1 ! (init ! 40 refl (tt, (tt, (record { fits = table-room .0 }, tt)))) $ pass1 ! (init ! 38 refl ((EL.lawful Plan-row.the-type Plan-laws.the-laws 𝓤 H A W tt) .typed plan ((EL.vals Plan-row.the-type Plan-laws.the-laws) plan) plan-is .0)) $ pass1 ! (init ! 36 refl (tt, (tt, (record { fits = ms-room .0 }, tt)))) $ pass1 ! (init ! 34 refl (tt, (tt, (record { fits = ss-room .0 }, tt)))) $ pass0 ! $
-      starts C Λ fm known-turns-host-bit known-lent-line-value known-turns-deed-of known-lent-all-act known-turns-answer-of l₀ l₁ l₂ l₃ l₄ l₅ l₆ l₇ l₈ l₉ l₁₀ l₁₁ l₁₂ l₁₃ l₁₄ l₁₅ l₁₆ l₁₇ l₁₈ l₁₉ l₂₀ l₂₁))))))))))))))))))))))
+      starts C Λ fm known-turns-host-bit known-lent-line-value known-turns-task-of known-lent-all-act known-turns-answer-of l₀ l₁ l₂ l₃ l₄ l₅ l₆ l₇ l₈ l₉ l₁₀ l₁₁ l₁₂ l₁₃ l₁₄ l₁₅ l₁₆ l₁₇ l₁₈ l₁₉ l₂₀ l₂₁))))))))))))))))))))))
 
 module _ {M : Type 1} (𝓤 : URA M) (H : Heap 𝓤) (A : Atoms 𝓤) (W : Given 𝓤 H A) (at-mem : Memory → SProp 𝓤) (run : Routine → Fun 𝓤) where
-  walks : (C : Calls 𝓤 H) (Λ : Loops 𝓤 H) → FmC 𝓤 H (W .laws) C → Triple 𝓤 (C #turns-host-bit) (turns-host-bit-says 𝓤 H A at-mem run) → Triple 𝓤 (C #lent-line-value) (lent-line-value-says 𝓤 H A at-mem run) → Triple 𝓤 (C #turns-deed-of) (turns-deed-of-says 𝓤 H A at-mem run) → Triple 𝓤 (C #lent-all-act) (lent-all-act-says 𝓤 H A at-mem run) → Triple 𝓤 (C #turns-answer-of) (turns-answer-of-says 𝓤 H A at-mem run) → Walks 𝓤 H A f.ended stayed (WpFn 𝓤 H C Λ code.function) (f.clauses 𝓤 H A at-mem run)
-  walks C Λ fm known-turns-host-bit known-lent-line-value known-turns-deed-of known-lent-all-act known-turns-answer-of = walked 𝓤 H A f.ended stayed (f.clauses 𝓤 H A at-mem run) (WpFn 𝓤 H C Λ code.function) (λ κs. (slice-vals, ((EL.vals Plan-row.the-type Plan-laws.the-laws), (slice-vals, (slice-vals, tt))))) (λ κs. (mut-slice-tells (named 0) (κs .0) Chip-row.the-row, ((EL.tells Plan-row.the-type Plan-laws.the-laws), (mut-slice-tells (named 1) (κs .1 .0) u8, (mut-slice-tells (named 2) (κs .1 .1 .0) u8, tt)))))
-      (λ κs qs bounds a _ are. via 𝓤 _ (fst∗ 𝓤 _ (emp 𝓤)) (walk 𝓤 H A W at-mem run (κs .0) (qs .0) (κs .1 .0) (qs .1 .0) (κs .1 .1 .0) (qs .1 .1 .0) (a .0 .ptr .0) (a .0 .ptr .1) (a .0 .name) (a .0 .now) (are .0 .0 .1) (a .1 .0) (are .1 .0) (a .1 .1 .0 .ptr .0) (a .1 .1 .0 .ptr .1) (a .1 .1 .0 .name) (a .1 .1 .0 .now) (are .1 .1 .0 .0 .1) (a .1 .1 .1 .0 .ptr .0) (a .1 .1 .1 .0 .ptr .1) (a .1 .1 .1 .0 .name) (a .1 .1 .1 .0 .now) (are .1 .1 .1 .0 .0 .1) C Λ fm known-turns-host-bit known-lent-line-value known-turns-deed-of known-lent-all-act known-turns-answer-of))
+  walks : (C : Calls 𝓤 H) (Λ : Loops 𝓤 H) → FmC 𝓤 H (W .laws) C → Triple 𝓤 (C #turns-host-bit) (turns-host-bit-says 𝓤 H A at-mem run) → Triple 𝓤 (C #lent-line-value) (lent-line-value-says 𝓤 H A at-mem run) → Triple 𝓤 (C #turns-task-of) (turns-task-of-says 𝓤 H A at-mem run) → Triple 𝓤 (C #lent-all-act) (lent-all-act-says 𝓤 H A at-mem run) → Triple 𝓤 (C #turns-answer-of) (turns-answer-of-says 𝓤 H A at-mem run) → Walks 𝓤 H A f.ended stayed (WpFn 𝓤 H C Λ code.function) (f.clauses 𝓤 H A at-mem run)
+  walks C Λ fm known-turns-host-bit known-lent-line-value known-turns-task-of known-lent-all-act known-turns-answer-of = walked 𝓤 H A f.ended stayed (f.clauses 𝓤 H A at-mem run) (WpFn 𝓤 H C Λ code.function) (λ κs. (slice-vals, ((EL.vals Plan-row.the-type Plan-laws.the-laws), (slice-vals, (slice-vals, tt))))) (λ κs. (mut-slice-tells (named 0) (κs .0) Chip-row.the-row, ((EL.tells Plan-row.the-type Plan-laws.the-laws), (mut-slice-tells (named 1) (κs .1 .0) u8, (mut-slice-tells (named 2) (κs .1 .1 .0) u8, tt)))))
+      (λ κs qs bounds a _ are. via 𝓤 _ (fst∗ 𝓤 _ (emp 𝓤)) (walk 𝓤 H A W at-mem run (κs .0) (qs .0) (κs .1 .0) (qs .1 .0) (κs .1 .1 .0) (qs .1 .1 .0) (a .0 .ptr .0) (a .0 .ptr .1) (a .0 .name) (a .0 .now) (are .0 .0 .1) (a .1 .0) (are .1 .0) (a .1 .1 .0 .ptr .0) (a .1 .1 .0 .ptr .1) (a .1 .1 .0 .name) (a .1 .1 .0 .now) (are .1 .1 .0 .0 .1) (a .1 .1 .1 .0 .ptr .0) (a .1 .1 .1 .0 .ptr .1) (a .1 .1 .1 .0 .name) (a .1 .1 .1 .0 .now) (are .1 .1 .1 .0 .0 .1) C Λ fm known-turns-host-bit known-lent-line-value known-turns-task-of known-lent-all-act known-turns-answer-of))
 
-  meets : (𝓣 : Tables 𝓤 H) → Triple 𝓤 (𝓣 .C #turns-host-bit) (turns-host-bit-says 𝓤 H A at-mem run) → Triple 𝓤 (𝓣 .C #lent-line-value) (lent-line-value-says 𝓤 H A at-mem run) → Triple 𝓤 (𝓣 .C #turns-deed-of) (turns-deed-of-says 𝓤 H A at-mem run) → Triple 𝓤 (𝓣 .C #lent-all-act) (lent-all-act-says 𝓤 H A at-mem run) → Triple 𝓤 (𝓣 .C #turns-answer-of) (turns-answer-of-says 𝓤 H A at-mem run) → Meets 𝓤 H A f.signature (WpFn 𝓤 H (𝓣 .C) (𝓣 .Λ) code.function) (f.spec 𝓤 H A at-mem run)
-  meets 𝓣 known-turns-host-bit known-lent-line-value known-turns-deed-of known-lent-all-act known-turns-answer-of = walk-meets 𝓤 H A f.ended stayed W (goes-slice 𝓤 H A W 3 0 tt (plain (λ _. Chip-row.the-row)), (goes-none 𝓤 H A W 3 (λ _. Plan-row.the-row) yes (λ κs x f. refl), (goes-slice 𝓤 H A W 3 1 tt (plain (λ _. u8)), (goes-slice 𝓤 H A W 3 2 tt (plain (λ _. u8)), tt)))) (f.clauses 𝓤 H A at-mem run)
-      (WpFn 𝓤 H (𝓣 .C) (𝓣 .Λ) code.function) (WpFn-mono 𝓤 H (W .laws) 𝓣 code.function) (walks (𝓣 .C) (𝓣 .Λ) (fmOf 𝓤 H (W .laws) 𝓣) known-turns-host-bit known-lent-line-value known-turns-deed-of known-lent-all-act known-turns-answer-of)
+  meets : (𝓣 : Tables 𝓤 H) → Triple 𝓤 (𝓣 .C #turns-host-bit) (turns-host-bit-says 𝓤 H A at-mem run) → Triple 𝓤 (𝓣 .C #lent-line-value) (lent-line-value-says 𝓤 H A at-mem run) → Triple 𝓤 (𝓣 .C #turns-task-of) (turns-task-of-says 𝓤 H A at-mem run) → Triple 𝓤 (𝓣 .C #lent-all-act) (lent-all-act-says 𝓤 H A at-mem run) → Triple 𝓤 (𝓣 .C #turns-answer-of) (turns-answer-of-says 𝓤 H A at-mem run) → Meets 𝓤 H A f.signature (WpFn 𝓤 H (𝓣 .C) (𝓣 .Λ) code.function) (f.spec 𝓤 H A at-mem run)
+  meets 𝓣 known-turns-host-bit known-lent-line-value known-turns-task-of known-lent-all-act known-turns-answer-of = walk-meets 𝓤 H A f.ended stayed W (goes-slice 𝓤 H A W 3 0 tt (plain (λ _. Chip-row.the-row)), (goes-none 𝓤 H A W 3 (λ _. Plan-row.the-row) yes (λ κs x f. refl), (goes-slice 𝓤 H A W 3 1 tt (plain (λ _. u8)), (goes-slice 𝓤 H A W 3 2 tt (plain (λ _. u8)), tt)))) (f.clauses 𝓤 H A at-mem run)
+      (WpFn 𝓤 H (𝓣 .C) (𝓣 .Λ) code.function) (WpFn-mono 𝓤 H (W .laws) 𝓣 code.function) (walks (𝓣 .C) (𝓣 .Λ) (fmOf 𝓤 H (W .laws) 𝓣) known-turns-host-bit known-lent-line-value known-turns-task-of known-lent-all-act known-turns-answer-of)
 
-pub carry-out-spec : {M : Type 1} → stated.statement M
+pub do-plan-spec : {M : Type 1} → stated.statement M
 unfolding code.routine tablesOf
-carry-out-spec 𝓤 H 𝓜 𝓖 𝓡 =
+do-plan-spec 𝓤 H 𝓜 𝓖 𝓡 =
     entered 𝓤 H (tripleOf 𝓤 H (𝓖 .A) f.signature (f.spec 𝓤 H (𝓖 .A) (𝓜 .mem) (𝓡 .run)))
-    (tables 𝓤 H 𝓜 𝓡 code.env .C) (tables 𝓤 H 𝓜 𝓡 code.env .Λ) #carry-out code.function (code.unfolded 𝓤 H 𝓜 𝓡)
+    (tables 𝓤 H 𝓜 𝓡 code.env .C) (tables 𝓤 H 𝓜 𝓡 code.env .Λ) #do-plan code.function (code.unfolded 𝓤 H 𝓜 𝓡)
     (meets 𝓤 H (𝓖 .A) (givenOf 𝓤 H 𝓜 𝓖) (𝓜 .mem) (𝓡 .run) (tablesOf 𝓤 H 𝓜 (tables 𝓤 H 𝓜 𝓡 code.env))
     (cited 𝓤 H (turns-host-bit-says 𝓤 H (𝓖 .A) (𝓜 .mem) (𝓡 .run)) 𝓜 𝓡 code.env #turns-host-bit turns-host-bit-def.routine code.calls-turns·host-bit (turns-host-bit-thm.met 𝓤 H 𝓜 𝓖 𝓡))
     (cited 𝓤 H (lent-line-value-says 𝓤 H (𝓖 .A) (𝓜 .mem) (𝓡 .run)) 𝓜 𝓡 code.env #lent-line-value lent-line-value-def.routine code.calls-lent·line-value (lent-line-value-thm.met 𝓤 H 𝓜 𝓖 𝓡))
-    (cited 𝓤 H (turns-deed-of-says 𝓤 H (𝓖 .A) (𝓜 .mem) (𝓡 .run)) 𝓜 𝓡 code.env #turns-deed-of turns-deed-of-def.routine code.calls-turns·deed-of (turns-deed-of-thm.met 𝓤 H 𝓜 𝓖 𝓡))
+    (cited 𝓤 H (turns-task-of-says 𝓤 H (𝓖 .A) (𝓜 .mem) (𝓡 .run)) 𝓜 𝓡 code.env #turns-task-of turns-task-of-def.routine code.calls-turns·task-of (turns-task-of-thm.met 𝓤 H 𝓜 𝓖 𝓡))
     (cited 𝓤 H (lent-all-act-says 𝓤 H (𝓖 .A) (𝓜 .mem) (𝓡 .run)) 𝓜 𝓡 code.env #lent-all-act lent-all-act-def.routine code.calls-lent·all-act (lent-all-act-thm.met 𝓤 H 𝓜 𝓖 𝓡))
     (cited 𝓤 H (turns-answer-of-says 𝓤 H (𝓖 .A) (𝓜 .mem) (𝓡 .run)) 𝓜 𝓡 code.env #turns-answer-of turns-answer-of-def.routine code.calls-turns·answer-of (turns-answer-of-thm.met 𝓤 H 𝓜 𝓖 𝓡)))
