@@ -22,11 +22,13 @@ extern "C" {
 #endif
 
 /* Sizes, in bytes where not said otherwise. */
-#define TK_MOST_CHIPS 16    /* chips on one line */
-#define TK_RECORD_SIZE 24   /* one chip's record in the table */
-#define TK_IMAGE_SIZE 2624  /* the memory image of one DS28EC20: addresses 0000h to 0A3Fh */
-#define TK_PAD_SIZE 32      /* the scratchpad of one DS28EC20 */
-#define TK_CODE_SLOTS 200   /* slots that a search puts on the line for each code it lists */
+#define TK_MOST_CHIPS 16          /* chips on one line */
+#define TK_RECORD_SIZE 32         /* one chip's record in the table */
+#define TK_IMAGE_SIZE 2624        /* the memory image of one DS28EC20: addresses 0000h to 0A3Fh */
+#define TK_PAD_SIZE 32            /* the scratchpad of one DS28EC20 */
+#define TK_MOST_IMAGES_SIZE 41984 /* the images of a line of 16 memories: no line asks more */
+#define TK_MOST_PADS_SIZE 512     /* the scratchpads of a line of 16 memories: no line asks more */
+#define TK_CODE_SLOTS 200         /* slots that a search puts on the line for each code it lists */
 
 /* The kinds of a chip. A DS2413 has no image and no scratchpad. */
 #define TK_DS28EC20 1
@@ -69,7 +71,7 @@ extern "C" {
  *       18      1  a  | what the step needs to go on; what it does not name is 0
  *       19      1  b  |
  *       20      1  c /
- *       21      3  0
+ *       21     11  0: kept for fields to come
  *
  *   step  of            what it needs
  *      0  any chip      waiting for a reset
@@ -111,7 +113,8 @@ size_t tk_table_size(size_t chips);
 /*
  * The bytes of images, and of scratchpads, to lend with a table; 0 where it has over 16 records, or bytes that are no
  * records. Bytes are records where their number is a multiple of TK_RECORD_SIZE, each byte that must be 0 is, each step
- * is in the table above, and RC and the a of step 24 are 0 or 1. Ranges do not matter here.
+ * is in the table above, and RC and the a of step 24 are 0 or 1. Ranges do not matter here. At most TK_MOST_IMAGES_SIZE
+ * and TK_MOST_PADS_SIZE.
  */
 size_t tk_images_size(const uint8_t *table, size_t table_size);
 size_t tk_pads_size(const uint8_t *table, size_t table_size);

@@ -31,8 +31,8 @@
 /* A line: all that it lends to the library, with room for the most chips. */
 struct host {
     uint8_t table[TK_MOST_CHIPS * TK_RECORD_SIZE];
-    uint8_t images[TK_MOST_CHIPS * TK_IMAGE_SIZE];
-    uint8_t pads[TK_MOST_CHIPS * TK_PAD_SIZE];
+    uint8_t images[TK_MOST_IMAGES_SIZE];
+    uint8_t pads[TK_MOST_PADS_SIZE];
     size_t table_size;
     size_t images_size;
     size_t pads_size;

@@ -25,6 +25,7 @@ static void test_good_cards(void)
 {
     static const uint8_t first[TK_RECORD_SIZE] = {0x40, 0, 0, 0, 0, 0, 0, 0, 1, 0, 0, 0, 0x20, 3, 3};
     static const uint8_t second[TK_RECORD_SIZE] = {0x41, 0, 0, 0, 0, 0, 0, 0, 2, 0, 0, 0, 0x20, 3, 3};
+    const size_t one = TK_RECORD_SIZE, two = 2 * TK_RECORD_SIZE, most = TK_MOST_CHIPS * TK_RECORD_SIZE;
     fresh();
     check("an empty card", tk_card(card, 0, table, sizeof table, &offset) == 0 && offset == 0);
     check("an empty card leaves the table", memcmp(table, before, sizeof table) == 0);
@@ -32,14 +33,14 @@ static void test_good_cards(void)
     check("two chips", tk_card(card, 24, table, 3 * TK_RECORD_SIZE, &offset) == 2 && offset == 0);
     check("the record of a memory at set-up", memcmp(table, first, TK_RECORD_SIZE) == 0);
     check("the record of a switch at set-up", memcmp(table + TK_RECORD_SIZE, second, TK_RECORD_SIZE) == 0);
-    check("the rest of the table stays", memcmp(table + 48, before + 48, sizeof table - 48) == 0);
+    check("the rest of the table stays", memcmp(table + two, before + two, sizeof table - two) == 0);
     fresh();
-    check("a table with a part of a record more", tk_card(card, 12, table, TK_RECORD_SIZE + 23, &offset) == 1);
-    check("that part stays", memcmp(table + 24, before + 24, sizeof table - 24) == 0);
+    check("a table with a part of a record more", tk_card(card, 12, table, two - 1, &offset) == 1);
+    check("that part stays", memcmp(table + one, before + one, sizeof table - one) == 0);
     fresh();
     check("16 chips in 16 places", tk_card(card, 192, table, 16 * TK_RECORD_SIZE, &offset) == 16 && offset == 0);
     check("16 chips in 20 places", tk_card(card, 192, table, sizeof table, &offset) == 16 && offset == 0);
-    check("places past the 16th stay", memcmp(table + 384, before + 384, sizeof table - 384) == 0);
+    check("places past the 16th stay", memcmp(table + most, before + most, sizeof table - most) == 0);
 }
 
 static void test_refused_cards(void)

@@ -113,6 +113,10 @@ static void test_no_records(void)
         {"8: byte 21",            21, 1   },
         {"8: byte 22",            22, 1   },
         {"8: byte 23",            23, 1   },
+        {"8: byte 24",            24, 1   },
+        {"8: byte 27",            27, 1   },
+        {"8: byte 30",            30, 1   },
+        {"8: byte 31",            31, 1   },
     };
     for (size_t i = 0; i < sizeof faults / sizeof *faults; i++) {
         set_up(&host, "121");
@@ -133,7 +137,7 @@ static void test_table_lengths(void)
         memcpy(table + i * TK_RECORD_SIZE, host.table + TK_RECORD_SIZE, TK_RECORD_SIZE);
     memcpy(copy, table, sizeof table);
     uint8_t none[1];
-    check("16 switches answer a reset", tk_event(table, 384, TK_RESET, 0, 0, none, 0, none, 0) == 0);
+    check("16 switches answer a reset", tk_event(table, 16 * TK_RECORD_SIZE, TK_RESET, 0, 0, none, 0, none, 0) == 0);
     memcpy(table, copy, sizeof table);
     check("8: 17 records", tk_event(table, sizeof table, TK_RESET, 0, 0, none, 0, none, 0) == -TK_OUT_OF_RANGE);
     check("8: 17 records stay", memcmp(table, copy, sizeof table) == 0);

@@ -10,7 +10,7 @@ void test_sizes(void)
     check("a table of 16 chips", tk_table_size(TK_MOST_CHIPS) == TK_MOST_CHIPS * TK_RECORD_SIZE);
     check("17 chips count as 16", tk_table_size(17) == TK_MOST_CHIPS * TK_RECORD_SIZE);
     check("the most chips count as 16", tk_table_size(SIZE_MAX) == TK_MOST_CHIPS * TK_RECORD_SIZE);
-    check("a number that wraps counts as 16", tk_table_size(SIZE_MAX / 24 + 2) == TK_MOST_CHIPS * TK_RECORD_SIZE);
+    check("a number that wraps counts as 16", tk_table_size(SIZE_MAX / TK_RECORD_SIZE + 2) == TK_MOST_CHIPS * TK_RECORD_SIZE);
     check("no chips ask no images", tk_images_size(none, 0) == 0);
     check("no chips ask no pads", tk_pads_size(none, 0) == 0);
     set_up(&host, "121");
@@ -21,11 +21,12 @@ void test_sizes(void)
     check("a switch asks nothing", tk_images_size(host.table + TK_RECORD_SIZE, TK_RECORD_SIZE) == 0);
     check("parts of records ask nothing", tk_images_size(host.table, host.table_size - 1) == 0);
     check("parts of records ask no pads", tk_pads_size(host.table, TK_RECORD_SIZE + 1) == 0);
-    host.table[23] = 1;
+    host.table[TK_RECORD_SIZE - 1] = 1;
     check("bytes that are no record ask nothing", tk_images_size(host.table, host.table_size) == 0);
     check("bytes that are no record ask no pads", tk_pads_size(host.table, host.table_size) == 0);
     set_up(&host, "1111111111111111");
-    check("16 memories", tk_images_size(host.table, host.table_size) == sizeof host.images);
+    check("images of 16 memories", tk_images_size(host.table, host.table_size) == TK_MOST_IMAGES_SIZE);
+    check("pads of 16 memories", tk_pads_size(host.table, host.table_size) == TK_MOST_PADS_SIZE);
     static uint8_t many[17 * TK_RECORD_SIZE];
     for (size_t i = 0; i < 17; i++)
         memcpy(many + i * TK_RECORD_SIZE, host.table, TK_RECORD_SIZE);

@@ -45,7 +45,7 @@ struct chip {
     uint8_t a;
     uint8_t b;
     uint8_t c;
-    uint8_t unused[3];
+    uint8_t unused[11];
 };
 
 /* Whether the bytes are a record: a step that there is, flags 0 or 1, and 0 in every byte that the step does not use.

@@ -1,4 +1,6 @@
 /* Which bytes are a record, and which records are in range, in the plain model. */
+#include <string.h>
+
 #include "parts.h"
 #include "toemsakun.h"
 
@@ -41,10 +43,14 @@ static const struct shape shapes[PIO_STATUS + 1] = {
     [PIO_STATUS] = {SWITCH, 0, 7, 0xFF, 0},
 };
 
-/* Whether the bytes after the fields are 0. */
+/* Whether the bytes after the fields are 0: the first eight and the last eight of them, as two numbers. */
 static bool rest_is_zero(const struct chip *chip)
 {
-    return chip->unused[0] == 0 && chip->unused[1] == 0 && chip->unused[2] == 0;
+    uint64_t first, last;
+    _Static_assert(sizeof chip->unused > sizeof first && sizeof chip->unused <= 2 * sizeof first, "two numbers hold all");
+    memcpy(&first, chip->unused, sizeof first);
+    memcpy(&last, chip->unused + sizeof chip->unused - sizeof last, sizeof last);
+    return (first | last) == 0;
 }
 
 bool chip_is_record(const struct chip *chip)

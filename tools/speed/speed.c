@@ -33,8 +33,8 @@ static size_t event_count;
 /* A line, lent or in structs. */
 static struct line {
     uint8_t table[TK_MOST_CHIPS * TK_RECORD_SIZE];
-    uint8_t images[TK_MOST_CHIPS * TK_IMAGE_SIZE];
-    uint8_t pads[TK_MOST_CHIPS * TK_PAD_SIZE];
+    uint8_t images[TK_MOST_IMAGES_SIZE];
+    uint8_t pads[TK_MOST_PADS_SIZE];
     size_t table_size, images_size, pads_size;
     struct plain_line structs;
 } line, first;

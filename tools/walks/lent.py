@@ -1,21 +1,21 @@
 # The walked functions of crates/lent, and the contracts of what they call. See README.md beside this file.
 CRATE = 'lent'
 TYPES = {
-    'Chip': 'chip', 'Spot': 'turns', 'Look': 'turns', 'Sum': 'turns', 'Plan': 'turns', 'Task': 'turns', 'Turned': 'turns',
-    'Act': 'line', 'Answer': 'line', 'Event': 'line', 'Standing': 'line', 'CardAnswer': 'card', 'Ask': 'machine', 'Machine': 'machine', 'Told': 'machine',
+    'Chip': 'chip', 'Spot': 'line', 'Survey': 'line', 'Bus': 'line', 'Plan': 'line', 'Turned': 'line',
+    'Act': 'line', 'Answer': 'line', 'Event': 'line', 'Verdict': 'line', 'CardAnswer': 'card', 'Ask': 'machine', 'Machine': 'machine', 'Told': 'machine',
 }
-ENUMS = ['Act', 'Answer', 'CardAnswer', 'Standing', 'Ask', 'Plan', 'Task']
+ENUMS = ['Act', 'Answer', 'CardAnswer', 'Verdict', 'Ask', 'Plan']
 STRUCTS = {
     'Event': [('number', 'u32'), ('chip', 'u32'), ('levels', 'u32')],
-    'Sum': [('value', 'bool'), ('spot', 'Spot')],
+    'Bus': [('value', 'bool'), ('spot', 'Spot')],
     'Turned': [('chip', 'Chip'), ('spot', 'Spot')],
     'Filled': [('chip', 'Chip'), ('fill', 'Fill')],
 }
-WALK = 'Rattle.turns.specs.Walk.'
+WALK = 'Rattle.line.specs.Carrier.'
 NO_CHIP = 'Rattle.line.specs.Event.{noChip}'
 LENT = 'Rattle.line.specs.Layout.{lent}'
 OUTCOME = 'Rattle.line.specs.Event.{answered, outcome}'
-AGREE = 'Rattle.turns.specs.Agree.'
+AGREE = 'Rattle.lent.specs.Turning.'
 CHIP = 'Rattle.chip.specs.Chip.'
 RECORD, OWN = ('c', '&mut Chip'), [('m', '&mut [u8]'), ('s', '&mut [u8]')]
 LIST = ('list', '&mut [u64]')
@@ -27,48 +27,49 @@ TABLE, BUFFERS = ('table', '&mut [Chip]'), [('ms', '&mut [u8]'), ('ss', '&mut [u
 
 FNS = [
     # what is called, by its contract
-    dict(name='turns::first_look', params=[], result='Look', ensures='r ≡ firstLook'),
-    dict(name='turns::look_at', params=[('c', 'Chip'), ('l', 'Look'), ('chip', 'u32')], result='Look', ensures='r ≡ lookAt chip c l'),
-    dict(name='turns::first_sum', params=[('host', 'bool')], result='Sum', ensures='r ≡ firstSum host'),
-    dict(name='turns::sum_at', params=[('c', 'Chip'), ('s', 'Sum'), ('ms', '&[u8]'), ('ss', '&[u8]')], result='Sum', ensures='r ≡ sumAt c s ms ss'),
-    dict(name='turns::first_spot', params=[], result='Spot', ensures='r ≡ firstSpot'),
-    dict(name='turns::act_turn', params=[('c', 'Chip'), ('p', 'Spot'), ('task', 'Task')] + BUFFERS, result='Turned',
-         ensures='turned (r .chip) (r .spot) ms′ ss′ ≡ turnOf task c p ms ss'),
-    dict(name='turns::host_bit', params=[('plan', 'Plan')], result='bool', ensures='r ≡ hostBit plan'),
-    dict(name='turns::task_of', params=[('plan', 'Plan'), ('value', 'bool')], result='Task', ensures='r ≡ taskOf plan value'),
-    dict(name='turns::answer_of', params=[('plan', 'Plan'), ('value', 'bool'), ('n', 'usize')], result='Answer', ensures='r ≡ answerOf plan value n'),
-    dict(name='turns::plan_of', params=[('l', 'Look'), ('n', 'usize'), ('ev', 'Event'), ('images', 'usize'), ('pads', 'usize')], result='Plan',
-         ensures='r ≡ planOf l n ev images pads'),
+    dict(name='line::carrier::first_survey', params=[], result='Survey', ensures='r ≡ firstSurvey'),
+    dict(name='line::carrier::survey_chip', params=[('c', 'Chip'), ('l', 'Survey'), ('chip', 'u32')], result='Survey', ensures='r ≡ surveyChip chip c l'),
+    dict(name='line::carrier::first_bus', params=[('plan', 'Plan')], result='Bus', ensures='r ≡ firstBus plan'),
+    dict(name='line::carrier::bus_with', params=[('c', 'Chip'), ('s', 'Bus'), ('plan', 'Plan'), ('ms', '&[u8]'), ('ss', '&[u8]')], result='Bus', ensures='r ≡ busWith plan c s ms ss'),
+    dict(name='line::carrier::first_spot', params=[], result='Spot', ensures='r ≡ firstSpot'),
+    dict(name='line::carrier::turn', params=[('c', 'Chip'), ('p', 'Spot'), ('plan', 'Plan'), ('value', 'bool')] + BUFFERS, result='Turned',
+         ensures='turned (r .chip) (r .spot) ms′ ss′ ≡ turnOf plan value c p ms ss'),
+    dict(name='line::carrier::answer_of', params=[('plan', 'Plan'), ('value', 'bool')], result='Answer', ensures='r ≡ answerFor plan value'),
+    dict(name='line::carrier::plan_of', params=[('l', 'Survey'), ('n', 'usize'), ('ev', 'Event'), ('images', 'usize'), ('pads', 'usize')], result='Plan',
+         ensures='r ≡ planSeen l n ev images pads'),
 
     # the three loops over the table
-    dict(name='look_over', walk=True, params=[('table', '&[Chip]'), ('chip', 'u32')], result='Look', ensures='r ≡ lookedOver chip table firstLook',
-         uses=[WALK + '{firstLook, lookAt, lookedOver}', NO_CHIP, 'Rattle.lent.proofs.Folds.{folded}'],
-         loop=dict(table='table', blank='noChip', state=[('seen', 'Look')],
-                   inv='walk-fold noChip (lookAt chip) table k i seen ≡ lookedOver chip table firstLook',
-                   inv0='walk-fold-is noChip (lookAt chip) table r ∙ folded chip table r ∙ ap (λ (l : Look). lookedOver chip table l) e',
-                   step='ap (λ (l : Look). walk-fold noChip (lookAt chip) table k (suc i) l) e ∙ inv')),
-    dict(name='line_value', walk=True, params=[('table', '&[Chip]'), ('host', 'bool'), ('ms', '&[u8]'), ('ss', '&[u8]')], result='bool',
-         ensures='r ≡ sums (length table) 0 table (firstSum host) ms ss', uses=[WALK + '{firstSum, sumAt, sums}', NO_CHIP],
-         loop=dict(table='table', blank='noChip', state=[('sum', 'Sum')],
-                   inv='sums k i table sum ms ss ≡ sums (length table) 0 table (firstSum host) ms ss',
-                   inv0='ap (λ (s : Sum). sums (length table) 0 table s ms ss) e',
-                   step='ap (λ (s : Sum). sums k (suc i) table s ms ss) e ∙ inv')),
-    dict(name='all_act', walk=True, params=[TABLE, ('task', 'Task')] + BUFFERS, result='unit',
-         ensures='lent table′ ms′ ss′ ≡ acts task (length table) 0 firstSpot table ms ss', uses=[WALK + '{Turn, turned, turnOf, firstSpot, acts}', NO_CHIP, LENT],
+    dict(name='survey_table', walk=True, params=[('table', '&[Chip]'), ('chip', 'u32')], result='Survey', ensures='r ≡ surveyed chip (length table) table',
+         uses=[WALK + '{over as overChips, firstSurvey, surveyChip, surveyed}', NO_CHIP, AGREE + '{over-turn, over-none}'],
+         loop=dict(table='table', blank='noChip', state=[('seen', 'Survey')],
+                   inv='overChips (surveyChip chip) k i table seen ≡ surveyed chip (length table) table',
+                   inv0='ap (λ (l : Survey). overChips (surveyChip chip) (length table) 0 table l) e',
+                   step='over-turn (surveyChip chip) k i table seen r e ∙ inv',
+                   done='over-none (surveyChip chip) i table seen ∙ inv')),
+    dict(name='line_value', walk=True, params=[('table', '&[Chip]'), ('plan', 'Plan'), ('ms', '&[u8]'), ('ss', '&[u8]')], result='bool',
+         ensures='r ≡ busOver plan (length table) table ms ss .value', uses=[WALK + '{over as overChips, firstBus, busWith, busOver}', NO_CHIP, AGREE + '{over-turn, over-none}'],
+         loop=dict(table='table', blank='noChip', state=[('sum', 'Bus')],
+                   inv='overChips (λ (c : Chip) (s : Bus). busWith plan c s ms ss) k i table sum ≡ busOver plan (length table) table ms ss',
+                   inv0='ap (λ (s : Bus). overChips (λ (c : Chip) (s : Bus). busWith plan c s ms ss) (length table) 0 table s) e',
+                   step='over-turn (λ (c : Chip) (s : Bus). busWith plan c s ms ss) k i table sum r e ∙ inv',
+                   done='ap (λ (s : Bus). s .value) (over-none (λ (c : Chip) (s : Bus). busWith plan c s ms ss) i table sum ∙ inv)')),
+    dict(name='all_turn', walk=True, params=[TABLE, ('plan', 'Plan'), ('value', 'bool')] + BUFFERS, result='unit',
+         ensures='lent table′ ms′ ss′ ≡ acts plan value (length table) 0 firstSpot table ms ss', uses=[WALK + '{turned, turnOf, firstSpot, acts}', NO_CHIP, LENT, AGREE + '{acts-turn, acts-none}'],
          loop=dict(table='table', blank='noChip', state=[('spot', 'Spot')],
-                   inv='acts task k i spot table′ ms′ ss′ ≡ acts task (length table) 0 firstSpot table ms ss',
-                   inv0='ap (λ (p : Spot). acts task (length table) 0 p table ms ss) e',
-                   step='ap (λ (t : Turn). acts task k (suc i) (t .spot) (set table′ i (t .chip)) (t .images) (t .pads)) e ∙ inv')),
+                   inv='acts plan value k i spot table′ ms′ ss′ ≡ acts plan value (length table) 0 firstSpot table ms ss',
+                   inv0='ap (λ (p : Spot). acts plan value (length table) 0 p table ms ss) e',
+                   step='acts-turn plan value k i spot (r .spot) table′ ms′ ss′ (r .chip) (ws .1 .1 .1 .1 .0) (ws .1 .1 .1 .1 .1 .0) e ∙ inv',
+                   done='acts-none plan value i spot table′ ms′ ss′ ∙ inv')),
 
     # thin functions over the table
     dict(name='do_plan', walk=True, params=[TABLE, ('plan', 'Plan')] + BUFFERS, result='Answer',
          ensures='outcome (answered r) (length table′) (lent table′ ms′ ss′) ≡ planDone plan table ms ss',
-         uses=[WALK + '{firstSpot, firstSum, hostBit, taskOf, answerOf, sums, acts, planDone}', LENT, OUTCOME, AGREE + '{plan-done}'],
-         proof='plan-done plan table (ws4 .0) ms ss (ws4 .1 .1 .0) (ws4 .1 .1 .1 .0) r r2 r3 r5 e e2 e3 e4 e5 table-as-long4'),
+         uses=[WALK + '{firstSpot, answerFor, busOver, acts}', LENT, OUTCOME, AGREE + '{planDone, plan-done}'],
+         proof='plan-done plan table (ws2 .0) ms ss (ws2 .1 .1 .1 .0) (ws2 .1 .1 .1 .1 .0) r r3 e e2 e3 table-as-long2'),
     dict(name='take_event', walk=True, params=[TABLE, ('ev', 'Event')] + BUFFERS, result='Answer',
          ensures='outcome (answered r) (length table′) (lent table′ ms′ ss′) ≡ eventOf (length table) table ev ms ss',
-         uses=[WALK + '{firstLook, lookedOver, planOf, planDone}', LENT, OUTCOME, 'Rattle.line.specs.Event.{eventOf}', AGREE + '{event-planned}'],
-         proof='e3 ∙ event-planned table ev ms ss r r2 e e2'),
+         uses=[WALK + '{surveyed, planSeen}', LENT, OUTCOME, 'Rattle.line.specs.Event.{eventOf}', AGREE + '{planDone, event-planned}'],
+         proof='e3 ∙ event-planned table ms ss ev r r2 e e2'),
 
     # one chip's record
     dict(name='chip::takes', params=[('c', 'Chip'), ('v', 'bool')] + OWN, result='Chip', ensures='wholeChip r m′ s′ ≡ takesOf v (wholeChip c m s)'),
@@ -86,15 +87,15 @@ FNS = [
     dict(name='machine::asks', params=[('h', 'Machine')], result='Ask', ensures='r ≡ asksOf h'),
     dict(name='machine::hears', params=[('h', 'Machine'), ('a', 'Answer'), LIST], result='Machine', ensures='stand r list′ ≡ hearsOf h (answered a) list'),
     dict(name='machine::begin', params=[('places', 'usize')], result='Machine', ensures='r ≡ beginOf places'),
-    dict(name='turns::stands_by', params=[('l', 'Look'), ('n', 'usize'), ('images', 'usize'), ('pads', 'usize')], result='Standing', ensures='r ≡ standsBy l n images pads'),
+    dict(name='line::carrier::verdict_by', params=[('l', 'Survey'), ('n', 'usize'), ('images', 'usize'), ('pads', 'usize')], result='Verdict', ensures='r ≡ verdictBy l n images pads'),
     dict(name='lent::seeking::chip_of', params=[('ask', 'Ask')], result='u32', ensures='r ≡ chipOf ask'),
-    dict(name='lent::seeking::plan_ask', params=[('ask', 'Ask'), ('l', 'Look'), ('n', 'usize'), ('images', 'usize'), ('pads', 'usize')], result='Plan', ensures='r ≡ planAsk ask l n images pads'),
-    dict(name='lent::seeking::turns_for', params=[('stands', 'Standing')], result='usize', ensures='r ≡ turnsFor stands'),
-    dict(name='lent::seeking::tell_by', params=[('stands', 'Standing'), ('h', 'Machine')], result='Told',
-         ensures='tale (searched (r .answer)) (r .listed) (r .resets .0) (r .slots .0) ≡ tellsBy stands h'),
+    dict(name='lent::seeking::plan_ask', params=[('ask', 'Ask'), ('l', 'Survey'), ('n', 'usize'), ('images', 'usize'), ('pads', 'usize')], result='Plan', ensures='r ≡ planAsk ask l n images pads'),
+    dict(name='lent::seeking::turns_for', params=[('judged', 'Verdict')], result='usize', ensures='r ≡ turnsFor judged'),
+    dict(name='lent::seeking::tell_by', params=[('judged', 'Verdict'), ('h', 'Machine')], result='Told',
+         ensures='tale (searched (r .answer)) (r .listed) (r .resets .0) (r .slots .0) ≡ tellsBy judged h'),
     dict(name='lent::seeking::ask_line', walk=True, params=[TABLE, ('ask', 'Ask')] + BUFFERS, result='Answer',
          ensures='(answered r ≡ saysTo wire ask (attached (length table) table ms ss)) × (attached (length table′) table′ ms′ ss′ ≡ leavesTo wire ask (attached (length table) table ms ss))',
-         uses=[WALK + '{firstLook, lookedOver, planDone}', SEEK + '{chipOf, planAsk}', LENT, OUTCOME, RUN + '{saysTo, leavesTo}', ATTACHED, 'Rattle.lent.specs.Found.{asked}'],
+         uses=[WALK + '{surveyed}', AGREE + '{planDone}', SEEK + '{chipOf, planAsk}', LENT, OUTCOME, RUN + '{saysTo, leavesTo}', ATTACHED, 'Rattle.lent.specs.Found.{asked}'],
          proof='asked table ask ms ss r r2 r3 r4 (ws4 .0) (ws4 .1 .1 .0) (ws4 .1 .1 .1 .0) e e2 e3 e4'),
     dict(name='lent::seeking::run_host', walk=True, params=[TABLE, ('turns', 'usize'), ('first', 'Machine'), LIST] + BUFFERS, result='Machine',
          ensures='ran r list′ (attached (length table′) table′ ms′ ss′) ≡ machineRun wire turns first list (attached (length table) table ms ss)',
@@ -106,7 +107,7 @@ FNS = [
                    done='run-over host list′ (attached (length table′) table′ ms′ ss′) ∙ inv')),
     dict(name='lent::seeking::search_line', walk=True, params=[TABLE, LIST] + BUFFERS, result='Told',
          ensures='found (searched (r .answer)) (r .listed) list′ (r .resets .0) (r .slots .0) (attached (length table′) table′ ms′ ss′) ≡ searchOf list (attached (length table) table ms ss)',
-         uses=[WALK + '{firstLook, lookedOver, standsBy}', SEEK + '{turnsFor, tellsBy}', RUN + '{ran, run as machineRun}', MACHINE + '{beginOf, tale}', ATTACHED, 'Rattle.search.specs.Search.{searched, outcome as found, searchOf}', 'Rattle.lent.specs.Found.{searches}'],
+         uses=[WALK + '{surveyed, verdictBy}', SEEK + '{turnsFor, tellsBy}', RUN + '{ran, run as machineRun}', MACHINE + '{beginOf, tale}', ATTACHED, 'Rattle.search.specs.Search.{searched, outcome as found, searchOf}', 'Rattle.lent.specs.Found.{searches}'],
          proof='searches table list ms ss r r2 r3 r4 r5 (ws5 .1 .1 .1 .0) (attached (length (ws5 .0)) (ws5 .0) (ws5 .1 .1 .1 .1 .0) (ws5 .1 .1 .1 .1 .1 .0)) (searched (r6 .answer)) (r6 .listed) (r6 .resets .0) (r6 .slots .0) e e2 e3 e4 e5 e6'),
 
     # set-up from a card

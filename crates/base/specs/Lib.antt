@@ -3,3 +3,4 @@ pub mod Bits
 pub mod Rules
 pub mod Fill
 pub mod Both
+pub mod Along

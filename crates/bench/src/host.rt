@@ -1,7 +1,6 @@
 // The host: events put on the line, and bytes as runs of eight slots, least significant bit first.
 use crate::text;
 use line::Answer;
-use line::Event;
 use line::Table;
 
 // What the host hears of an event, and the table that it leaves.
@@ -20,10 +19,7 @@ pub struct ReadByte {
 fn bit_heard(answer: Answer) -> bool {
     match answer {
         Answer::Bit(bit) => bit,
-        Answer::OutOfRange => text::refused(8),
-        Answer::WrongSize => text::refused(5),
-        Answer::NoSuchEvent => text::refused(6),
-        Answer::NoSuchLevels => text::refused(7),
+        Answer::Refused(r) => text::refused(line::number_of(r) as u64),
     }
 }
 
@@ -36,11 +32,7 @@ fn put_event(
     images: &mut [u8],
     pads: &mut [u8],
 ) -> Heard {
-    let event = Event {
-        number: number,
-        chip: chip,
-        levels: levels,
-    };
+    let event = line::events::numbered(number, chip, levels);
     let happened = line::take_event(table, event, images, pads);
     let answer = happened.answer;
     let left = happened.table;

@@ -22,8 +22,7 @@ fn refusal_of(answer: SearchAnswer) -> u64 {
     match answer {
         SearchAnswer::Complete => 0,
         SearchAnswer::TooFewPlaces => 4,
-        SearchAnswer::WrongSize => 5,
-        SearchAnswer::OutOfRange => 8,
+        SearchAnswer::Refused(r) => line::number_of(r) as u64,
     }
 }
 

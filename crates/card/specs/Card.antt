@@ -5,7 +5,7 @@ use lib.Dec.{eqb, ltb}
 use lib.ListN.{length, getD, drop}
 use Rattle.base.specs.Pick.{pick}
 use Rattle.chip.specs.Chip.{setUpChip}
-use Rattle.chip.specs.Range.{knownKind}
+use Rattle.chip.specs.Kinds.{knownKind}
 use Rattle.chip.specs.declared.Chip.{Chip}
 use Rattle.line.specs.Layout.{capped}
 use Rattle.records.specs.Records.{headAt}

@@ -11,7 +11,7 @@ use lib.ListN.{length, take, drop, set, take-append-drop, length-set}
 use lib.Seq.{take-suc-set, drop-set-lt, drop-drop, length-take-le}
 use Rattle.base.specs.Pick.{pick}
 use Rattle.chip.specs.Chip.{setUpChip}
-use Rattle.chip.specs.Range.{knownKind}
+use Rattle.chip.specs.Kinds.{knownKind}
 use Rattle.chip.specs.declared.Chip.{Chip}
 use Rattle.line.specs.Layout.{capped}
 use Rattle.records.specs.Records.{headAt}

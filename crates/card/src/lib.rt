@@ -5,7 +5,7 @@ use records::Head;
 ghost use mathlib.Core.Path.{_≡_};
 ghost use Prim.Native.Nat.{_+_};
 ghost use lib.ListN.{getD};
-ghost use Rattle.chip.specs.Range.{knownKind};
+ghost use Rattle.chip.specs.Kinds.{knownKind};
 ghost use Rattle.card.specs.Card.{carded, codeAt, cutEntry, wholeEntry, entryAt, setUp, setUpOf};
 
 // What set-up answers: the number of chips, or a refusal with the offset of the record's first byte.

@@ -6,15 +6,17 @@ use lib.ListN.{replicate, take, drop, getD, set}
 use Rattle.base.specs.Pick.{pick}
 use Rattle.base.specs.Bits.{bitOf}
 use Rattle.scratchpad.specs.declared.MemoryPhase.{MemoryPhase}
-use Rattle.chip.specs.Chip.{Whole, whole, chipWith}
+use Rattle.chip.specs.With.{withLevel}
+use Rattle.chip.specs.Chip.{Whole, whole}
 use Rattle.chip.specs.declared.Level.the-variants.{Memory}
-use Rattle.chip.specs.Range.{imageSize, padSize}
+use Rattle.chip.specs.Kinds.{imageSize, padSize}
 use Rattle.line.specs.Event.{Answered, bit, refused, noChip}
 use Rattle.line.specs.Layout.{lineOf, imagesSize, padsSize}
 use Rattle.line.specs.declared.Event.{Event}
 use Rattle.card.specs.Card.{SetUp, setUpOf}
 use Rattle.search.specs.Search.{Attached, attached}
-use Rattle.search.specs.Host.{heard, eventNumber, slotEvent, resetEvent}
+use Rattle.line.specs.Events.{slotEvent, resetEvent, powerOnEvent}
+use Rattle.search.specs.Host.{heard}
 use Rattle.runs.specs.Runs.{at, run, answers}
 
 -- a table of 16 places without chips
@@ -26,7 +28,7 @@ abbrev pub lineOfCard : List ℕ → List Whole
 lineOfCard card =
     let u = emptySetUp card in
     let cs = take (u .count) (u .table) in
-    run (eventNumber 3 ∷ []) (lineOf (u .count) (u .table) (replicate (imagesSize cs) 0xFF) (replicate (padsSize cs) 0xFF))
+    run (powerOnEvent ∷ []) (lineOf (u .count) (u .table) (replicate (imagesSize cs) 0xFF) (replicate (padsSize cs) 0xFF))
 
 -- the table that a card sets up, with its buffers
 abbrev pub tableOfCard : List ℕ → Attached
@@ -86,4 +88,4 @@ withByte a b (w ∷ L) = whole (w .chip) (set (w .memory) a b) (w .pad) ∷ L
 -- the line with chip 0, a DS28EC20, at a phase
 abbrev pub atPhase : MemoryPhase → List Whole → List Whole
 atPhase p [] = []
-atPhase p (w ∷ L) = whole (chipWith (w .chip) (Memory p) (w .chip .rc) (w .chip .registers) (w .chip .switch)) (w .memory) (w .pad) ∷ L
+atPhase p (w ∷ L) = whole (withLevel (Memory p) (w .chip)) (w .memory) (w .pad) ∷ L

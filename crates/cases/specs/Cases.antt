@@ -12,7 +12,8 @@ use Rattle.line.specs.declared.Event.{Event}
 use Rattle.scratchpad.specs.declared.MemoryPhase.the-variants.{SendCrc}
 use Rattle.search.specs.Search.{Attached, searchOf, complete, refused}
 use Rattle.runs.specs.Runs.{at, run, lineWire}
-use Rattle.search.specs.Host.{Listed, listed, play, searchHost, resetEvent}
+use Rattle.line.specs.Events.{resetEvent, levelsEvent}
+use Rattle.search.specs.Host.{Listed, listed, play, searchHost}
 use Rattle.cases.specs.Bench.{lineOfCard, tableOfCard, record12, session, written, bytesRead, bitsRead, withByte, atPhase}
 
 -- one DS28EC20, and one DS2413
@@ -67,10 +68,6 @@ staleCopy = session (0x0F ∷ 0x20 ∷ 0x01 ∷ []) ++ copyOf 0x20 0x01 0x00
 -- a status by PIO Access Read
 abbrev pub statusOn : List Event → List Whole → List ℕ
 statusOn es L = bytesRead (es ++ session (0xF5 ∷ [])) 1 L
-
--- outside levels of chip 0
-abbrev pub levelsEvent : ℕ → Event
-levelsEvent l = record { number = 4; chip = 0; levels = l }
 
 -- "The four first bytes of 002 (bit 0 first: 00110101, 10101010, 11110101, 00010001), other bits 0"
 abbrev pub fourLine : List Whole
@@ -136,5 +133,5 @@ pub record Cases : Type 0 where
   pub open-status : statusOn [] switchLine ≡ 0x0F ∷ []
   pub switched : bytesRead (session (0x5A ∷ 0xFE ∷ 0x01 ∷ [])) 2 switchLine ≡ 0xAA ∷ 0x3C ∷ []
   -- 8: "Latches open, A held low outside: 1Eh. Two chips at 0Fh and 3Ch read together: 0Ch."
-  pub held-low : statusOn (levelsEvent 2 ∷ []) switchLine ≡ 0x1E ∷ []
+  pub held-low : statusOn (levelsEvent 0 2 ∷ []) switchLine ≡ 0x1E ∷ []
   pub together : statusOn switchOne twoLine ≡ 0x0C ∷ []

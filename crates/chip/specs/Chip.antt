@@ -2,22 +2,34 @@
 use Prim.Native.Nat.{ℕ, _+_}
 use mathlib.Core.Bool.{Bool, true, false}
 use mathlib.Core.List.{List}
-use lib.Dec.{eqb, ltb}
+use lib.Dec.{ltb}
 use lib.ListN.{length, replicate}
 use Rattle.base.specs.Pick.{pick}
 use Rattle.base.specs.Bits.{filled}
 use Rattle.rom.specs.Rom.{romTakes, romSends}
+use Rattle.rom.specs.declared.Knows.{Knows}
 use Rattle.rom.specs.declared.RomNext.{RomNext}
 use Rattle.rom.specs.declared.RomNext.the-variants as next
 use Rattle.rom.specs.declared.RomStep.{RomStep}
 use Rattle.rom.specs.declared.RomStep.the-variants.{Command}
 use Rattle.scratchpad.specs.Registers.{powerOnRegisters}
-use Rattle.scratchpad.specs.Scratchpad.{memoryFunction, memoryTakes, memorySends, memoryReset}
+use Rattle.scratchpad.specs.Scratchpad.{handOf, memoryBegins, memoryTakes, memorySends, memoryReset}
 use Rattle.scratchpad.specs.declared.Registers.{Registers}
 use Rattle.scratchpad.specs.declared.MemoryPhase.{MemoryPhase}
 use Rattle.scratchpad.specs.declared.MemoryStep.{MemoryStep}
-use Rattle.ds28ec20.specs.Image.{Bytes, sightOf, done}
-use Rattle.ds2413.specs.Switch.{switch, switchFunction, switchTakes, switchSends, switchPowerOn, switchSetUp}
+use Rattle.scratchpad.specs.declared.Sight.{Sight}
+use Rattle.scratchpad.specs.declared.Deed.{Deed}
+use Rattle.scratchpad.specs.declared.Deed.the-variants.{Nothing}
+use Rattle.scratchpad.specs.Map.{Map}
+use Rattle.memory.specs.declared.Look.{Look}
+use Rattle.memory.specs.declared.Look.the-variants as look
+use Rattle.memory.specs.declared.Seen.{Seen}
+use Rattle.memory.specs.Part.{mapOf}
+use Rattle.memory.specs.Memory.{Bytes, lookOf, seenIn, sightBy, done}
+use Rattle.chip.specs.Kinds.{partOf, hasMemory, hasScratchpad, hasRegisters, hasSwitch, takesLevels, knowsOf}
+use Rattle.chip.specs.With.{withRc, withLevel, withRegisters, withSwitch}
+use Rattle.chip.specs.declared.ChipAfter.{ChipAfter}
+use Rattle.ds2413.specs.Switch.{switchLevels, switchBegins, switchTakes, switchSends, switchPowerOn, switchSetUp}
 use Rattle.ds2413.specs.declared.Switch.{Switch}
 use Rattle.ds2413.specs.declared.SwitchPhase.{SwitchPhase}
 use Rattle.ds2413.specs.declared.SwitchStep.{SwitchStep}
@@ -34,9 +46,13 @@ pub record Whole : Type 0 where
 abbrev pub whole : Chip → List ℕ → List ℕ → Whole
 whole c m s = record { chip = c; memory = m; pad = s }
 
--- the same chip at another level, with RC and the registers of each part
-abbrev pub chipWith : Chip → Level → Bool → Registers → Switch → Chip
-chipWith c l rc r w = record { code = c .code; kind = c .kind; rc = rc; level = l; registers = r; switch = w }
+-- the map of a chip's part
+abbrev pub chipMap : Chip → Map
+chipMap c = mapOf (partOf (c .kind))
+
+-- where a slot leaves a chip, and its deed
+abbrev pub left : Chip → Deed → ChipAfter
+left c d = record { chip = c; deed = d }
 
 -- where the ROM level leads
 abbrev pub levelOf : RomNext → Level
@@ -47,78 +63,113 @@ levelOf next.Function = FunctionCommand 0 0
 -- a slot at the ROM level
 unfoldable pub romSlot : Chip → RomStep → Bool → Chip
 romSlot c s v =
-    chipWith c (levelOf (romTakes (c .code) (c .rc) v s .next)) (romTakes (c .code) (c .rc) v s .rc) (c .registers) (c .switch)
+    let t = romTakes (c .code) (c .rc) v (knowsOf (c .kind)) s in
+    withLevel (levelOf (t .next)) (withRc (t .rc) c)
+
+-- a chip after a step of a memory
+abbrev pub afterMemory : Chip → MemoryStep → ChipAfter
+afterMemory c t = left (withLevel (Memory (t .phase)) (withRegisters (t .registers) c)) (t .deed)
+
+-- a chip after a step of a switch
+abbrev pub afterSwitch : Chip → SwitchStep → Chip
+afterSwitch c t = withLevel (Pio (t .phase)) (withSwitch (t .switch) c)
 
 -- the function command b: "The kind of a chip is told, never guessed from its code."
-unfoldable pub functionLevel : Chip → ℕ → Level
-functionLevel c b =
-    pick (eqb (c .kind) 1) (Memory (memoryFunction b))
-    (pick (eqb (c .kind) 2) (Pio (switchFunction (c .switch) b))
-    Waiting)
+unfoldable pub functionIn : Chip → ℕ → ChipAfter
+functionIn c b =
+    pick (hasMemory (c .kind)) (afterMemory c (memoryBegins (c .registers) b))
+    (pick (hasSwitch (c .kind)) (left (afterSwitch c (switchBegins (c .switch) b)) Nothing)
+    (left (withLevel Waiting c) Nothing))
 
 -- a bit of the function command
-unfoldable pub functionSlot : Chip → ℕ → ℕ → Bool → Chip
+unfoldable pub functionSlot : Chip → ℕ → ℕ → Bool → ChipAfter
 functionSlot c count bits v =
-    pick (ltb count 7) (chipWith c (FunctionCommand (count + 1) (filled 0x80 bits v)) (c .rc) (c .registers) (c .switch))
-    (chipWith c (functionLevel c (filled 0x80 bits v)) (c .rc) (c .registers) (c .switch))
+    pick (ltb count 7) (left (withLevel (FunctionCommand (count + 1) (filled 0x80 bits v)) c) Nothing)
+    (functionIn c (filled 0x80 bits v))
 
--- where a slot leads a DS28EC20 at a phase, by what it sees of its memory and scratchpad
-unfoldable pub memoryStep : Chip → MemoryPhase → Bool → List ℕ → List ℕ → MemoryStep
-memoryStep c p v m s = memoryTakes (c .registers) v (sightOf (c .registers) p m s) p
+-- what a memory looks at and sees at a phase
+unfoldable pub memoryLook : Chip → MemoryPhase → Look
+memoryLook c p = lookOf (chipMap c) (handOf (c .registers .t) p)
 
--- a chip and the bytes that a deed left
-abbrev pub withBytes : Chip → Bytes → Whole
-withBytes c b = whole c (b .memory) (b .pad)
+unfoldable pub memorySight : Chip → MemoryPhase → Seen → Sight
+memorySight c p x = sightBy (chipMap c) (c .registers .es) x (handOf (c .registers .t) p)
 
-abbrev pub afterMemory : Chip → MemoryStep → List ℕ → List ℕ → Whole
-afterMemory c t m s = withBytes (chipWith c (Memory (t .phase)) (c .rc) (t .registers) (c .switch)) (done m s (t .deed))
-
--- a slot at a phase of a DS28EC20
-unfoldable pub memorySlot : Chip → MemoryPhase → Bool → List ℕ → List ℕ → Whole
-memorySlot c p v m s = afterMemory c (memoryStep c p v m s) m s
-
-abbrev pub afterSwitch : Chip → SwitchStep → Chip
-afterSwitch c t = chipWith c (Pio (t .phase)) (c .rc) (c .registers) (t .switch)
+-- a slot at a phase of a memory
+unfoldable pub memorySlot : Chip → MemoryPhase → Bool → Seen → ChipAfter
+memorySlot c p v x = afterMemory c (memoryTakes (c .registers) v (memorySight c p x) p)
 
 -- a slot at a phase of a DS2413
 unfoldable pub switchSlot : Chip → SwitchPhase → Bool → Chip
 switchSlot c p v = afterSwitch c (switchTakes (c .switch) v p)
 
+-- which bytes a slot looks at, at each level
+abbrev pub levelLooks : Chip → Level → Look
+levelLooks c Waiting = look.Nothing
+levelLooks c (Rom s) = look.Nothing
+levelLooks c (FunctionCommand count bits) = look.Nothing
+levelLooks c (Memory p) = memoryLook c p
+levelLooks c (Pio p) = look.Nothing
+
+unfoldable pub looksOf : Chip → Look
+looksOf c = levelLooks c (c .level)
+
+-- where a slot of the value v leaves a chip, by what it saw, at each level
+abbrev pub levelTakesBy : Chip → Bool → Seen → Level → ChipAfter
+levelTakesBy c v x Waiting = left c Nothing
+levelTakesBy c v x (Rom s) = left (romSlot c s v) Nothing
+levelTakesBy c v x (FunctionCommand count bits) = functionSlot c count bits v
+levelTakesBy c v x (Memory p) = memorySlot c p v x
+levelTakesBy c v x (Pio p) = left (switchSlot c p v) Nothing
+
+unfoldable pub takesBy : Chip → Bool → Seen → ChipAfter
+takesBy c v x = levelTakesBy c v x (c .level)
+
+-- what a chip sends in a slot, by what it saw, at each level; "a chip with nothing to send sends 1"
+abbrev pub levelSendsBy : Chip → Seen → Level → Bool
+levelSendsBy c x Waiting = true
+levelSendsBy c x (Rom s) = romSends (c .code) s
+levelSendsBy c x (FunctionCommand count bits) = true
+levelSendsBy c x (Memory p) = memorySends (c .registers) (memorySight c p x) p
+levelSendsBy c x (Pio p) = switchSends p
+
+unfoldable pub sendsBy : Chip → Seen → Bool
+sendsBy c x = levelSendsBy c x (c .level)
+
+-- what a slot at a level sees of a whole chip
+abbrev pub levelSeen : Whole → Level → Seen
+levelSeen w l = seenIn (w .memory) (w .pad) (levelLooks (w .chip) l)
+
+-- a whole chip after a slot: its deed is done to memory and scratchpad
+abbrev pub wholeAfter : Whole → ChipAfter → Whole
+wholeAfter w t = let b = done (chipMap (w .chip)) (w .memory) (w .pad) (t .deed) in whole (t .chip) (b .memory) (b .pad)
+
 -- what a slot of the value v does at each level
 abbrev pub levelTakes : Whole → Bool → Level → Whole
-levelTakes w v Waiting = w
-levelTakes w v (Rom s) = whole (romSlot (w .chip) s v) (w .memory) (w .pad)
-levelTakes w v (FunctionCommand count bits) = whole (functionSlot (w .chip) count bits v) (w .memory) (w .pad)
-levelTakes w v (Memory p) = memorySlot (w .chip) p v (w .memory) (w .pad)
-levelTakes w v (Pio p) = whole (switchSlot (w .chip) p v) (w .memory) (w .pad)
+levelTakes w v l = wholeAfter w (levelTakesBy (w .chip) v (levelSeen w l) l)
 
 -- what a slot of the value v does to a chip
 unfoldable pub takesOf : Bool → Whole → Whole
 takesOf v w = levelTakes w v (w .chip .level)
 
--- what a chip sends in a slot at each level; "a chip with nothing to send sends 1"
+-- what a chip sends in a slot at each level
 abbrev pub levelSends : Whole → Level → Bool
-levelSends w Waiting = true
-levelSends w (Rom s) = romSends (w .chip .code) s
-levelSends w (FunctionCommand count bits) = true
-levelSends w (Memory p) = memorySends (w .chip .registers) (sightOf (w .chip .registers) p (w .memory) (w .pad)) p
-levelSends w (Pio p) = switchSends p
+levelSends w l = levelSendsBy (w .chip) (levelSeen w l) l
 
 -- the bit that a chip sends in a slot
 unfoldable pub sendsOf : Whole → Bool
 sendsOf w = levelSends w (w .chip .level)
 
 -- what a reset does to T and E/S at each level
-abbrev pub levelReset : Registers → Level → Registers
-levelReset r Waiting = r
-levelReset r (Rom s) = r
-levelReset r (FunctionCommand count bits) = r
-levelReset r (Memory p) = memoryReset r p
-levelReset r (Pio p) = r
+abbrev pub levelReset : Chip → Level → Registers
+levelReset c Waiting = c .registers
+levelReset c (Rom s) = c .registers
+levelReset c (FunctionCommand count bits) = c .registers
+levelReset c (Memory p) = memoryReset (c .registers) (chipMap c .cutSetsPF) p
+levelReset c (Pio p) = c .registers
 
 -- "After a reset every chip takes 8 bits .. Reset alone leaves RC, memory, scratchpad, registers and latches, save for the PF rule below."
 unfoldable pub resetChip : Chip → Chip
-resetChip c = chipWith c (Rom (Command 0 0)) (c .rc) (levelReset (c .registers) (c .level)) (c .switch)
+resetChip c = withLevel (Rom (Command 0 0)) (withRegisters (levelReset c (c .level)) c)
 
 unfoldable pub resetOf : Whole → Whole
 resetOf w = whole (resetChip (w .chip)) (w .memory) (w .pad)
@@ -126,20 +177,21 @@ resetOf w = whole (resetChip (w .chip)) (w .memory) (w .pad)
 -- "After power on a chip waits for a reset; slots do nothing and RC is 0."; a DS28EC20's T and E/S and a DS2413's latches are set
 unfoldable pub powerOnChip : Chip → Chip
 powerOnChip c =
-    chipWith c Waiting false
-    (pick (eqb (c .kind) 1) powerOnRegisters (c .registers))
-    (pick (eqb (c .kind) 2) (switchPowerOn (c .switch)) (c .switch))
+    withLevel Waiting
+    (withRc false
+    (withRegisters (pick (hasRegisters (c .kind)) powerOnRegisters (c .registers))
+    (withSwitch (pick (hasSwitch (c .kind)) (switchPowerOn (c .switch)) (c .switch)) c)))
 
 -- "scratchpad all FFh (here)"
 unfoldable pub powerOnPad : ℕ → List ℕ → List ℕ
-powerOnPad kind s = pick (eqb kind 1) (replicate (length s) 0xFF) s
+powerOnPad kind s = pick (hasScratchpad kind) (replicate (length s) 0xFF) s
 
 unfoldable pub powerOnOf : Whole → Whole
 powerOnOf w = whole (powerOnChip (w .chip)) (w .memory) (powerOnPad (w .chip .kind) (w .pad))
 
--- outside levels of a chip
+-- new outside levels of a chip, of a kind that takes them
 unfoldable pub levelsChip : ℕ → Chip → Chip
-levelsChip l c = chipWith c (c .level) (c .rc) (c .registers) (switch (c .switch .latches) l)
+levelsChip l c = withSwitch (pick (takesLevels (c .kind)) (switchLevels l (c .switch)) (c .switch)) c
 
 unfoldable pub levelsOf : ℕ → Whole → Whole
 levelsOf l w = whole (levelsChip l (w .chip)) (w .memory) (w .pad)

@@ -2,37 +2,52 @@
 use Prim.Native.Nat.{ℕ}
 use mathlib.Core.Bool.{Bool}
 use mathlib.Core.Path.{_≡_, _∙_, ap, sym}
+use mathlib.Core.List.{List}
+use Rattle.base.specs.Along.{along}
 use Rattle.rom.specs.declared.RomNext.{RomNext}
 use Rattle.scratchpad.specs.declared.Registers.{Registers}
-use mathlib.Core.List.{List}
-use Rattle.scratchpad.specs.declared.MemoryPhase.{MemoryPhase}
-use Rattle.scratchpad.specs.declared.MemoryStep.{MemoryStep}
-use Rattle.ds28ec20.specs.Image.{Bytes, bytes, done}
-use Rattle.chip.specs.Chip.{Whole, whole, chipWith, withBytes, afterMemory, memoryStep, memorySlot, levelOf, levelTakes, levelSends, levelReset}
+use Rattle.memory.specs.declared.Part.{Part}
+use Rattle.memory.specs.declared.Look.{Look}
+use Rattle.memory.specs.declared.Seen.{Seen}
+use Rattle.memory.specs.Part.{mapOf}
+use Rattle.memory.specs.Memory.{Bytes, bytes, seenIn, done}
+use Rattle.chip.specs.Kinds.{partOf}
+use Rattle.chip.specs.Chip.{Whole, whole, levelOf, levelLooks, levelTakesBy, levelSendsBy, levelReset, looksOf, takesBy, sendsBy, takesOf, sendsOf}
 use Rattle.chip.specs.declared.Chip.{Chip}
-use Rattle.chip.specs.declared.Level.the-variants.{Memory}
+use Rattle.chip.specs.declared.ChipAfter.{ChipAfter}
 use Rattle.chip.specs.Range.{levelInRange}
 use Rattle.chip.specs.declared.Level.{Level}
 
 pub level-at : (q p : RomNext) (r : Level) → q ≡ p → r ≡ levelOf p → r ≡ levelOf q
-level-at q p r e h = h ∙ ap (λ (k : RomNext). levelOf k) (sym e)
+level-at q p r = along (λ (k : RomNext). levelOf k) q p r
 
-pub takes-at : (w : Whole) (v : Bool) (q p : Level) (r : Whole) → q ≡ p → r ≡ levelTakes w v p → r ≡ levelTakes w v q
-takes-at w v q p r e h = h ∙ ap (λ (k : Level). levelTakes w v k) (sym e)
+pub looks-at : (c : Chip) (q p : Level) (r : Look) → q ≡ p → r ≡ levelLooks c p → r ≡ levelLooks c q
+looks-at c q p r = along (λ (k : Level). levelLooks c k) q p r
 
-pub sends-at : (w : Whole) (q p : Level) (r : Bool) → q ≡ p → r ≡ levelSends w p → r ≡ levelSends w q
-sends-at w q p r e h = h ∙ ap (λ (k : Level). levelSends w k) (sym e)
+pub takes-at : (c : Chip) (v : Bool) (x : Seen) (q p : Level) (r : ChipAfter) → q ≡ p → r ≡ levelTakesBy c v x p → r ≡ levelTakesBy c v x q
+takes-at c v x q p r = along (λ (k : Level). levelTakesBy c v x k) q p r
 
-pub reset-at : (s : Registers) (q p : Level) (r : Registers) → q ≡ p → r ≡ levelReset s p → r ≡ levelReset s q
-reset-at s q p r e h = h ∙ ap (λ (k : Level). levelReset s k) (sym e)
+pub sends-at : (c : Chip) (x : Seen) (q p : Level) (r : Bool) → q ≡ p → r ≡ levelSendsBy c x p → r ≡ levelSendsBy c x q
+sends-at c x q p r = along (λ (k : Level). levelSendsBy c x k) q p r
+
+pub reset-at : (c : Chip) (q p : Level) (r : Registers) → q ≡ p → r ≡ levelReset c p → r ≡ levelReset c q
+reset-at c q p r = along (λ (k : Level). levelReset c k) q p r
 
 pub in-range-at : (kind : ℕ) (q p : Level) (r : Bool) → q ≡ p → r ≡ levelInRange kind p → r ≡ levelInRange kind q
-in-range-at kind q p r e h = h ∙ ap (λ (k : Level). levelInRange kind k) (sym e)
+in-range-at kind q p r = along (λ (k : Level). levelInRange kind k) q p r
 
--- a slot at a phase of a DS28EC20: where it leads, the chip, and the bytes that the deed left
-pub memory-slot-is : (c r : Chip) (p : MemoryPhase) (v : Bool) (m s m′ s′ : List ℕ) (t : MemoryStep) → t ≡ memoryStep c p v m s → r ≡ chipWith c (Memory (t .phase)) (c .rc) (t .registers) (c .switch) → bytes m′ s′ ≡ done m s (t .deed) → whole r m′ s′ ≡ memorySlot c p v m s
-unfolding memorySlot
-memory-slot-is c r p v m s m′ s′ t e f g =
-    ap (λ (b : Bytes). withBytes r b) g
-    ∙ ap (λ (k : Chip). withBytes k (done m s (t .deed))) f
-    ∙ ap (λ (u : MemoryStep). afterMemory c u m s) e
+-- a slot in a row: look, fetch, step, and the deed done
+pub takes-is : (c : Chip) (v : Bool) (m s m′ s′ : List ℕ) (k : Look) (x : Seen) (t : ChipAfter) (p : Part)
+    → k ≡ looksOf c → x ≡ seenIn m s k → t ≡ takesBy c v x → p ≡ partOf (c .kind) → bytes m′ s′ ≡ done (mapOf p) m s (t .deed)
+    → whole (t .chip) m′ s′ ≡ takesOf v (whole c m s)
+unfolding takesOf takesBy looksOf
+takes-is c v m s m′ s′ k x t p e f g h d =
+    let y : x ≡ seenIn m s (levelLooks c (c .level)) = f ∙ ap (λ (l : Look). seenIn m s l) e in
+    ap (λ (b : Bytes). whole (t .chip) (b .memory) (b .pad)) d
+    ∙ ap (λ (q : Part). let b = done (mapOf q) m s (t .deed) in whole (t .chip) (b .memory) (b .pad)) h
+    ∙ ap (λ (u : ChipAfter). let b = done (mapOf (partOf (c .kind))) m s (u .deed) in whole (u .chip) (b .memory) (b .pad)) (g ∙ ap (λ (z : Seen). levelTakesBy c v z (c .level)) y)
+
+-- what a chip sends in a row: look, fetch, say
+pub sends-is : (c : Chip) (m s : List ℕ) (k : Look) (x : Seen) (r : Bool) → k ≡ looksOf c → x ≡ seenIn m s k → r ≡ sendsBy c x → r ≡ sendsOf (whole c m s)
+unfolding sendsOf sendsBy looksOf
+sends-is c m s k x r e f g = g ∙ ap (λ (z : Seen). levelSendsBy c z (c .level)) (f ∙ ap (λ (l : Look). seenIn m s l) e)

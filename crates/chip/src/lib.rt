@@ -1,14 +1,18 @@
 // One chip of any kind: its record, what it sends in a slot, and what each event does to it.
+pub mod kinds;
 mod parts;
 pub mod range;
 
 use ds2413::Switch;
 use ds2413::SwitchPhase;
+use memory::Look;
+use memory::Seen;
 use rom::RomStep;
+use scratchpad::Deed;
 use scratchpad::MemoryPhase;
 use scratchpad::Registers;
 ghost use mathlib.Core.Path.{_≡_};
-ghost use Rattle.chip.specs.Chip.{whole, takesOf, sendsOf, levelReset, resetChip, powerOnChip, powerOnPad, levelsChip, setUpChip};
+ghost use Rattle.chip.specs.Chip.{whole, looksOf, takesBy, sendsBy, takesOf, sendsOf, levelReset, resetChip, powerOnChip, powerOnPad, levelsChip, setUpChip};
 
 // The level of a chip, with what it needs to go on.
 pub enum Level {
@@ -34,44 +38,88 @@ pub struct Chip {
     pub switch: Switch,
 }
 
-// What a slot of the value v does to a chip, its memory and its scratchpad.
-pub fn takes(c: Chip, v: bool, m: &mut [u8], s: &mut [u8]) -> Chip
-    ensures { λ r. ⌜ whole r (now (m .exit)) (now (s .exit)) ≡ takesOf v (whole c (now (m .entry)) (now (s .entry))) ⌝ }
+// Where a slot leaves a chip, and what is to be done to its memory and scratchpad.
+pub struct ChipAfter {
+    pub chip: Chip,
+    pub deed: Deed,
+}
+
+// Which bytes a slot looks at.
+pub fn looks(c: Chip) -> Look
+    ensures { λ r. ⌜ r ≡ looksOf c ⌝ }
 {
     let level = c.level;
     match level {
-        Level::Waiting => c,
-        Level::Rom(step) => parts::rom_slot(c, step, v),
-        Level::FunctionCommand { count, bits } => parts::function_slot(c, count, bits, v),
-        Level::Memory(phase) => parts::memory_slot(c, phase, v, m, s),
-        Level::Pio(phase) => parts::switch_slot(c, phase, v),
+        Level::Waiting => Look::Nothing,
+        Level::Rom(_) => Look::Nothing,
+        Level::FunctionCommand { count: _, bits: _ } => Look::Nothing,
+        Level::Memory(phase) => parts::memory_looks(c, phase),
+        Level::Pio(_) => Look::Nothing,
     }
 }
 
-// The bit that a chip sends in a slot.
-pub fn sends(c: Chip, m: &[u8], s: &[u8]) -> bool
-    ensures { λ r. ⌜ r ≡ sendsOf (whole c (now (m .entry)) (now (s .entry))) ⌝ }
+// Where a slot of the value v leaves a chip, by what it saw.
+pub fn takes_by(c: Chip, v: bool, seen: Seen) -> ChipAfter
+    ensures { λ r. ⌜ r ≡ takesBy c v seen ⌝ }
+{
+    let level = c.level;
+    match level {
+        Level::Waiting => parts::still(c),
+        Level::Rom(step) => parts::still(parts::rom_slot(c, step, v)),
+        Level::FunctionCommand { count, bits } => parts::function_slot(c, count, bits, v),
+        Level::Memory(phase) => parts::memory_slot(c, phase, v, seen),
+        Level::Pio(phase) => parts::still(parts::switch_slot(c, phase, v)),
+    }
+}
+
+// The bit that a chip sends in a slot, by what it saw.
+pub fn sends_by(c: Chip, seen: Seen) -> bool
+    ensures { λ r. ⌜ r ≡ sendsBy c seen ⌝ }
 {
     let level = c.level;
     match level {
         Level::Waiting => true,
         Level::Rom(step) => rom::sends(c.code, step),
         Level::FunctionCommand { count: _, bits: _ } => true,
-        Level::Memory(phase) => parts::memory_sends(c, phase, m, s),
+        Level::Memory(phase) => parts::memory_sends(c, phase, seen),
         Level::Pio(phase) => ds2413::sends(phase),
     }
 }
 
-// What a reset does to T and E/S at a level.
-pub fn registers_after_reset(r: Registers, level: Level) -> Registers
-    ensures { λ o. ⌜ o ≡ levelReset r level ⌝ }
+// What a slot of the value v does to a chip, its memory and its scratchpad.
+pub fn takes(c: Chip, v: bool, m: &mut [u8], s: &mut [u8]) -> Chip
+    ensures { λ r. ⌜ whole r (now (m .exit)) (now (s .exit)) ≡ takesOf v (whole c (now (m .entry)) (now (s .entry))) ⌝ }
 {
+    let look = looks(c);
+    let seen = memory::flat::fetch(look, m, s);
+    let to = takes_by(c, v, seen);
+    let after = to.chip;
+    let deed = to.deed;
+    let part = kinds::part_of(c.kind);
+    memory::flat::carry_out(part, deed, m, s);
+    after
+}
+
+// The bit that a chip sends in a slot.
+pub fn sends(c: Chip, m: &[u8], s: &[u8]) -> bool
+    ensures { λ r. ⌜ r ≡ sendsOf (whole c (now (m .entry)) (now (s .entry))) ⌝ }
+{
+    let look = looks(c);
+    let seen = memory::flat::fetch(look, m, s);
+    sends_by(c, seen)
+}
+
+// T and E/S after a reset at a level.
+pub fn registers_after_reset(c: Chip, level: Level) -> Registers
+    ensures { λ o. ⌜ o ≡ levelReset c level ⌝ }
+{
+    let registers = c.registers;
     match level {
-        Level::Waiting => r,
-        Level::Rom(_) => r,
-        Level::FunctionCommand { count: _, bits: _ } => r,
-        Level::Memory(phase) => scratchpad::reset(r, phase),
-        Level::Pio(_) => r,
+        Level::Waiting => registers,
+        Level::Rom(_) => registers,
+        Level::FunctionCommand { count: _, bits: _ } => registers,
+        Level::Memory(phase) => parts::memory_after_reset(c, phase),
+        Level::Pio(_) => registers,
     }
 }
 
@@ -80,16 +128,12 @@ pub fn reset(c: Chip) -> Chip
     ensures { λ r. ⌜ r ≡ resetChip c ⌝ }
 {
     let level = c.level;
-    let registers = c.registers;
-    let switch = c.switch;
-    let after = registers_after_reset(registers, level);
-    parts::chip_with(
-        c,
-        Level::Rom(RomStep::Command { count: 0, bits: 0 }),
-        c.rc,
-        after,
-        switch,
-    )
+    let registers = registers_after_reset(c, level);
+    Chip {
+        level: Level::Rom(RomStep::Command { count: 0, bits: 0 }),
+        registers: registers,
+        ..c
+    }
 }
 
 // Power on, with what it does to the scratchpad.
@@ -99,21 +143,24 @@ pub fn power_on(c: Chip, s: &mut [u8]) -> Chip
     parts::fill_pad(c.kind, s);
     let registers = parts::registers_after_power_on(c);
     let switch = parts::switch_after_power_on(c);
-    parts::chip_with(c, Level::Waiting, false, registers, switch)
+    Chip {
+        rc: false,
+        level: Level::Waiting,
+        registers: registers,
+        switch: switch,
+        ..c
+    }
 }
 
 // New outside levels.
 pub fn set_levels(c: Chip, levels: u8) -> Chip
     ensures { λ r. ⌜ r ≡ levelsChip levels c ⌝ }
 {
-    let level = c.level;
-    let registers = c.registers;
-    let old = c.switch;
-    let switch = Switch {
-        latches: old.latches,
-        levels: levels,
-    };
-    parts::chip_with(c, level, c.rc, registers, switch)
+    let switch = parts::switch_with_levels(c, levels);
+    Chip {
+        switch: switch,
+        ..c
+    }
 }
 
 // A chip as set-up leaves it: as after power on, with every field written.

@@ -1,34 +1,35 @@
 // A slot at each level, put together from the parts.
 use crate::Chip;
+use crate::ChipAfter;
 use crate::Level;
+use crate::kinds;
 use ds2413::Switch;
 use ds2413::SwitchPhase;
 use ds2413::SwitchStep;
+use memory::Look;
+use memory::Seen;
 use rom::RomNext;
 use rom::RomStep;
+use scratchpad::Deed;
 use scratchpad::MemoryPhase;
 use scratchpad::MemoryStep;
 use scratchpad::Registers;
+use scratchpad::Sight;
 ghost use mathlib.Core.Path.{_≡_};
-ghost use lib.Dec.{eqb};
 ghost use Rattle.base.specs.Pick.{pick};
 ghost use Rattle.scratchpad.specs.Registers.{powerOnRegisters};
-ghost use Rattle.scratchpad.specs.Scratchpad.{memorySends};
-ghost use Rattle.ds28ec20.specs.Image.{sightOf};
-ghost use Rattle.ds2413.specs.Switch.{switchPowerOn};
-ghost use Rattle.chip.specs.Chip.{whole, chipWith, levelOf, romSlot, functionLevel, functionSlot, memoryStep, memorySlot, afterSwitch, switchSlot, powerOnPad};
+ghost use Rattle.scratchpad.specs.Scratchpad.{memoryBegins, memorySends, memoryReset};
+ghost use Rattle.ds2413.specs.Switch.{switchBegins, switchPowerOn, switchLevels};
+ghost use Rattle.chip.specs.Kinds.{hasRegisters, hasSwitch, takesLevels};
+ghost use Rattle.chip.specs.Chip.{chipMap, left, levelOf, romSlot, afterMemory, afterSwitch, functionIn, functionSlot, memoryLook, memorySight, memorySlot, switchSlot, powerOnPad};
 
-// The same chip at another level, with RC and the registers of each part.
-pub fn chip_with(c: Chip, level: Level, rc: bool, registers: Registers, switch: Switch) -> Chip
-    ensures { λ r. ⌜ r ≡ chipWith c level rc registers switch ⌝ }
+// A chip, and nothing to be done.
+pub fn still(c: Chip) -> ChipAfter
+    ensures { λ r. ⌜ r ≡ left c Deed.Nothing ⌝ }
 {
-    Chip {
-        code: c.code,
-        kind: c.kind,
-        rc: rc,
-        level: level,
-        registers: registers,
-        switch: switch,
+    ChipAfter {
+        chip: c,
+        deed: Deed::Nothing,
     }
 }
 
@@ -47,93 +48,137 @@ pub fn level_of(next: RomNext) -> Level
 pub fn rom_slot(c: Chip, step: RomStep, v: bool) -> Chip
     ensures { λ r. ⌜ r ≡ romSlot c step v ⌝ }
 {
-    let registers = c.registers;
-    let switch = c.switch;
-    let to = rom::takes(c.code, c.rc, v, step);
+    let knows = kinds::knows_of(c.kind);
+    let to = rom::takes(c.code, c.rc, v, knows, step);
     let next = to.next;
     let level = level_of(next);
-    chip_with(c, level, to.rc, registers, switch)
-}
-
-// The level that a function command begins, by the kind of the chip.
-pub fn function_level(c: Chip, b: u8) -> Level
-    ensures { λ r. ⌜ r ≡ functionLevel c b ⌝ }
-{
-    let kind = c.kind;
-    let switch = c.switch;
-    let memory = scratchpad::function(b);
-    let status = ds2413::function(switch, b);
-    if kind == 1 {
-        return Level::Memory(memory);
+    Chip {
+        rc: to.rc,
+        level: level,
+        ..c
     }
-    if kind == 2 {
-        return Level::Pio(status);
-    }
-    Level::Waiting
 }
 
-// A bit of the function command.
-pub fn function_slot(c: Chip, count: u8, bits: u8, v: bool) -> Chip
-    ensures { λ r. ⌜ r ≡ functionSlot c count bits v ⌝ }
+// A chip after a step of a memory.
+pub fn after_memory(c: Chip, to: MemoryStep) -> ChipAfter
+    ensures { λ r. ⌜ r ≡ afterMemory c to ⌝ }
 {
-    let registers = c.registers;
-    let switch = c.switch;
-    let b = base::filled8(bits, v);
-    if count < 7 {
-        return chip_with(
-            c,
-            Level::FunctionCommand {
-                count: count + 1,
-                bits: b,
-            },
-            c.rc,
-            registers,
-            switch,
-        );
-    }
-    let level = function_level(c, b);
-    chip_with(c, level, c.rc, registers, switch)
-}
-
-// Where a slot leads a DS28EC20 at a phase.
-pub fn memory_step(c: Chip, phase: MemoryPhase, v: bool, m: &[u8], s: &[u8]) -> MemoryStep
-    ensures { λ r. ⌜ r ≡ memoryStep c phase v (now (m .entry)) (now (s .entry)) ⌝ }
-{
-    let registers = c.registers;
-    let see = ds28ec20::sight(registers, phase, m, s);
-    scratchpad::takes(registers, v, see, phase)
-}
-
-// A slot at a phase of a DS28EC20.
-pub fn memory_slot(c: Chip, phase: MemoryPhase, v: bool, m: &mut [u8], s: &mut [u8]) -> Chip
-    ensures { λ r. ⌜ whole r (now (m .exit)) (now (s .exit)) ≡ memorySlot c phase v (now (m .entry)) (now (s .entry)) ⌝ }
-{
-    let switch = c.switch;
-    let to = memory_step(c, phase, v, m, s);
-    let deed = to.deed;
-    let next = to.phase;
     let registers = to.registers;
-    ds28ec20::carry_out(deed, m, s);
-    chip_with(c, Level::Memory(next), c.rc, registers, switch)
+    let phase = to.phase;
+    let deed = to.deed;
+    let after = Chip {
+        level: Level::Memory(phase),
+        registers: registers,
+        ..c
+    };
+    ChipAfter {
+        chip: after,
+        deed: deed,
+    }
 }
 
-// What a DS28EC20 sends in a slot at a phase.
-pub fn memory_sends(c: Chip, phase: MemoryPhase, m: &[u8], s: &[u8]) -> bool
-    ensures { λ r. ⌜ r ≡ memorySends (c .registers) (sightOf (c .registers) phase (now (m .entry)) (now (s .entry))) phase ⌝ }
-{
-    let registers = c.registers;
-    let see = ds28ec20::sight(registers, phase, m, s);
-    scratchpad::sends(registers, see, phase)
-}
-
-// A chip after a slot of a DS2413.
+// A chip after a step of a switch.
 pub fn after_switch(c: Chip, to: SwitchStep) -> Chip
     ensures { λ r. ⌜ r ≡ afterSwitch c to ⌝ }
 {
-    let registers = c.registers;
     let switch = to.switch;
     let phase = to.phase;
-    chip_with(c, Level::Pio(phase), c.rc, registers, switch)
+    Chip {
+        level: Level::Pio(phase),
+        switch: switch,
+        ..c
+    }
+}
+
+// A function command of a memory.
+pub fn memory_begins(c: Chip, b: u8) -> ChipAfter
+    ensures { λ r. ⌜ r ≡ afterMemory c (memoryBegins (c .registers) b) ⌝ }
+{
+    let registers = c.registers;
+    let to = scratchpad::begins(registers, b);
+    after_memory(c, to)
+}
+
+// A function command of a switch.
+pub fn switch_begins(c: Chip, b: u8) -> Chip
+    ensures { λ r. ⌜ r ≡ afterSwitch c (switchBegins (c .switch) b) ⌝ }
+{
+    let switch = c.switch;
+    let to = ds2413::begins(switch, b);
+    after_switch(c, to)
+}
+
+// A function command, by the kind of the chip.
+pub fn function_in(c: Chip, b: u8) -> ChipAfter
+    ensures { λ r. ⌜ r ≡ functionIn c b ⌝ }
+{
+    let kind = c.kind;
+    if kinds::has_memory(kind) {
+        return memory_begins(c, b);
+    }
+    if kinds::has_switch(kind) {
+        return still(switch_begins(c, b));
+    }
+    still(Chip {
+        level: Level::Waiting,
+        ..c
+    })
+}
+
+// A bit of the function command.
+pub fn function_slot(c: Chip, count: u8, bits: u8, v: bool) -> ChipAfter
+    ensures { λ r. ⌜ r ≡ functionSlot c count bits v ⌝ }
+{
+    let b = base::filled8(bits, v);
+    if count < 7 {
+        return still(Chip {
+            level: Level::FunctionCommand {
+                count: count + 1,
+                bits: b,
+            },
+            ..c
+        });
+    }
+    function_in(c, b)
+}
+
+// What a memory looks at, at a phase.
+pub fn memory_looks(c: Chip, phase: MemoryPhase) -> Look
+    ensures { λ r. ⌜ r ≡ memoryLook c phase ⌝ }
+{
+    let registers = c.registers;
+    let part = kinds::part_of(c.kind);
+    let hand = scratchpad::at_hand(registers.t, phase);
+    memory::looks(part, hand)
+}
+
+// What a memory sees, at a phase.
+pub fn memory_sight(c: Chip, phase: MemoryPhase, seen: Seen) -> Sight
+    ensures { λ r. ⌜ r ≡ memorySight c phase seen ⌝ }
+{
+    let registers = c.registers;
+    let part = kinds::part_of(c.kind);
+    let hand = scratchpad::at_hand(registers.t, phase);
+    memory::sight(part, registers.es, seen, hand)
+}
+
+// A slot at a phase of a memory.
+pub fn memory_slot(c: Chip, phase: MemoryPhase, v: bool, seen: Seen) -> ChipAfter
+    ensures { λ r. ⌜ r ≡ memorySlot c phase v seen ⌝ }
+{
+    let registers = c.registers;
+    let see = memory_sight(c, phase, seen);
+    let to = scratchpad::takes(registers, v, see, phase);
+    after_memory(c, to)
+}
+
+// What a memory sends in a slot at a phase.
+pub fn memory_sends(c: Chip, phase: MemoryPhase, seen: Seen) -> bool
+    ensures { λ r. ⌜ r ≡ memorySends (c .registers) (memorySight c phase seen) phase ⌝ }
+{
+    let registers = c.registers;
+    let see = memory_sight(c, phase, seen);
+    scratchpad::sends(registers, see, phase)
 }
 
 // A slot at a phase of a DS2413.
@@ -145,35 +190,54 @@ pub fn switch_slot(c: Chip, phase: SwitchPhase, v: bool) -> Chip
     after_switch(c, to)
 }
 
-// A DS28EC20's T and E/S after power on; another chip's stay.
-pub fn registers_after_power_on(c: Chip) -> Registers
-    ensures { λ r. ⌜ r ≡ pick (eqb (c .kind) 1) powerOnRegisters (c .registers) ⌝ }
+// T and E/S of a memory after a reset at a phase.
+pub fn memory_after_reset(c: Chip, phase: MemoryPhase) -> Registers
+    ensures { λ r. ⌜ r ≡ memoryReset (c .registers) (chipMap c .cutSetsPF) phase ⌝ }
 {
-    let kind = c.kind;
     let registers = c.registers;
-    if kind == 1 {
+    let part = kinds::part_of(c.kind);
+    let cut = memory::cut_sets_pf(part);
+    scratchpad::reset(registers, cut, phase)
+}
+
+// T and E/S after power on, of a kind that has them.
+pub fn registers_after_power_on(c: Chip) -> Registers
+    ensures { λ r. ⌜ r ≡ pick (hasRegisters (c .kind)) powerOnRegisters (c .registers) ⌝ }
+{
+    let registers = c.registers;
+    if kinds::has_registers(c.kind) {
         return scratchpad::power_on();
     }
     registers
 }
 
-// A DS2413's latches after power on; another chip's stay.
+// The latches after power on, of a kind that has them.
 pub fn switch_after_power_on(c: Chip) -> Switch
-    ensures { λ r. ⌜ r ≡ pick (eqb (c .kind) 2) (switchPowerOn (c .switch)) (c .switch) ⌝ }
+    ensures { λ r. ⌜ r ≡ pick (hasSwitch (c .kind)) (switchPowerOn (c .switch)) (c .switch) ⌝ }
 {
-    let kind = c.kind;
     let switch = c.switch;
-    if kind == 2 {
+    if kinds::has_switch(c.kind) {
         return ds2413::power_on(switch);
     }
     switch
 }
 
-// A DS28EC20's scratchpad after power on; another chip's stays.
+// The switch with new outside levels, of a kind that takes them.
+pub fn switch_with_levels(c: Chip, levels: u8) -> Switch
+    ensures { λ r. ⌜ r ≡ pick (takesLevels (c .kind)) (switchLevels levels (c .switch)) (c .switch) ⌝ }
+{
+    let switch = c.switch;
+    if kinds::takes_levels(c.kind) {
+        return ds2413::set_levels(switch, levels);
+    }
+    switch
+}
+
+// The scratchpad after power on, of a kind that has one.
 pub fn fill_pad(kind: u8, s: &mut [u8])
     ensures { λ r. ⌜ now (s .exit) ≡ powerOnPad kind (now (s .entry)) ⌝ }
 {
-    if kind == 1 {
+    if kinds::has_scratchpad(kind) {
         base::fill(s, 0xFF);
     }
 }

@@ -1,6 +1,6 @@
 -- "Show that any two outcomes it permits coincide": of each form of contract, two outcomes that it permits for one input are equal.
 use Prim.Native.Nat.{ℕ}
-use mathlib.Core.Bool.{Bool}
+use mathlib.Core.Bool.{Bool, false}
 use mathlib.Core.List.{List}
 use mathlib.Core.Path.{_≡_, refl, _∙_, ap, sym}
 use lib.Dec.{eqb}
@@ -8,13 +8,16 @@ use lib.IntN.{ℤ}
 use Rattle.base.specs.Pick.{pick}
 use Rattle.chip.specs.Chip.{Whole, whole, powerOnChip, powerOnPad}
 use Rattle.chip.specs.declared.Chip.{Chip}
-use Rattle.ds28ec20.specs.Image.{Bytes, bytes, done}
+use Rattle.memory.specs.Memory.{Bytes, bytes, done}
+use Rattle.scratchpad.specs.Map.{Map}
 use Rattle.scratchpad.specs.declared.Deed.{Deed}
 use Rattle.line.specs.Layout.{lent}
-use Rattle.line.specs.Event.{Answered, bit, refused, answered, Outcome, outcome, eventOf}
+use Rattle.line.specs.Event.{Answered, bit, refused, numberOf, answered, Outcome, outcome, eventOf}
 use Rattle.line.specs.declared.Event.{Event}
 use Rattle.line.specs.declared.Answer.{Answer}
-use Rattle.line.specs.declared.Answer.the-variants.{Bit, OutOfRange, WrongSize, NoSuchEvent, NoSuchLevels}
+use Rattle.line.specs.declared.Answer.the-variants as answer
+use Rattle.line.specs.declared.Refusal.{Refusal}
+use Rattle.line.specs.declared.Refusal.the-variants.{OutOfRange, WrongSize, NoSuchEvent, NoSuchLevels}
 use Rattle.card.specs.Card.{Carded, chips, refused as refusedAt, carded, SetUp, setUp, setUpOf}
 use Rattle.card.specs.declared.CardAnswer.{CardAnswer}
 use Rattle.card.specs.declared.CardAnswer.the-variants.{Chips, TooMany, UnknownKind, WrongLength}
@@ -22,8 +25,8 @@ use Rattle.machine.specs.Machine.{Stand, stand, hearsOf, Tale, tale, tellsOf}
 use Rattle.machine.specs.declared.Machine.{Machine}
 use Rattle.search.specs.Search.{Searched, complete, refused as refusedBy, searched, completeOr4, Attached, Search, outcome as found, searchOf}
 use Rattle.search.specs.declared.SearchAnswer.{SearchAnswer}
-use Rattle.turns.specs.Walk.{Turn, turned}
-use Rattle.turns.specs.declared.Spot.{Spot}
+use Rattle.line.specs.Carrier.{Turn, turned}
+use Rattle.line.specs.declared.Spot.{Spot}
 use Rattle.toemsakun.specs.Library.{CardLeft, cardLeft, cardBytes, EventLeft, eventLeft, eventBytes, SearchLeft, searchLeft, searchBytes}
 use Rattle.search.specs.declared.SearchAnswer.the-variants as search
 
@@ -31,18 +34,25 @@ use Rattle.search.specs.declared.SearchAnswer.the-variants as search
 pub one-answer {ℓ} : {A : Type ℓ} (s x y : A) → x ≡ s → y ≡ s → x ≡ y
 one-answer s x y e f = e ∙ sym f
 
--- an answer is found again from its number and value
+-- a refusal is found again from its number, and an answer from its number and value
+refusalFrom : ℕ → Refusal
+refusalFrom r = pick (eqb r 8) OutOfRange (pick (eqb r 5) WrongSize (pick (eqb r 6) NoSuchEvent NoSuchLevels))
+
+refusal-from : (r : Refusal) → refusalFrom (numberOf r) ≡ r
+unfolding refusalFrom pick
+refusal-from OutOfRange = refl
+refusal-from WrongSize = refl
+refusal-from NoSuchEvent = refl
+refusal-from NoSuchLevels = refl
+
 answerFrom : Answered → Answer
-answerFrom (bit b) = Bit b
-answerFrom (refused r) = pick (eqb r 8) OutOfRange (pick (eqb r 5) WrongSize (pick (eqb r 6) NoSuchEvent NoSuchLevels))
+answerFrom (bit b) = answer.Bit b
+answerFrom (refused r) = answer.Refused (refusalFrom r)
 
 answer-from : (a : Answer) → answerFrom (answered a) ≡ a
-unfolding answerFrom pick
-answer-from (Bit b) = refl
-answer-from OutOfRange = refl
-answer-from WrongSize = refl
-answer-from NoSuchEvent = refl
-answer-from NoSuchLevels = refl
+unfolding answerFrom
+answer-from (answer.Bit b) = refl
+answer-from (answer.Refused r) = ap (λ (x : Refusal). answer.Refused x) (refusal-from r)
 
 pub answered-once : (a b : Answer) → answered a ≡ answered b → a ≡ b
 answered-once a b e = sym (answer-from a) ∙ ap answerFrom e ∙ answer-from b
@@ -63,14 +73,19 @@ carded-once a b e = sym (card-from a) ∙ ap cardFrom e ∙ card-from b
 
 searchFrom : Searched → SearchAnswer
 searchFrom complete = search.Complete
-searchFrom (refusedBy r) = pick (eqb r 4) search.TooFewPlaces (pick (eqb r 5) search.WrongSize search.OutOfRange)
+searchFrom (refusedBy r) = pick (eqb r 4) search.TooFewPlaces (search.Refused (refusalFrom r))
+
+no-four : (r : Refusal) → eqb (numberOf r) 4 ≡ false
+no-four OutOfRange = refl
+no-four WrongSize = refl
+no-four NoSuchEvent = refl
+no-four NoSuchLevels = refl
 
 search-from : (a : SearchAnswer) → searchFrom (searched a) ≡ a
 unfolding searchFrom pick
 search-from search.Complete = refl
 search-from search.TooFewPlaces = refl
-search-from search.WrongSize = refl
-search-from search.OutOfRange = refl
+search-from (search.Refused r) = rw (no-four r) (ap (λ (x : Refusal). search.Refused x) (refusal-from r))
 
 pub searched-once : (a b : SearchAnswer) → searched a ≡ searched b → a ≡ b
 searched-once a b e = sym (search-from a) ∙ ap searchFrom e ∙ search-from b
@@ -104,10 +119,10 @@ pub lent-set-up : (a a′ : CardAnswer) (ds ds′ : List Chip) (o : SetUp)
     → (carded a ≡ o .answer) × (ds ≡ o .table) → (carded a′ ≡ o .answer) × (ds′ ≡ o .table) → (a ≡ a′) × (ds ≡ ds′)
 lent-set-up a a′ ds ds′ o p q = (carded-once a a′ (one-answer (o .answer) _ _ (p .0) (q .0)), one-answer (o .table) _ _ (p .1) (q .1))
 
--- `turns::act_turn`: record, the next spot, images and scratchpads
-pub act-turn : (s : Turn) (c c′ : Chip) (p p′ : Spot) (is is′ ps ps′ : List ℕ) → turned c p is ps ≡ s → turned c′ p′ is′ ps′ ≡ s
+-- `line::carrier::turn`: record, the next spot, images and scratchpads
+pub turn : (s : Turn) (c c′ : Chip) (p p′ : Spot) (is is′ ps ps′ : List ℕ) → turned c p is ps ≡ s → turned c′ p′ is′ ps′ ≡ s
     → (c ≡ c′) × (p ≡ p′) × (is ≡ is′) × (ps ≡ ps′)
-act-turn s c c′ p p′ is is′ ps ps′ e f =
+turn s c c′ p p′ is is′ ps ps′ e f =
     let r = one-answer s _ _ e f in (ap (λ (o : Turn). o .chip) r, ap (λ (o : Turn). o .spot) r, ap (λ (o : Turn). o .images) r, ap (λ (o : Turn). o .pads) r)
 
 -- `search::search_line`, and `lent::search_line` where the count is the number of places: answer, number of codes, list, counts, and the table with its buffers
@@ -177,14 +192,14 @@ tells m a a′ n n′ r r′ s s′ p q =
       ap (λ (o : Tale). o .slots) z,
     )
 
--- record, memory and scratchpad: `chip::takes` and `lent::record::takes` by `takesOf`, `line::act_at` by `actAt`, `turns::task_at` by `taskAt`
+-- record, memory and scratchpad: `chip::takes` and `lent::record::takes` by `takesOf`, `line::act_at` by `actAt`, `line::carrier::does_at` by `doesAt`
 pub takes : (w : Whole) (c c′ : Chip) (m m′ s s′ : List ℕ) → whole c m s ≡ w → whole c′ m′ s′ ≡ w → (c ≡ c′) × (m ≡ m′) × (s ≡ s′)
 takes w c c′ m m′ s s′ p q =
     let r = one-answer w _ _ p q in (ap (λ (o : Whole). o .chip) r, ap (λ (o : Whole). o .memory) r, ap (λ (o : Whole). o .pad) r)
 
--- `ds28ec20::carry_out`: memory and scratchpad
-pub carry-out : (m s : List ℕ) (d : Deed) (x x′ y y′ : List ℕ) → bytes x y ≡ done m s d → bytes x′ y′ ≡ done m s d → (x ≡ x′) × (y ≡ y′)
-carry-out m s d x x′ y y′ p q = let r = one-answer (done m s d) _ _ p q in (ap (λ (o : Bytes). o .memory) r, ap (λ (o : Bytes). o .pad) r)
+-- `memory::flat::carry_out`: memory and scratchpad
+pub carry-out : (M : Map) (m s : List ℕ) (d : Deed) (x x′ y y′ : List ℕ) → bytes x y ≡ done M m s d → bytes x′ y′ ≡ done M m s d → (x ≡ x′) × (y ≡ y′)
+carry-out M m s d x x′ y y′ p q = let r = one-answer (done M m s d) _ _ p q in (ap (λ (o : Bytes). o .memory) r, ap (λ (o : Bytes). o .pad) r)
 
 -- two answers at once, as `chip::power_on` and `lent::record::power_on` (record and scratchpad) and `terminal::no_chips` (number and places) give them
 pub two-answers : {A B : Type 0} (s : A) (t : B) (x x′ : A) (y y′ : B) → (x ≡ s) × (y ≡ t) → (x′ ≡ s) × (y′ ≡ t) → (x ≡ x′) × (y ≡ y′)

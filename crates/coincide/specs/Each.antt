@@ -10,23 +10,31 @@ use Rattle.crc.specs.declared.CodeCheck.{CodeCheck}
 use Rattle.chip.specs.declared.Level.{Level}
 use Rattle.scratchpad.specs.declared.MemoryPhase.{MemoryPhase}
 use Rattle.scratchpad.specs.declared.Registers.{Registers}
+use Rattle.rom.specs.declared.Knows.{Knows}
 use Rattle.rom.specs.declared.RomStep.{RomStep}
+use Rattle.scratchpad.specs.declared.Hand.{Hand}
 use Rattle.scratchpad.specs.declared.Sight.{Sight}
 use Rattle.ds2413.specs.declared.Switch.{Switch}
 use Rattle.ds2413.specs.declared.SwitchPhase.{SwitchPhase}
 use Rattle.line.specs.declared.Table.{Table}
 use Rattle.base.specs.Bits.{bitOf, both, filled, same}
 use Rattle.card.specs.Card.{carded, entryAt}
-use Rattle.chip.specs.Chip.{levelReset, levelsChip, resetChip, sendsOf, setUpChip, whole}
-use Rattle.chip.specs.Range.{imageSize, inRange, knownKind, levelInRange, padSize}
+use Rattle.chip.specs.Chip.{levelReset, levelsChip, looksOf, resetChip, sendsBy, sendsOf, setUpChip, takesBy, whole}
+use Rattle.chip.specs.Range.{inRange, levelInRange}
+use Rattle.chip.specs.Kinds.{hasMemory, hasRegisters, hasScratchpad, hasSwitch, imageSize, knownKind, knowsOf, padSize, partOf, takesLevels}
 use Rattle.crc.specs.Code.{byteOf, checkOf, codeCrc}
 use Rattle.crc.specs.Crc.{crcBit, crcByte, crcOf, poly16, poly8}
-use Rattle.ds2413.specs.Switch.{confirmed, pairBit, pairIn, phaseInRange, pinOf, shown, statusOf, statusSent, step as switchStep, switchFunction, switchInRange, switchPowerOn, switchSends, switchSetUp, switchTakes}
-use Rattle.ds28ec20.specs.Image.{closedIn, copied, fallsIn, heldIn, ruleAt, sightOf, spanOf}
-use Rattle.ds28ec20.specs.Map.{closedToCopying, controlAddress, held, isControlOrLock, isData, isReadOnly, mark, onlyFalls}
+use Rattle.ds2413.specs.Switch.{confirmed, pairBit, pairIn, phaseInRange, pinOf, shown, statusOf, statusSent, step as switchStep, switchBegins, switchFunction, switchInRange, switchLevels, switchPowerOn, switchSends, switchSetUp, switchTakes}
+use Rattle.memory.specs.Part.{mapOf}
+use Rattle.memory.specs.Memory.{lookOf, seenIn, sight, sightBy, ruleAt, spanOf, copied}
+use Rattle.memory.specs.declared.Part.{Part}
+use Rattle.memory.specs.declared.Look.{Look}
+use Rattle.memory.specs.declared.Look.the-variants as look
+use Rattle.memory.specs.declared.Seen.{Seen}
+use Rattle.ds28ec20.specs.Map.{closedToCopying, controlAddress, held, isControlOrLock, isData, isReadOnly, lockAddress, onlyFalls, padEnd}
 use Rattle.line.specs.Bridge.{bitAt}
-use Rattle.line.specs.Event.{standingOf, answered}
-use Rattle.line.specs.Layout.{capped, imagesAsked, padsAsked}
+use Rattle.line.specs.Event.{numberOf, answered, levelsFit, verdictOf, planEvent, planBy}
+use Rattle.line.specs.Layout.{capped, imagesAsked, imagesMost, padsAsked, padsMost}
 use Rattle.packed.specs.Packed.{packed, putRecord, putTable, sameBytes, tableFrom, unpacked}
 use Rattle.line.specs.declared.Answer.{Answer}
 use Rattle.machine.specs.Machine.{asksOf, beginOf}
@@ -34,16 +42,20 @@ use Rattle.machine.specs.declared.Machine.{Machine}
 use Rattle.records.specs.Records.{headAt}
 use Rattle.rom.specs.Rom.{commandBit, commandOf, matchBit, readBit, romInRange, romSends, romTakes, searchBit, searchSends}
 use Rattle.search.specs.Host.{heard}
-use Rattle.scratchpad.specs.Registers.{powerOnRegisters, ruleOfByte}
-use Rattle.scratchpad.specs.Scratchpad.{addressAtHand, inPage, memoryFunction, memoryInRange, memoryReset, memorySends, memoryTakes, offsetAtHand, registersInRange, step}
+use Rattle.scratchpad.specs.Registers.{mark, powerOnRegisters, ruleOfByte}
+use Rattle.scratchpad.specs.Map.{ruleBy}
+use Rattle.scratchpad.specs.Scratchpad.{byteAtHand, handOf, inPage, memoryBegins, memoryFunction, memoryInRange, memoryReset, memorySends, memoryTakes, pageAtHand, registersInRange, step}
 use Rattle.base.specs.Pick.{pick}
 use Rattle.line.specs.declared.Event.{Event}
-use Rattle.line.specs.declared.Standing.{Standing}
-use Rattle.turns.specs.Walk.{firstSpot, spotAfter, firstLook, lookAt, firstSum, sumAt, standsBy, planLevels, planNumber, planBy, planOf, hostBit, taskOf, answerOf}
-use Rattle.turns.specs.declared.Look.{Look}
-use Rattle.turns.specs.declared.Plan.{Plan}
-use Rattle.turns.specs.declared.Spot.{Spot}
-use Rattle.turns.specs.declared.Sum.{Sum}
+use Rattle.line.specs.Events.{eventWith, slotEvent, resetEvent, powerOnEvent, levelsEvent}
+use Rattle.line.specs.Line.{hostOf}
+use Rattle.line.specs.Carrier.{firstSpot, spotAfter, firstSurvey, surveyChip, verdictBy, planSeen, happensBy, firstBus, putsAt, busWith, answerFor}
+use Rattle.line.specs.declared.Refusal.{Refusal}
+use Rattle.line.specs.declared.Verdict.{Verdict}
+use Rattle.line.specs.declared.Spot.{Spot}
+use Rattle.line.specs.declared.Survey.{Survey}
+use Rattle.line.specs.declared.Bus.{Bus}
+use Rattle.line.specs.declared.Plan.{Plan}
 use Rattle.toemsakun.specs.Library.{imagesBytes, padsBytes, tableSize}
 use Rattle.terminal.specs.Words.{isRefused, wordOf}
 use Rattle.scratchpad.specs.declared.Deed.the-variants.{Nothing}
@@ -110,11 +122,11 @@ crc-byte-of code k = one-answer (byteOf code k)
 
 -- rom
 
-pub rom-command : (rc : Bool) (b : ℕ) → Settled (commandOf rc b)
-rom-command rc b = one-answer (commandOf rc b)
+pub rom-command : (k : Knows) (rc : Bool) (b : ℕ) → Settled (commandOf k rc b)
+rom-command k rc b = one-answer (commandOf k rc b)
 
-pub rom-command-bit : (rc : Bool) (count : ℕ) (bits : ℕ) (v : Bool) → Settled (commandBit rc count bits v)
-rom-command-bit rc count bits v = one-answer (commandBit rc count bits v)
+pub rom-command-bit : (k : Knows) (rc : Bool) (count : ℕ) (bits : ℕ) (v : Bool) → Settled (commandBit k rc count bits v)
+rom-command-bit k rc count bits v = one-answer (commandBit k rc count bits v)
 
 pub rom-read-bit : (rc : Bool) (place : ℕ) → Settled (readBit rc place)
 rom-read-bit rc place = one-answer (readBit rc place)
@@ -125,8 +137,8 @@ rom-match-bit code rc place v = one-answer (matchBit code rc place v)
 pub rom-search-bit : (code : ℕ) (rc : Bool) (place : ℕ) (step : ℕ) (v : Bool) → Settled (searchBit code rc place step v)
 rom-search-bit code rc place step v = one-answer (searchBit code rc place step v)
 
-pub rom-takes : (code : ℕ) (rc : Bool) (v : Bool) (s : RomStep) → Settled (romTakes code rc v s)
-rom-takes code rc v s = one-answer (romTakes code rc v s)
+pub rom-takes : (code : ℕ) (rc : Bool) (v : Bool) (k : Knows) (s : RomStep) → Settled (romTakes code rc v k s)
+rom-takes code rc v k s = one-answer (romTakes code rc v k s)
 
 pub rom-search-sends : (code : ℕ) (place : ℕ) (step : ℕ) → Settled (searchSends code place step)
 rom-search-sends code place step = one-answer (searchSends code place step)
@@ -157,8 +169,8 @@ scratchpad-takes r v see p = one-answer (memoryTakes r v see p)
 pub scratchpad-sends : (r : Registers) (see : Sight) (p : MemoryPhase) → Settled (memorySends r see p)
 scratchpad-sends r see p = one-answer (memorySends r see p)
 
-pub scratchpad-reset : (r : Registers) (p : MemoryPhase) → Settled (memoryReset r p)
-scratchpad-reset r p = one-answer (memoryReset r p)
+pub scratchpad-reset : (r : Registers) (cut : Bool) (p : MemoryPhase) → Settled (memoryReset r cut p)
+scratchpad-reset r cut p = one-answer (memoryReset r cut p)
 
 pub scratchpad-in-range : (last : ℕ) (p : MemoryPhase) → Settled (memoryInRange last p)
 scratchpad-in-range last p = one-answer (memoryInRange last p)
@@ -169,11 +181,20 @@ scratchpad-registers-in-range r = one-answer (registersInRange r)
 pub scratchpad-in-page : (t : ℕ) (offset : ℕ) → Settled (inPage t offset)
 scratchpad-in-page t offset = one-answer (inPage t offset)
 
-pub scratchpad-address-at-hand : (t : ℕ) (p : MemoryPhase) → Settled (addressAtHand t p)
-scratchpad-address-at-hand t p = one-answer (addressAtHand t p)
+pub scratchpad-is-mark : (b : ℕ) → Settled (mark b)
+scratchpad-is-mark b = one-answer (mark b)
 
-pub scratchpad-offset-at-hand : (p : MemoryPhase) → Settled (offsetAtHand p)
-scratchpad-offset-at-hand p = one-answer (offsetAtHand p)
+pub scratchpad-begins : (r : Registers) (b : ℕ) → Settled (memoryBegins r b)
+scratchpad-begins r b = one-answer (memoryBegins r b)
+
+pub scratchpad-byte-at-hand : (t : ℕ) (offset : ℕ) (count : ℕ) → Settled (byteAtHand t offset count)
+scratchpad-byte-at-hand t offset count = one-answer (byteAtHand t offset count)
+
+pub scratchpad-page-at-hand : (t : ℕ) (count : ℕ) → Settled (pageAtHand t count)
+scratchpad-page-at-hand t count = one-answer (pageAtHand t count)
+
+pub scratchpad-at-hand : (t : ℕ) (p : MemoryPhase) → Settled (handOf t p)
+scratchpad-at-hand t p = one-answer (handOf t p)
 
 -- ds28ec20
 
@@ -189,41 +210,82 @@ ds28ec20-is-control-or-lock a = one-answer (isControlOrLock a)
 pub ds28ec20-is-read-only : (a : ℕ) → Settled (isReadOnly a)
 ds28ec20-is-read-only a = one-answer (isReadOnly a)
 
-pub ds28ec20-is-mark : (b : ℕ) → Settled (mark b)
-ds28ec20-is-mark b = one-answer (mark b)
-
 pub ds28ec20-is-held : (a : ℕ) (byte : ℕ) (control : ℕ) → Settled (held a byte control)
 ds28ec20-is-held a byte control = one-answer (held a byte control)
 
 pub ds28ec20-only-falls : (a : ℕ) (control : ℕ) → Settled (onlyFalls a control)
 ds28ec20-only-falls a control = one-answer (onlyFalls a control)
 
-pub ds28ec20-is-closed : (page : ℕ) (control : ℕ) (blocklock : ℕ) (pagelock : ℕ) → Settled (closedToCopying page control blocklock pagelock)
-ds28ec20-is-closed page control blocklock pagelock = one-answer (closedToCopying page control blocklock pagelock)
+pub ds28ec20-is-closed : (page : ℕ) (control : ℕ) (lock : ℕ) → Settled (closedToCopying page control lock)
+ds28ec20-is-closed page control lock = one-answer (closedToCopying page control lock)
 
-pub ds28ec20-held-in : (m : List ℕ) (a : ℕ) → Settled (heldIn m a)
-ds28ec20-held-in m a = one-answer (heldIn m a)
+pub ds28ec20-lock-address : (page : ℕ) → Settled (lockAddress page)
+ds28ec20-lock-address page = one-answer (lockAddress page)
 
-pub ds28ec20-falls-in : (m : List ℕ) (a : ℕ) → Settled (fallsIn m a)
-ds28ec20-falls-in m a = one-answer (fallsIn m a)
+pub ds28ec20-pad-end : (es : ℕ) → Settled (padEnd es)
+ds28ec20-pad-end es = one-answer (padEnd es)
 
-pub ds28ec20-closed-in : (m : List ℕ) (page : ℕ) → Settled (closedIn m page)
-ds28ec20-closed-in m page = one-answer (closedIn m page)
+-- memory
 
-pub ds28ec20-sight : (r : Registers) (p : MemoryPhase) (m : List ℕ) (s : List ℕ) → Settled (sightOf r p m s)
-ds28ec20-sight r p m s = one-answer (sightOf r p m s)
+pub memory-last-address : (q : Part) → Settled (mapOf q .last)
+memory-last-address q = one-answer (mapOf q .last)
 
-pub ds28ec20-rule-at : (m : List ℕ) (a : ℕ) (b : ℕ) → Settled (ruleAt m a b)
-ds28ec20-rule-at m a b = one-answer (ruleAt m a b)
+pub memory-control-address : (q : Part) (a : ℕ) → Settled (mapOf q .control a)
+memory-control-address q a = one-answer (mapOf q .control a)
 
-pub ds28ec20-span : (t : ℕ) (e : ℕ) → Settled (spanOf t e)
-ds28ec20-span t e = one-answer (spanOf t e)
+pub memory-lock-address : (q : Part) (page : ℕ) → Settled (mapOf q .lock page)
+memory-lock-address q page = one-answer (mapOf q .lock page)
 
-pub ds28ec20-copy-bytes : (m : List ℕ) (s : List ℕ) (t : ℕ) (k : ℕ) (n : ℕ) → Settled (copied m s (inPage t 0) k n)
-ds28ec20-copy-bytes m s t k n = one-answer (copied m s (inPage t 0) k n)
+pub memory-is-held : (q : Part) (a : ℕ) (byte : ℕ) (control : ℕ) → Settled (mapOf q .held a byte control)
+memory-is-held q a byte control = one-answer (mapOf q .held a byte control)
 
-pub ds28ec20-copy : (m : List ℕ) (s : List ℕ) (t : ℕ) (e : ℕ) → Settled (copied m s (inPage t 0) (t % 32) (spanOf t e))
-ds28ec20-copy m s t e = one-answer (copied m s (inPage t 0) (t % 32) (spanOf t e))
+pub memory-only-falls : (q : Part) (a : ℕ) (control : ℕ) → Settled (mapOf q .falls a control)
+memory-only-falls q a control = one-answer (mapOf q .falls a control)
+
+pub memory-is-closed : (q : Part) (page : ℕ) (control : ℕ) (lock : ℕ) → Settled (mapOf q .closed page control lock)
+memory-is-closed q page control lock = one-answer (mapOf q .closed page control lock)
+
+pub memory-pad-end : (q : Part) (es : ℕ) → Settled (mapOf q .end es)
+memory-pad-end q es = one-answer (mapOf q .end es)
+
+pub memory-cut-sets-pf : (q : Part) → Settled (mapOf q .cutSetsPF)
+memory-cut-sets-pf q = one-answer (mapOf q .cutSetsPF)
+
+pub memory-rule : (q : Part) (a : ℕ) (byte : ℕ) (control : ℕ) (sent : ℕ) → Settled (ruleBy (mapOf q) a byte control sent)
+memory-rule q a byte control sent = one-answer (ruleBy (mapOf q) a byte control sent)
+
+pub memory-two : (a : ℕ) (b : ℕ) → Settled (look.Memory a b)
+memory-two a b = one-answer (look.Memory a b)
+
+pub memory-looks : (q : Part) (h : Hand) → Settled (lookOf (mapOf q) h)
+memory-looks q h = one-answer (lookOf (mapOf q) h)
+
+pub memory-sees : (q : Part) (es : ℕ) (memory : ℕ) (held : Bool) (falls : Bool) (closed : Bool) (pad : ℕ) → Settled (sight (mapOf q) es memory held falls closed pad)
+memory-sees q es memory held falls closed pad = one-answer (sight (mapOf q) es memory held falls closed pad)
+
+pub memory-sight : (q : Part) (es : ℕ) (x : Seen) (h : Hand) → Settled (sightBy (mapOf q) es x h)
+memory-sight q es x h = one-answer (sightBy (mapOf q) es x h)
+
+pub memory-span : (t : ℕ) (e : ℕ) → Settled (spanOf t e)
+memory-span t e = one-answer (spanOf t e)
+
+pub memory-flat-pair-at : (m : List ℕ) (a : ℕ) (b : ℕ) → Settled (seenIn m m (look.Memory a b))
+memory-flat-pair-at m a b = one-answer (seenIn m m (look.Memory a b))
+
+pub memory-flat-one-at : (s : List ℕ) (o : ℕ) → Settled (seenIn s s (look.Pad o))
+memory-flat-one-at s o = one-answer (seenIn s s (look.Pad o))
+
+pub memory-flat-fetch : (k : Look) (m : List ℕ) (s : List ℕ) → Settled (seenIn m s k)
+memory-flat-fetch k m s = one-answer (seenIn m s k)
+
+pub memory-flat-rule-at : (q : Part) (m : List ℕ) (a : ℕ) (sent : ℕ) → Settled (ruleAt (mapOf q) m a sent)
+memory-flat-rule-at q m a sent = one-answer (ruleAt (mapOf q) m a sent)
+
+pub memory-flat-copy-bytes : (q : Part) (m : List ℕ) (s : List ℕ) (t : ℕ) (k : ℕ) (n : ℕ) → Settled (copied (mapOf q) m s (inPage t 0) k n)
+memory-flat-copy-bytes q m s t k n = one-answer (copied (mapOf q) m s (inPage t 0) k n)
+
+pub memory-flat-copy : (q : Part) (m : List ℕ) (s : List ℕ) (t : ℕ) (e : ℕ) → Settled (copied (mapOf q) m s (inPage t 0) (t % 32) (spanOf t e))
+memory-flat-copy q m s t e = one-answer (copied (mapOf q) m s (inPage t 0) (t % 32) (spanOf t e))
 
 -- ds2413
 
@@ -232,6 +294,12 @@ ds2413-power-on c = one-answer (switchPowerOn c)
 
 pub ds2413-set-up : Settled (switchSetUp)
 ds2413-set-up = one-answer (switchSetUp)
+
+pub ds2413-set-levels : (levels : ℕ) (c : Switch) → Settled (switchLevels levels c)
+ds2413-set-levels levels c = one-answer (switchLevels levels c)
+
+pub ds2413-begins : (c : Switch) (b : ℕ) → Settled (switchBegins c b)
+ds2413-begins c b = one-answer (switchBegins c b)
 
 pub ds2413-pin : (c : Switch) (k : ℕ) → Settled (pinOf c k)
 ds2413-pin c k = one-answer (pinOf c k)
@@ -277,8 +345,8 @@ ds2413-in-range c = one-answer (switchInRange c)
 pub chip-sends : (c : Chip) (m : List ℕ) (s : List ℕ) → Settled (sendsOf (whole c m s))
 chip-sends c m s = one-answer (sendsOf (whole c m s))
 
-pub chip-registers-after-reset : (r : Registers) (level : Level) → Settled (levelReset r level)
-chip-registers-after-reset r level = one-answer (levelReset r level)
+pub chip-registers-after-reset : (c : Chip) (level : Level) → Settled (levelReset c level)
+chip-registers-after-reset c level = one-answer (levelReset c level)
 
 pub chip-reset : (c : Chip) → Settled (resetChip c)
 chip-reset c = one-answer (resetChip c)
@@ -297,6 +365,36 @@ chip-level-in-range kind level = one-answer (levelInRange kind level)
 
 pub chip-is-in-range : (c : Chip) → Settled (inRange c)
 chip-is-in-range c = one-answer (inRange c)
+
+pub chip-has-memory : (kind : ℕ) → Settled (hasMemory kind)
+chip-has-memory kind = one-answer (hasMemory kind)
+
+pub chip-has-scratchpad : (kind : ℕ) → Settled (hasScratchpad kind)
+chip-has-scratchpad kind = one-answer (hasScratchpad kind)
+
+pub chip-has-registers : (kind : ℕ) → Settled (hasRegisters kind)
+chip-has-registers kind = one-answer (hasRegisters kind)
+
+pub chip-has-switch : (kind : ℕ) → Settled (hasSwitch kind)
+chip-has-switch kind = one-answer (hasSwitch kind)
+
+pub chip-takes-levels : (kind : ℕ) → Settled (takesLevels kind)
+chip-takes-levels kind = one-answer (takesLevels kind)
+
+pub chip-part-of : (kind : ℕ) → Settled (partOf kind)
+chip-part-of kind = one-answer (partOf kind)
+
+pub chip-knows-of : (kind : ℕ) → Settled (knowsOf kind)
+chip-knows-of kind = one-answer (knowsOf kind)
+
+pub chip-looks : (c : Chip) → Settled (looksOf c)
+chip-looks c = one-answer (looksOf c)
+
+pub chip-takes-by : (c : Chip) (v : Bool) (x : Seen) → Settled (takesBy c v x)
+chip-takes-by c v x = one-answer (takesBy c v x)
+
+pub chip-sends-by : (c : Chip) (x : Seen) → Settled (sendsBy c x)
+chip-sends-by c x = one-answer (sendsBy c x)
 
 pub chip-image-size : (kind : ℕ) → Settled (imageSize kind)
 chip-image-size kind = one-answer (imageSize kind)
@@ -319,8 +417,8 @@ card-entry-at s at room = one-answer (entryAt s at room)
 pub line-used-places : (places : ℕ) → Settled (capped places)
 line-used-places places = one-answer (capped places)
 
-pub line-how-stands : (n : ℕ) (cs : List Chip) (ms : List ℕ) (ss : List ℕ) → Settled (standingOf n cs ms ss)
-line-how-stands n cs ms ss = one-answer (standingOf n cs ms ss)
+pub line-how-stands : (n : ℕ) (cs : List Chip) (ms : List ℕ) (ss : List ℕ) → Settled (verdictOf n cs ms ss)
+line-how-stands n cs ms ss = one-answer (verdictOf n cs ms ss)
 
 pub line-images-asked : (n : ℕ) (cs : List Chip) → Settled (imagesAsked n cs)
 line-images-asked n cs = one-answer (imagesAsked n cs)
@@ -331,55 +429,76 @@ line-pads-asked n cs = one-answer (padsAsked n cs)
 pub line-bit-at : (c : Chip) (image pad : ℕ) (ms ss : List ℕ) → Settled (bitAt c image pad ms ss)
 line-bit-at c image pad ms ss = one-answer (bitAt c image pad ms ss)
 
--- turns
+pub line-number-of : (r : Refusal) → Settled (numberOf r)
+line-number-of r = one-answer (numberOf r)
 
-pub turns-first-spot : Settled firstSpot
-turns-first-spot = one-answer firstSpot
+pub line-events-numbered : (number : ℕ) (chip : ℕ) (levels : ℕ) → Settled (eventWith number chip levels)
+line-events-numbered number chip levels = one-answer (eventWith number chip levels)
 
-pub turns-spot-after : (p : Spot) (kind : ℕ) → Settled (spotAfter kind p)
-turns-spot-after p kind = one-answer (spotAfter kind p)
+pub line-events-slot : (b : Bool) → Settled (slotEvent b)
+line-events-slot b = one-answer (slotEvent b)
 
-pub turns-first-look : Settled firstLook
-turns-first-look = one-answer firstLook
+pub line-events-reset : Settled resetEvent
+line-events-reset = one-answer resetEvent
 
-pub turns-kind-seen : (named : Bool) (kind before : ℕ) → Settled (pick named kind before)
-turns-kind-seen named kind before = one-answer (pick named kind before)
+pub line-events-power-on : Settled powerOnEvent
+line-events-power-on = one-answer powerOnEvent
 
-pub turns-look-at : (c : Chip) (l : Look) (chip : ℕ) → Settled (lookAt chip c l)
-turns-look-at c l chip = one-answer (lookAt chip c l)
+pub line-events-outside-levels : (chip : ℕ) (levels : ℕ) → Settled (levelsEvent chip levels)
+line-events-outside-levels chip levels = one-answer (levelsEvent chip levels)
 
-pub turns-first-sum : (host : Bool) → Settled (firstSum host)
-turns-first-sum host = one-answer (firstSum host)
+-- the event, chip by chip
 
-pub turns-sum-at : (c : Chip) (s : Sum) (ms ss : List ℕ) → Settled (sumAt c s ms ss)
-turns-sum-at c s ms ss = one-answer (sumAt c s ms ss)
+pub carrier-first-spot : Settled firstSpot
+carrier-first-spot = one-answer firstSpot
 
-pub turns-levels-if : (named : Bool) (c : Chip) (levels : ℕ) → Settled (pick named (levelsChip levels c) c)
-turns-levels-if named c levels = one-answer (pick named (levelsChip levels c) c)
+pub carrier-spot-after : (p : Spot) (kind : ℕ) → Settled (spotAfter kind p)
+carrier-spot-after p kind = one-answer (spotAfter kind p)
 
-pub turns-stands-by : (l : Look) (n images pads : ℕ) → Settled (standsBy l n images pads)
-turns-stands-by l n images pads = one-answer (standsBy l n images pads)
+pub carrier-first-survey : Settled firstSurvey
+carrier-first-survey = one-answer firstSurvey
 
-pub turns-plan-levels : (kind n : ℕ) (e : Event) → Settled (planLevels kind n e)
-turns-plan-levels kind n e = one-answer (planLevels kind n e)
+pub carrier-kind-seen : (named : Bool) (kind : ℕ) (before : ℕ) → Settled (pick named kind before)
+carrier-kind-seen named kind before = one-answer (pick named kind before)
 
-pub turns-plan-number : (kind n : ℕ) (e : Event) → Settled (planNumber kind n e)
-turns-plan-number kind n e = one-answer (planNumber kind n e)
+pub carrier-survey-chip : (c : Chip) (s : Survey) (chip : ℕ) → Settled (surveyChip chip c s)
+carrier-survey-chip c s chip = one-answer (surveyChip chip c s)
 
-pub turns-plan-by : (stands : Standing) (kind n : ℕ) (e : Event) → Settled (planBy stands kind n e)
-turns-plan-by stands kind n e = one-answer (planBy stands kind n e)
+pub carrier-verdict-by : (s : Survey) (n : ℕ) (images : ℕ) (pads : ℕ) → Settled (verdictBy s n images pads)
+carrier-verdict-by s n images pads = one-answer (verdictBy s n images pads)
 
-pub turns-plan-of : (l : Look) (n : ℕ) (e : Event) (images pads : ℕ) → Settled (planOf l n e images pads)
-turns-plan-of l n e images pads = one-answer (planOf l n e images pads)
+pub carrier-levels-fit : (e : Event) (n : ℕ) (kind : ℕ) → Settled (levelsFit e n kind)
+carrier-levels-fit e n kind = one-answer (levelsFit e n kind)
 
-pub turns-host-bit : (plan : Plan) → Settled (hostBit plan)
-turns-host-bit plan = one-answer (hostBit plan)
+pub carrier-plan-event : (e : Event) (n : ℕ) (kind : ℕ) → Settled (planEvent e n kind)
+carrier-plan-event e n kind = one-answer (planEvent e n kind)
 
-pub turns-task-of : (plan : Plan) (value : Bool) → Settled (taskOf plan value)
-turns-task-of plan value = one-answer (taskOf plan value)
+pub carrier-plan-by : (judged : Verdict) (e : Event) (n : ℕ) (kind : ℕ) → Settled (planBy judged (planEvent e n kind))
+carrier-plan-by judged e n kind = one-answer (planBy judged (planEvent e n kind))
 
-pub turns-answer-of : (plan : Plan) (value : Bool) (n : ℕ) → Settled (answerOf plan value n)
-turns-answer-of plan value n = one-answer (answerOf plan value n)
+pub carrier-plan-of : (s : Survey) (n : ℕ) (e : Event) (images : ℕ) (pads : ℕ) → Settled (planSeen s n e images pads)
+carrier-plan-of s n e images pads = one-answer (planSeen s n e images pads)
+
+pub carrier-happens : (p : Plan) → Settled (happensBy p)
+carrier-happens p = one-answer (happensBy p)
+
+pub carrier-host-bit : (p : Plan) → Settled (hostOf p)
+carrier-host-bit p = one-answer (hostOf p)
+
+pub carrier-first-bus : (p : Plan) → Settled (firstBus p)
+carrier-first-bus p = one-answer (firstBus p)
+
+pub carrier-puts-at : (c : Chip) (s : Spot) (p : Plan) (ms : List ℕ) (ss : List ℕ) → Settled (putsAt p c s ms ss)
+carrier-puts-at c s p ms ss = one-answer (putsAt p c s ms ss)
+
+pub carrier-bus-with : (c : Chip) (s : Bus) (p : Plan) (ms : List ℕ) (ss : List ℕ) → Settled (busWith p c s ms ss)
+carrier-bus-with c s p ms ss = one-answer (busWith p c s ms ss)
+
+pub carrier-levels-if : (named : Bool) (c : Chip) (levels : ℕ) → Settled (pick named (levelsChip levels c) c)
+carrier-levels-if named c levels = one-answer (pick named (levelsChip levels c) c)
+
+pub carrier-answer-of : (p : Plan) (value : Bool) → Settled (answerFor p value)
+carrier-answer-of p value = one-answer (answerFor p value)
 
 -- lent; `lent::record::sends`, `reset` and `set_levels` have the contracts of the functions of their names in chip
 
@@ -435,8 +554,8 @@ terminal-refused-card answer = one-answer (isRefused (carded answer))
 pub terminal-word : (check : CodeCheck) → Settled (wordOf check)
 terminal-word check = one-answer (wordOf check)
 
-pub terminal-image-room : Settled (replicate {A = ℕ} 41984 0xFF)
-terminal-image-room = one-answer (replicate {A = ℕ} 41984 0xFF)
+pub terminal-image-room : Settled (replicate {A = ℕ} imagesMost 0xFF)
+terminal-image-room = one-answer (replicate {A = ℕ} imagesMost 0xFF)
 
-pub terminal-pad-room : Settled (replicate {A = ℕ} 512 0xFF)
-terminal-pad-room = one-answer (replicate {A = ℕ} 512 0xFF)
+pub terminal-pad-room : Settled (replicate {A = ℕ} padsMost 0xFF)
+terminal-pad-room = one-answer (replicate {A = ℕ} padsMost 0xFF)

@@ -24,6 +24,10 @@ switchPowerOn c = switch 3 (c .levels)
 abbrev pub switchSetUp : Switch
 switchSetUp = switch 3 3
 
+-- new outside levels
+abbrev pub switchLevels : ℕ → Switch → Switch
+switchLevels l c = switch (c .latches) l
+
 -- "Pin = latch AND outside level."
 unfoldable pub pinOf : Switch → ℕ → Bool
 pinOf c k = both (bitOf (c .latches) k) (bitOf (c .levels) k)
@@ -43,6 +47,10 @@ switchFunction c b =
     pick (eqb b 0xF5) (Status 0 (statusOf c))
     (pick (eqb b 0x5A) (Take 0 0)
     Ones)
+
+-- where the function command b leaves the part at its eighth bit
+unfoldable pub switchBegins : Switch → ℕ → SwitchStep
+switchBegins c b = step c (switchFunction c b)
 
 -- F5h: "status bytes without end, each sampled at the last bit of the byte before"
 unfoldable pub statusSent : Switch → ℕ → ℕ → SwitchPhase

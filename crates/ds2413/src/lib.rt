@@ -1,7 +1,7 @@
 // The DS2413: two latches, two pins, and its function level.
 ghost use mathlib.Core.Path.{_≡_};
 ghost use Prim.Native.Nat.{_*_, _≤_};
-ghost use Rattle.ds2413.specs.Switch.{step, switchPowerOn, switchSetUp, pinOf, flag, statusOf, switchFunction, statusSent, pairIn, pairBit, confirmed, shown, switchTakes, switchSends, phaseInRange, switchInRange};
+ghost use Rattle.ds2413.specs.Switch.{step, switchPowerOn, switchSetUp, switchLevels, pinOf, flag, statusOf, switchFunction, switchBegins, statusSent, pairIn, pairBit, confirmed, shown, switchTakes, switchSends, phaseInRange, switchInRange};
 
 // The latches and the outside levels, bit 0 for PIOA and bit 1 for PIOB.
 pub struct Switch {
@@ -33,10 +33,7 @@ pub struct SwitchStep {
 pub fn power_on(c: Switch) -> Switch
     ensures { λ r. ⌜ r ≡ switchPowerOn c ⌝ }
 {
-    Switch {
-        latches: 3,
-        levels: c.levels,
-    }
+    Switch { latches: 3, ..c }
 }
 
 // Set-up: latches and outside levels are 1.
@@ -46,6 +43,16 @@ pub fn set_up() -> Switch
     Switch {
         latches: 3,
         levels: 3,
+    }
+}
+
+// New outside levels.
+pub fn set_levels(c: Switch, levels: u8) -> Switch
+    ensures { λ r. ⌜ r ≡ switchLevels levels c ⌝ }
+{
+    Switch {
+        levels: levels,
+        ..c
     }
 }
 
@@ -94,6 +101,14 @@ pub fn function(c: Switch, b: u8) -> SwitchPhase
         return SwitchPhase::Take { count: 0, bits: 0 };
     }
     SwitchPhase::Ones
+}
+
+// Where a function command leaves the part at its eighth bit.
+pub fn begins(c: Switch, b: u8) -> SwitchStep
+    ensures { λ r. ⌜ r ≡ switchBegins c b ⌝ }
+{
+    let phase = function(c, b);
+    goes_on(c, phase)
 }
 
 // A bit of a status byte was sent; after the last, the next is sampled.

@@ -1,3 +1,1 @@
 pub mod Map
-pub mod Image
-pub mod Copying

@@ -3,6 +3,8 @@ use Prim.Native.Nat.{ℕ, _+_, _/_}
 use mathlib.Core.Bool.{Bool, true, false}
 use lib.Dec.{eqb, ltb}
 use Rattle.base.specs.Pick.{pick}
+use Rattle.scratchpad.specs.Registers.{mark}
+use Rattle.scratchpad.specs.Map.{Map}
 
 -- "We take 0A3Fh as the last readable address"
 abbrev pub lastAddress : ℕ
@@ -24,10 +26,6 @@ isControlOrLock a = pick (ltb a 0x0A00) false (pick (ltb a 0x0A0A) true (pick (e
 unfoldable pub isReadOnly : ℕ → Bool
 isReadOnly a = pick (ltb a 0x0A20) false (ltb a 0x0A40)
 
--- "A mark is 55h or AAh."
-unfoldable pub mark : ℕ → Bool
-mark b = pick (eqb b 0x55) true (eqb b 0xAA)
-
 -- "A byte is held if its block's control byte is 55h, or it is itself a control or lock byte holding a mark, or it is read only."
 unfoldable pub held : ℕ → ℕ → ℕ → Bool
 held a byte control =
@@ -39,9 +37,31 @@ held a byte control =
 unfoldable pub onlyFalls : ℕ → ℕ → Bool
 onlyFalls a control = pick (isData a) (eqb control 0xAA) false
 
+-- where the lock byte that can close a page stands: the block lock (0A1Eh) for data, the register page lock (0A1Fh) for the rest
+unfoldable pub lockAddress : ℕ → ℕ
+lockAddress page = pick (isData page) 0x0A1E 0x0A1F
+
 -- "A page is closed to copying if its block's control byte is 55h and 0A1Eh holds a mark; or it is 0A00h to 0A1Fh and
 -- 0A1Fh holds a mark; or it starts at 0A20h or above."
-unfoldable pub closedToCopying : ℕ → ℕ → ℕ → ℕ → Bool
-closedToCopying page control blockLock pageLock =
-    pick (isData page) (pick (eqb control 0x55) (mark blockLock) false)
-    (pick (ltb page 0x0A20) (mark pageLock) true)
+unfoldable pub closedToCopying : ℕ → ℕ → ℕ → Bool
+closedToCopying page control lock =
+    pick (isData page) (pick (eqb control 0x55) (mark lock) false)
+    (pick (ltb page 0x0A20) (mark lock) true)
+
+-- AAh: "the scratchpad from T mod 32 to 31", whatever E/S
+unfoldable pub padEnd : ℕ → ℕ
+padEnd es = 31
+
+-- the map of a DS28EC20; of a write's address, "A cut before that changes nothing."
+unfoldable pub ds28ec20 : Map
+ds28ec20 =
+    record {
+      last = lastAddress;
+      control = controlAddress;
+      lock = lockAddress;
+      held = held;
+      falls = onlyFalls;
+      closed = closedToCopying;
+      end = padEnd;
+      cutSetsPF = false;
+    }

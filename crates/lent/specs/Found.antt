@@ -1,53 +1,50 @@
 -- Laws: the host's machine on a lent slice of chips is the search of the plain form.
 use Prim.Native.Nat.{ℕ, zero, suc}
-use mathlib.Core.Bool.{true}
 use mathlib.Core.List.{List}
 use mathlib.Core.Path.{_≡_, refl, _∙_, ap}
 use lib.ListN.{length}
-use Rattle.base.specs.Pick.{pick-true, pick-false}
 use Rattle.chip.specs.declared.Chip.{Chip}
-use Rattle.line.specs.Event.{Answered, answered, Outcome, outcome, standingOf}
+use Rattle.line.specs.Event.{Answered, answered, Outcome, outcome, numberOf, verdictOf}
 use Rattle.line.specs.Layout.{lent}
-use Rattle.line.specs.Refusals.{stands-fine, stands-size, stands-range}
 use Rattle.line.specs.declared.Answer.{Answer}
-use Rattle.line.specs.declared.Answer.the-variants as answer
-use Rattle.line.specs.declared.Standing.{Standing}
-use Rattle.line.specs.declared.Standing.the-variants as standing
-use Rattle.search.specs.Search.{Searched, refused, Attached, attached, saysOf, leavesOf, wire, Search, outcome as found, searchOf}
+use Rattle.line.specs.declared.Refusal.the-variants.{NoSuchEvent}
+use Rattle.line.specs.declared.Verdict.{Verdict}
+use Rattle.line.specs.declared.Verdict.the-variants as verdict
+use Rattle.search.specs.Search.{Searched, refused, Attached, attached, saysOf, leavesOf, wire, Search, outcome as found, searchBy, searchOf}
 use Rattle.machine.specs.Machine.{stand, asksOf, hearsOf, beginOf, Tale, tale}
 use Rattle.machine.specs.Run.{saysTo, leavesTo, Ran, ran, run}
 use Rattle.machine.specs.Searches.{shown, machine-searches}
 use Rattle.machine.specs.declared.Ask.{Ask}
 use Rattle.machine.specs.declared.Ask.the-variants as ask
 use Rattle.machine.specs.declared.Machine.{Machine}
-use Rattle.turns.specs.Agree.{refused-is, stands-is, event-planned}
+use Rattle.lent.specs.Turning.{planDone, refused-is, slice-stands, event-planned}
 use Rattle.lent.specs.Seek.{chipOf, planAsk, turnsFor, tellsBy}
-use Rattle.turns.specs.Walk.{firstLook, lookedOver, standsBy, planDone}
-use Rattle.turns.specs.declared.Look.{Look}
-use Rattle.turns.specs.declared.Plan.{Plan}
+use Rattle.line.specs.Carrier.{surveyed, verdictBy}
+use Rattle.line.specs.declared.Survey.{Survey}
+use Rattle.line.specs.declared.Plan.{Plan}
 
 -- what is asked of the line
 module _ (cs : List Chip) (ms ss : List ℕ) where
   abbrev line : Attached
   line = attached (length cs) cs ms ss
 
-  asked-line : (q : Ask) (l : Look) (a : Answer) (ds : List Chip) (xs ys : List ℕ) → l ≡ lookedOver (chipOf q) cs firstLook
+  asked-line : (q : Ask) (l : Survey) (a : Answer) (ds : List Chip) (xs ys : List ℕ) → l ≡ surveyed (chipOf q) (length cs) cs
       → outcome (answered a) (length ds) (lent ds xs ys) ≡ planDone (planAsk q l (length cs) (length ms) (length ss)) cs ms ss
       → (answered a ≡ saysTo wire q line) × (attached (length ds) ds xs ys ≡ leavesTo wire q line)
   unfolding saysOf leavesOf
   asked-line ask.Nothing l a ds xs ys f h =
-      let k = h ∙ refused-is cs (record { number = 0; chip = 0; levels = 0 }) ms ss (answer.Bit true) in
+      let k = h ∙ refused-is cs ms ss NoSuchEvent in
       (ap (λ (o : Outcome). o .answer) k, ap (λ (o : Outcome). record { count = o .count; lent = o .lent }) k)
   asked-line (ask.Put e) l a ds xs ys f h =
-      let k = h ∙ event-planned cs e ms ss l (planAsk (ask.Put e) l (length cs) (length ms) (length ss)) f refl in
+      let k = h ∙ event-planned cs ms ss e l (planAsk (ask.Put e) l (length cs) (length ms) (length ss)) f refl in
       (ap (λ (o : Outcome). o .answer) k, ap (λ (o : Outcome). record { count = o .count; lent = o .lent }) k)
 
-pub asked : (cs : List Chip) (q : Ask) (ms ss : List ℕ) (chip : ℕ) (l : Look) (p : Plan) (a : Answer) (ds : List Chip) (xs ys : List ℕ)
-    → chip ≡ chipOf q → l ≡ lookedOver chip cs firstLook → p ≡ planAsk q l (length cs) (length ms) (length ss)
+pub asked : (cs : List Chip) (q : Ask) (ms ss : List ℕ) (chip : ℕ) (l : Survey) (p : Plan) (a : Answer) (ds : List Chip) (xs ys : List ℕ)
+    → chip ≡ chipOf q → l ≡ surveyed chip (length cs) cs → p ≡ planAsk q l (length cs) (length ms) (length ss)
     → outcome (answered a) (length ds) (lent ds xs ys) ≡ planDone p cs ms ss
     → (answered a ≡ saysTo wire q (attached (length cs) cs ms ss)) × (attached (length ds) ds xs ys ≡ leavesTo wire q (attached (length cs) cs ms ss))
 asked cs q ms ss chip l p a ds xs ys e f g h =
-    asked-line cs ms ss q l a ds xs ys (f ∙ ap (λ (n : ℕ). lookedOver n cs firstLook) e) (h ∙ ap (λ (x : Plan). planDone x cs ms ss) g)
+    asked-line cs ms ss q l a ds xs ys (f ∙ ap (λ (n : ℕ). surveyed n (length cs) cs) e) (h ∙ ap (λ (x : Plan). planDone x cs ms ss) g)
 
 -- a turn of the host, and none
 pub run-on : (k : ℕ) (m : Machine) (list : List ℕ) (l : Attached) (q : Ask) (m′ : Machine) (x : Answered) (list′ : List ℕ) (l′ : Attached)
@@ -64,7 +61,7 @@ pub run-over : (m : Machine) (list : List ℕ) (l : Attached) → ran m list l �
 unfolding run
 run-over m list l = refl
 
--- the search, by how the table stands
+-- the search, by what the table is judged to
 module _ (cs : List Chip) (list ms ss : List ℕ) where
   abbrev start : Attached
   start = attached (length cs) cs ms ss
@@ -72,25 +69,19 @@ module _ (cs : List Chip) (list ms ss : List ℕ) where
   abbrev told : Tale → List ℕ → Attached → Search
   told t l k = found (t .answer) (t .listed) l (t .resets) (t .slots) k
 
-  by-standing : (q : Standing) (m : Machine) (l : List ℕ) (k : Attached) → q ≡ standingOf (length cs) cs ms ss → ran m l k ≡ run wire (turnsFor q) (beginOf (length list)) list start
+  by-verdict : (q : Verdict) (m : Machine) (l : List ℕ) (k : Attached) → q ≡ verdictOf (length cs) cs ms ss → ran m l k ≡ run wire (turnsFor q) (beginOf (length list)) list start
       → told (tellsBy q m) l k ≡ searchOf list start
   unfolding searchOf run
-  by-standing standing.Fine m l k h r =
-      let b = stands-fine (length cs) cs ms ss standing.Fine h refl in
-      ap (λ (x : Ran Attached). shown x) r ∙ machine-searches list start ∙ (simp (b .0, b .1, pick-true))
-  by-standing standing.WrongSize m l k h r =
-      let b = stands-size (length cs) cs ms ss standing.WrongSize h refl in
-      ap (λ (x : Ran Attached). found (refused 5) 0 (x .stand .list) 0 0 (x .line)) r ∙ (simp (b .0, b .1, pick-true, pick-false))
-  by-standing standing.OutOfRange m l k h r =
-      let b = stands-range (length cs) cs ms ss standing.OutOfRange h refl in
-      ap (λ (x : Ran Attached). found (refused 8) 0 (x .stand .list) 0 0 (x .line)) r ∙ (simp (b, pick-false))
+  by-verdict verdict.Well m l k h r = ap (λ (x : Ran Attached). shown x) r ∙ machine-searches list start ∙ ap (λ (v : Verdict). searchBy v list start) h
+  by-verdict (verdict.Refused n) m l k h r =
+      ap (λ (x : Ran Attached). found (refused (numberOf n)) 0 (x .stand .list) 0 0 (x .line)) r ∙ ap (λ (v : Verdict). searchBy v list start) h
 
-pub searches : (cs : List Chip) (list ms ss : List ℕ) (look : Look) (q : Standing) (n : ℕ) (m m′ : Machine) (list′ : List ℕ) (l′ : Attached) (a : Searched) (listed resets slots : ℕ)
-    → look ≡ lookedOver 0 cs firstLook → q ≡ standsBy look (length cs) (length ms) (length ss) → n ≡ turnsFor q → m ≡ beginOf (length list)
+pub searches : (cs : List Chip) (list ms ss : List ℕ) (look : Survey) (q : Verdict) (n : ℕ) (m m′ : Machine) (list′ : List ℕ) (l′ : Attached) (a : Searched) (listed resets slots : ℕ)
+    → look ≡ surveyed 0 (length cs) cs → q ≡ verdictBy look (length cs) (length ms) (length ss) → n ≡ turnsFor q → m ≡ beginOf (length list)
     → ran m′ list′ l′ ≡ run wire n m list (attached (length cs) cs ms ss) → tale a listed resets slots ≡ tellsBy q m′
     → found a listed list′ resets slots l′ ≡ searchOf list (attached (length cs) cs ms ss)
 searches cs list ms ss look q n m m′ list′ l′ a listed resets slots e f g h r t =
-    let s : q ≡ standingOf (length cs) cs ms ss = f ∙ ap (λ (x : Look). standsBy x (length cs) (length ms) (length ss)) e ∙ stands-is 0 cs ms ss in
+    let s : q ≡ verdictOf (length cs) cs ms ss = f ∙ slice-stands cs ms ss 0 look e in
     let u : ran m′ list′ l′ ≡ run wire (turnsFor q) (beginOf (length list)) list (attached (length cs) cs ms ss) = r ∙ (λ j. run wire (g j) (h j) list (attached (length cs) cs ms ss)) in
     ap (λ (x : Tale). found (x .answer) (x .listed) list′ (x .resets) (x .slots) l′) t
-    ∙ by-standing cs list ms ss q m′ list′ l′ s u
+    ∙ by-verdict cs list ms ss q m′ list′ l′ s u

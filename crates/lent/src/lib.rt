@@ -6,16 +6,16 @@ mod setting;
 use chip::Chip;
 use line::Answer;
 use line::Event;
+use line::Plan;
+use line::Survey;
 pub use seeking::search_line;
 pub use setting::set_up;
-use turns::Look;
-use turns::Plan;
-use turns::Task;
 ghost use mathlib.Core.Path.{_≡_};
 ghost use lib.ListN.{length};
 ghost use Rattle.line.specs.Event.{answered, outcome, eventOf};
 ghost use Rattle.line.specs.Layout.{lent};
-ghost use Rattle.turns.specs.Walk.{firstSpot, firstLook, firstSum, lookedOver, sums, hostBit, acts, planDone};
+ghost use Rattle.line.specs.Carrier.{firstSpot, surveyed, busOver, acts};
+ghost use Rattle.lent.specs.Turning.{planDone};
 
 // How many chips of a card are still to come, and where in the card the next one stands.
 pub struct Fill {
@@ -30,39 +30,39 @@ pub struct Filled {
 }
 
 // A look over the table, before an event that names a chip.
-fn look_over(table: &[Chip], chip: u32) -> Look
-    ensures { λ r. ⌜ r ≡ lookedOver chip (now (table .entry)) firstLook ⌝ }
+fn survey_table(table: &[Chip], chip: u32) -> Survey
+    ensures { λ r. ⌜ r ≡ surveyed chip (length (now (table .entry))) (now (table .entry)) ⌝ }
 {
-    let mut look = turns::first_look();
+    let mut survey = line::carrier::first_survey();
     let mut i = 0;
     while i < table.len() {
-        look = turns::look_at(table[i], look, chip);
+        survey = line::carrier::survey_chip(table[i], survey, chip);
         i += 1;
     }
-    look
+    survey
 }
 
-// The AND of the host's bit and what every chip sends.
-fn line_value(table: &[Chip], host: bool, ms: &[u8], ss: &[u8]) -> bool
-    ensures { λ r. ⌜ r ≡ sums (length (now (table .entry))) 0 (now (table .entry)) (firstSum host) (now (ms .entry)) (now (ss .entry)) ⌝ }
+// The AND of what the host and every chip put on the bus.
+fn line_value(table: &[Chip], plan: Plan, ms: &[u8], ss: &[u8]) -> bool
+    ensures { λ r. ⌜ r ≡ busOver plan (length (now (table .entry))) (now (table .entry)) (now (ms .entry)) (now (ss .entry)) .value ⌝ }
 {
-    let mut sum = turns::first_sum(host);
+    let mut sum = line::carrier::first_bus(plan);
     let mut i = 0;
     while i < table.len() {
-        sum = turns::sum_at(table[i], sum, ms, ss);
+        sum = line::carrier::bus_with(table[i], sum, plan, ms, ss);
         i += 1;
     }
     sum.value
 }
 
-// Every chip does its part: each record is read and stored in the lent slice.
-fn all_act(table: &mut [Chip], task: Task, ms: &mut [u8], ss: &mut [u8])
-    ensures { λ _. ⌜ lent (now (table .exit)) (now (ms .exit)) (now (ss .exit)) ≡ acts task (length (now (table .entry))) 0 firstSpot (now (table .entry)) (now (ms .entry)) (now (ss .entry)) ⌝ }
+// Every chip has its turn: each record is read and stored in the lent slice.
+fn all_turn(table: &mut [Chip], plan: Plan, value: bool, ms: &mut [u8], ss: &mut [u8])
+    ensures { λ _. ⌜ lent (now (table .exit)) (now (ms .exit)) (now (ss .exit)) ≡ acts plan value (length (now (table .entry))) 0 firstSpot (now (table .entry)) (now (ms .entry)) (now (ss .entry)) ⌝ }
 {
-    let mut spot = turns::first_spot();
+    let mut spot = line::carrier::first_spot();
     let mut i = 0;
     while i < table.len() {
-        let t = turns::act_turn(table[i], spot, task, ms, ss);
+        let t = line::carrier::turn(table[i], spot, plan, value, ms, ss);
         table[i] = t.chip;
         spot = t.spot;
         i += 1;
@@ -73,11 +73,9 @@ fn all_act(table: &mut [Chip], task: Task, ms: &mut [u8], ss: &mut [u8])
 fn do_plan(table: &mut [Chip], plan: Plan, ms: &mut [u8], ss: &mut [u8]) -> Answer
     ensures { λ r. ⌜ outcome (answered r) (length (now (table .exit))) (lent (now (table .exit)) (now (ms .exit)) (now (ss .exit))) ≡ planDone plan (now (table .entry)) (now (ms .entry)) (now (ss .entry)) ⌝ }
 {
-    let host = turns::host_bit(plan);
-    let value = line_value(table, host, ms, ss);
-    let task = turns::task_of(plan, value);
-    all_act(table, task, ms, ss);
-    turns::answer_of(plan, value, table.len())
+    let value = line_value(table, plan, ms, ss);
+    all_turn(table, plan, value, ms, ss);
+    line::carrier::answer_of(plan, value)
 }
 
 // One event on a lent table: refusals 8, 5, 6 and 7 in this order, each with nothing changed; else the bus bit.
@@ -85,7 +83,7 @@ pub fn take_event(table: &mut [Chip], e: Event, ms: &mut [u8], ss: &mut [u8]) ->
     ensures { λ r. ⌜ outcome (answered r) (length (now (table .exit))) (lent (now (table .exit)) (now (ms .exit)) (now (ss .exit)))
         ≡ eventOf (length (now (table .entry))) (now (table .entry)) e (now (ms .entry)) (now (ss .entry)) ⌝ }
 {
-    let look = look_over(table, e.chip);
-    let plan = turns::plan_of(look, table.len(), e, ms.len(), ss.len());
+    let survey = survey_table(table, e.chip);
+    let plan = line::carrier::plan_of(survey, table.len(), e, ms.len(), ss.len());
     do_plan(table, plan, ms, ss)
 }

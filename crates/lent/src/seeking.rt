@@ -1,21 +1,22 @@
 // The search over a lent table: the host's machine puts one event a turn on the line.
 use crate::do_plan;
-use crate::look_over;
+use crate::survey_table;
 use chip::Chip;
 use line::Answer;
-use line::Standing;
+use line::Plan;
+use line::Refusal;
+use line::Survey;
+use line::Verdict;
 use machine::Ask;
 use machine::Machine;
 use machine::Told;
 use search::Resets;
 use search::SearchAnswer;
 use search::Slots;
-use turns::Look;
-use turns::Plan;
 ghost use mathlib.Core.Path.{_≡_};
 ghost use lib.ListN.{length};
-ghost use Rattle.line.specs.Event.{answered};
-ghost use Rattle.search.specs.Search.{searched, attached, wire, outcome, searchOf};
+ghost use Rattle.line.specs.Event.{answered, numberOf};
+ghost use Rattle.search.specs.Search.{refused as refusedBy, searched, attached, wire, outcome, searchOf};
 ghost use Rattle.machine.specs.Machine.{tale};
 ghost use Rattle.machine.specs.Run.{saysTo, leavesTo, ran, run};
 ghost use Rattle.lent.specs.Seek.{chipOf, planAsk, turnsFor, tellsBy};
@@ -31,32 +32,31 @@ pub fn chip_of(ask: Ask) -> u32
 }
 
 // What comes of what is asked.
-pub fn plan_ask(ask: Ask, l: Look, n: usize, images: usize, pads: usize) -> Plan
+pub fn plan_ask(ask: Ask, l: Survey, n: usize, images: usize, pads: usize) -> Plan
     ensures { λ r. ⌜ r ≡ planAsk ask l n images pads ⌝ }
 {
     match ask {
-        Ask::Nothing => Plan::Nothing(Answer::Bit(true)),
-        Ask::Put(e) => turns::plan_of(l, n, e, images, pads),
+        Ask::Nothing => Plan::Refused(Refusal::NoSuchEvent),
+        Ask::Put(e) => line::carrier::plan_of(l, n, e, images, pads),
     }
 }
 
 // The turns of a search: enough for 16 passes and one event more; none on a table that is refused.
-pub fn turns_for(stands: Standing) -> usize
-    ensures { λ r. ⌜ r ≡ turnsFor stands ⌝ }
+pub fn turns_for(judged: Verdict) -> usize
+    ensures { λ r. ⌜ r ≡ turnsFor judged ⌝ }
 {
-    match stands {
-        Standing::Fine => 3217,
-        Standing::WrongSize => 0,
-        Standing::OutOfRange => 0,
+    match judged {
+        Verdict::Well => 3217,
+        Verdict::Refused(_) => 0,
     }
 }
 
 // A search that was refused before its first event.
-pub fn refused(answer: SearchAnswer) -> Told
-    ensures { λ r. ⌜ tale (searched (r .answer)) (r .listed) (r .resets .0) (r .slots .0) ≡ tale (searched answer) 0 0 0 ⌝ }
+pub fn refused(refusal: Refusal) -> Told
+    ensures { λ r. ⌜ tale (searched (r .answer)) (r .listed) (r .resets .0) (r .slots .0) ≡ tale (refusedBy (numberOf refusal)) 0 0 0 ⌝ }
 {
     Told {
-        answer: answer,
+        answer: SearchAnswer::Refused(refusal),
         listed: 0,
         resets: Resets(0),
         slots: Slots(0),
@@ -64,13 +64,12 @@ pub fn refused(answer: SearchAnswer) -> Told
 }
 
 // What a search tells.
-pub fn tell_by(stands: Standing, m: Machine) -> Told
-    ensures { λ r. ⌜ tale (searched (r .answer)) (r .listed) (r .resets .0) (r .slots .0) ≡ tellsBy stands m ⌝ }
+pub fn tell_by(judged: Verdict, m: Machine) -> Told
+    ensures { λ r. ⌜ tale (searched (r .answer)) (r .listed) (r .resets .0) (r .slots .0) ≡ tellsBy judged m ⌝ }
 {
-    match stands {
-        Standing::Fine => machine::tells(m),
-        Standing::WrongSize => refused(SearchAnswer::WrongSize),
-        Standing::OutOfRange => refused(SearchAnswer::OutOfRange),
+    match judged {
+        Verdict::Well => machine::tells(m),
+        Verdict::Refused(r) => refused(r),
     }
 }
 
@@ -80,8 +79,8 @@ fn ask_line(table: &mut [Chip], ask: Ask, ms: &mut [u8], ss: &mut [u8]) -> Answe
         × (attached (length (now (table .exit))) (now (table .exit)) (now (ms .exit)) (now (ss .exit)) ≡ leavesTo wire ask (attached (length (now (table .entry))) (now (table .entry)) (now (ms .entry)) (now (ss .entry)))) ⌝ }
 {
     let chip = chip_of(ask);
-    let look = look_over(table, chip);
-    let plan = plan_ask(ask, look, table.len(), ms.len(), ss.len());
+    let survey = survey_table(table, chip);
+    let plan = plan_ask(ask, survey, table.len(), ms.len(), ss.len());
     do_plan(table, plan, ms, ss)
 }
 
@@ -113,10 +112,10 @@ pub fn search_line(table: &mut [Chip], list: &mut [u64], ms: &mut [u8], ss: &mut
     ensures { λ r. ⌜ outcome (searched (r .answer)) (r .listed) (now (list .exit)) (r .resets .0) (r .slots .0) (attached (length (now (table .exit))) (now (table .exit)) (now (ms .exit)) (now (ss .exit)))
         ≡ searchOf (now (list .entry)) (attached (length (now (table .entry))) (now (table .entry)) (now (ms .entry)) (now (ss .entry))) ⌝ }
 {
-    let look = look_over(table, 0);
-    let stands = turns::stands_by(look, table.len(), ms.len(), ss.len());
-    let turns = turns_for(stands);
+    let survey = survey_table(table, 0);
+    let judged = line::carrier::verdict_by(survey, table.len(), ms.len(), ss.len());
+    let turns = turns_for(judged);
     let host = machine::begin(list.len());
     let last = run_host(table, turns, host, list, ms, ss);
-    tell_by(stands, last)
+    tell_by(judged, last)
 }

@@ -6,7 +6,7 @@ use lib.Dec.{ltb, leb}
 use lib.ListN.{take, drop}
 use Rattle.base.specs.Pick.{pick}
 use Rattle.chip.specs.Chip.{Whole, whole}
-use Rattle.chip.specs.Range.{imageSize, padSize}
+use Rattle.chip.specs.Kinds.{imageSize, padSize}
 use Rattle.chip.specs.declared.Chip.{Chip}
 
 -- a size summed over chips
@@ -20,6 +20,13 @@ imagesSize cs = sumOf imageSize cs
 
 abbrev pub padsSize : List Chip → ℕ
 padsSize cs = sumOf padSize cs
+
+-- the most that a table asks for, of images and of scratchpads: 16 chips, each with 2,624 bytes and 32 (Done: images-most, pads-most)
+abbrev pub imagesMost : ℕ
+imagesMost = 41984
+
+abbrev pub padsMost : ℕ
+padsMost = 512
 
 -- each chip with its part of the buffers
 abbrev pub split : List Chip → List ℕ → List ℕ → List Whole

@@ -1,8 +1,11 @@
 pub mod Line
 pub mod Layout
 pub mod Event
+pub mod Events
 pub mod Sizes
 pub mod Bridge
 pub mod Loops
+pub mod Carrier
 pub mod Refusals
 pub mod Prefix
+pub mod Carried

@@ -2,18 +2,21 @@
 use Prim.Native.Nat.{ℕ, zero, suc}
 use mathlib.Core.Bool.{Bool, true, false}
 use mathlib.Core.List.{List, [], _∷_, map}
-use lib.Dec.{eqb, ltb}
-use Rattle.base.specs.Pick.{pick}
 use Rattle.base.specs.Bits.{both}
 use Rattle.chip.specs.Chip.{Whole, takesOf, sendsOf, resetOf, powerOnOf, levelsOf}
-use Rattle.line.specs.declared.Event.{Event}
 use Rattle.line.specs.declared.Act.{Act}
 use Rattle.line.specs.declared.Act.the-variants.{Take, Reset, PowerOn}
+use Rattle.line.specs.declared.Plan.{Plan}
+use Rattle.line.specs.declared.Plan.the-variants as plan
+
+-- the AND of a bit and what every chip puts on the bus
+abbrev pub busFrom : (Whole → Bool) → Bool → List Whole → Bool
+busFrom f v [] = v
+busFrom f v (w ∷ L) = busFrom f (both (f w) v) L
 
 -- "A slot's value is the AND of the host's bit and the bit of each chip that is sending; a chip with nothing to send sends 1."
 abbrev pub valueOf : Bool → List Whole → Bool
-valueOf host [] = host
-valueOf host (w ∷ L) = valueOf (both (sendsOf w) host) L
+valueOf host L = busFrom sendsOf host L
 
 -- "Reset answers 0 if any chip is there, otherwise 1."
 abbrev pub absent : List Whole → Bool
@@ -32,21 +35,30 @@ levelsAt i l [] = []
 levelsAt zero l (w ∷ L) = levelsOf l w ∷ L
 levelsAt (suc i) l (w ∷ L) = w ∷ levelsAt i l L
 
--- "Events: 0 and 1, a slot in which the host writes that bit": the value of such a slot
-abbrev pub slotValue : Event → List Whole → Bool
-slotValue e L = valueOf (eqb (e .number) 1) L
+-- what one chip puts on the bus: in a slot what it sends, 0 at a reset that it takes
+abbrev pub putsOf : Plan → Whole → Bool
+putsOf (plan.Refused r) w = true
+putsOf (plan.Slot b) w = sendsOf w
+putsOf plan.Reset w = false
+putsOf plan.PowerOn w = true
+putsOf (plan.Levels i l) w = true
 
--- the bus bit that an event answers; "Events 3 and 4 answer 1."
-unfoldable pub busBit : Event → List Whole → Bool
-busBit e L =
-    pick (ltb (e .number) 2) (slotValue e L)
-    (pick (eqb (e .number) 2) (absent L)
-    true)
+-- what the host puts on it
+abbrev pub hostOf : Plan → Bool
+hostOf (plan.Refused r) = true
+hostOf (plan.Slot b) = b
+hostOf plan.Reset = true
+hostOf plan.PowerOn = true
+hostOf (plan.Levels i l) = true
 
--- the line that an event leaves; "A receiving chip takes the slot's value, not the host's bit."
-unfoldable pub lineAfter : Event → List Whole → List Whole
-lineAfter e L =
-    pick (ltb (e .number) 2) (map (actOf (Take (slotValue e L))) L)
-    (pick (eqb (e .number) 2) (map (actOf Reset) L)
-    (pick (eqb (e .number) 3) (map (actOf PowerOn) L)
-    (levelsAt (e .chip) (e .levels) L)))
+-- the bit on the bus
+abbrev pub busOf : Plan → List Whole → Bool
+busOf p L = busFrom (putsOf p) (hostOf p) L
+
+-- the line after; "A receiving chip takes the slot's value, not the host's bit."
+abbrev pub afterBy : Plan → List Whole → List Whole
+afterBy (plan.Refused r) L = L
+afterBy (plan.Slot b) L = map (actOf (Take (valueOf b L))) L
+afterBy plan.Reset L = map (actOf Reset) L
+afterBy plan.PowerOn L = map (actOf PowerOn) L
+afterBy (plan.Levels i l) L = levelsAt i l L

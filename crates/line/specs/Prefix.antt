@@ -10,28 +10,21 @@ use lib.Seq.{take-append-le, drop-append-le, length-take-le}
 use borrow.Author.Tests.{ltb-true, ltb-false}
 use Rattle.base.specs.Pick.{pick}
 use Rattle.base.specs.Bits.{both}
+use Rattle.chip.specs.Kinds.{takesLevels}
 use Rattle.chip.specs.Chip.{Whole}
 use Rattle.chip.specs.declared.Chip.{Chip}
-use Rattle.line.specs.Line.{slotValue, levelsAt, actOf, busBit, lineAfter}
-use Rattle.line.specs.Layout.{capped, imagesSize, padsSize, imagesAsked, padsAsked, split, chipsOf, imagesOf, padsOf, lent, lineOf, lentFrom}
-use Rattle.line.specs.Event.{bit, refused, noChip, allInRange, tableInRange, sizesFit, levelsFit, Outcome, outcome, happens, acceptedOf, eventOf}
+use Rattle.line.specs.Line.{levelsAt, afterBy}
+use Rattle.line.specs.Layout.{capped, imagesSize, padsSize, imagesAsked, padsAsked, split, chipsOf, imagesOf, padsOf, Lent, lent, lineOf, lentFrom}
+use Rattle.line.specs.Event.{allInRange, tableInRange, sizesFit, judge, tableTests, verdictOf, Outcome, outcome, planIn, planBy, planOf, answerBy, did, doneOf, eventOf}
 use Rattle.line.specs.declared.Event.{Event}
-use Rattle.line.specs.declared.Act.the-variants.{Take, Reset, PowerOn}
+use Rattle.line.specs.declared.Plan.{Plan}
+use Rattle.line.specs.declared.Plan.the-variants as plan
 
 -- the same outcome on a table that has the places Z after its own
 abbrev pub withRest : List Chip → Outcome → Outcome
 withRest Z o = outcome (o .answer) (o .count) (lent (o .lent .chips ++ Z) (o .lent .images) (o .lent .pads))
 
--- a function of a choice is the choice of what it gives
-pub pick-of {ℓ ℓ′} : {A : Type ℓ} {B : Type ℓ′} (f : A → B) (t : Bool) (a b : A) → f (pick t a b) ≡ pick t (f a) (f b)
-unfolding pick
-pick-of f true a b = refl
-pick-of f false a b = refl
-
 module _ (n : ℕ) (cs Z : List Chip) (l : n ≤ length cs) where
-  rest-pick : (t : Bool) (a b : Outcome) → pick t (withRest Z a) (withRest Z b) ≡ withRest Z (pick t a b)
-  rest-pick t a b = sym (pick-of (λ (o : Outcome). withRest Z o) t a b)
-
   line-rest : take n (cs ++ Z) ≡ take n cs
   line-rest = take-append-le n cs Z l
 
@@ -51,42 +44,34 @@ module _ (n : ℕ) (cs Z : List Chip) (l : n ≤ length cs) where
   unfolding sizesFit
   sizes-rest ms ss = ap (λ (k : List Chip). both (eqb (length ms) (imagesSize k)) (eqb (length ss) (padsSize k))) line-rest
 
-  levels-rest : (e : Event) → levelsFit e n (cs ++ Z) ≡ levelsFit e n cs
-  unfolding levelsFit pick
-  levels-rest e = ap (λ (t : Bool). pick (eqb (e .number) 4) t true) (go (ltb (e .chip) n) (ltb-true (e .chip) n))
-    where
-      go : (t : Bool) → (t ≡ true → e .chip < n) → pick t (both (eqb (getD (cs ++ Z) (e .chip) noChip .kind) 2) (leb (e .levels) 3)) false ≡ pick t (both (eqb (getD cs (e .chip) noChip .kind) 2) (leb (e .levels) 3)) false
-      go true f =
-          let i = f refl in
-          ap (λ (c : Chip). both (eqb (c .kind) 2) (leb (e .levels) 3)) (List·getD-append cs Z noChip (e .chip) (omega arith))
-      go false f = refl
+  pub verdict-rest : (ms ss : List ℕ) → verdictOf n (cs ++ Z) ms ss ≡ verdictOf n cs ms ss
+  unfolding verdictOf
+  verdict-rest ms ss = λ j. judge (tableTests (range-rest j) (sizes-rest ms ss j))
 
-  happens-rest : (e : Event) (ms ss : List ℕ) → happens n (cs ++ Z) e ms ss ≡ withRest Z (happens n cs e ms ss)
-  unfolding happens
-  happens-rest e ms ss =
-      ap (λ (k : List Chip). let L = split k ms ss in outcome (bit (busBit e L)) n (lentFrom n (cs ++ Z) (lineAfter e L))) line-rest
-      ∙ (let L = lineAfter e (lineOf n cs ms ss) in
-      ap (λ (k : List Chip). outcome (bit (busBit e (lineOf n cs ms ss))) n (lent k (imagesOf L) (padsOf L)))
-      (ap (λ (k : List Chip). chipsOf L ++ k) (drop-append-le n cs Z l) ∙ sym (append-assoc (chipsOf L) (drop n cs) Z)))
+  plan-rest : (e : Event) (ms ss : List ℕ) → planOf n (cs ++ Z) e ms ss ≡ planOf n cs e ms ss
+  unfolding planOf
+  plan-rest e ms ss = λ j. planBy (verdict-rest ms ss j) (planIn (line-rest j) e)
 
-  accepted-rest : (e : Event) (ms ss : List ℕ) → acceptedOf n (cs ++ Z) e ms ss ≡ withRest Z (acceptedOf n cs e ms ss)
-  unfolding acceptedOf
-  accepted-rest e ms ss =
-      let no7 = outcome (refused 7) n (lent cs ms ss) in
-      let no6 = outcome (refused 6) n (lent cs ms ss) in
-      (λ j. pick (leb (e .number) 4) (pick (levels-rest e j) (happens-rest e ms ss j) (withRest Z no7)) (withRest Z no6))
-      ∙ ap (λ (o : Outcome). pick (leb (e .number) 4) o (withRest Z no6)) (rest-pick (levelsFit e n cs) (happens n cs e ms ss) no7)
-      ∙ rest-pick (leb (e .number) 4) (pick (levelsFit e n cs) (happens n cs e ms ss) no7) no6
+  -- a line put back
+  lent-rest : (M : List Whole) → lentFrom n (cs ++ Z) M ≡ lent ((chipsOf M ++ drop n cs) ++ Z) (imagesOf M) (padsOf M)
+  lent-rest M = ap (λ (k : List Chip). lent k (imagesOf M) (padsOf M)) (ap (λ (k : List Chip). chipsOf M ++ k) (drop-append-le n cs Z l) ∙ sym (append-assoc (chipsOf M) (drop n cs) Z))
+
+  did-rest : (p : Plan) (ms ss : List ℕ) → did p n (cs ++ Z) ms ss ≡ withRest Z (did p n cs ms ss)
+  did-rest p ms ss =
+      ap (λ (k : List Chip). let L = split k ms ss in outcome (answerBy p L) n (lentFrom n (cs ++ Z) (afterBy p L))) line-rest
+      ∙ ap (λ (g : Lent). outcome (answerBy p (lineOf n cs ms ss)) n g) (lent-rest (afterBy p (lineOf n cs ms ss)))
+
+  done-rest : (p : Plan) (ms ss : List ℕ) → doneOf p n (cs ++ Z) ms ss ≡ withRest Z (doneOf p n cs ms ss)
+  done-rest (plan.Refused r) ms ss = refl
+  done-rest (plan.Slot b) ms ss = did-rest (plan.Slot b) ms ss
+  done-rest plan.Reset ms ss = did-rest plan.Reset ms ss
+  done-rest plan.PowerOn ms ss = did-rest plan.PowerOn ms ss
+  done-rest (plan.Levels i x) ms ss = did-rest (plan.Levels i x) ms ss
 
   -- an event on a table with more places than those of cs
   pub event-rest : (e : Event) (ms ss : List ℕ) → eventOf n (cs ++ Z) e ms ss ≡ withRest Z (eventOf n cs e ms ss)
   unfolding eventOf
-  event-rest e ms ss =
-      let no5 = outcome (refused 5) n (lent cs ms ss) in
-      let no8 = outcome (refused 8) n (lent cs ms ss) in
-      (λ j. pick (range-rest j) (pick (sizes-rest ms ss j) (accepted-rest e ms ss j) (withRest Z no5)) (withRest Z no8))
-      ∙ ap (λ (o : Outcome). pick (tableInRange n cs) o (withRest Z no8)) (rest-pick (sizesFit n cs ms ss) (acceptedOf n cs e ms ss) no5)
-      ∙ rest-pick (tableInRange n cs) (pick (sizesFit n cs ms ss) (acceptedOf n cs e ms ss) no5) no8
+  event-rest e ms ss = ap (λ (p : Plan). doneOf p n (cs ++ Z) ms ss) (plan-rest e ms ss) ∙ done-rest (planOf n cs e ms ss) ms ss
 
 -- at most 16 places are used, and no more than there are
 pub capped-few : (places : ℕ) → (capped places ≤ 16) × (capped places ≤ places)
@@ -97,15 +82,18 @@ capped-few places = go (ltb places 16) (ltb-true places 16) (ltb-false places 16
     go true f g = let h = f refl in (omega arith, omega arith)
     go false f g = let h = g refl in (omega arith, omega arith)
 
+pub capped-is : (n : ℕ) → n ≤ 16 → capped n ≡ n
+unfolding capped pick
+capped-is n h = go (ltb n 16) (ltb-false n 16)
+  where
+    go : (b : Bool) → (b ≡ false → 16 ≤ n) → pick b n 16 ≡ n
+    go true f = refl
+    go false f = let k = f refl in omega arith
+
 -- an outcome has n chips in m places
 pub record Holds (n m : ℕ) (o : Outcome) : Type 0 where
   pub chips : o .count ≡ n
   pub places : length (o .lent .chips) ≡ m
-
-holds-pick : (n m : ℕ) (t : Bool) (a b : Outcome) → Holds n m a → Holds n m b → Holds n m (pick t a b)
-unfolding pick
-holds-pick n m true a b p q = p
-holds-pick n m false a b p q = q
 
 pub length-split : (cs : List Chip) (ms ss : List ℕ) → length (split cs ms ss) ≡ length cs
 length-split [] ms ss = refl
@@ -116,31 +104,30 @@ length-levels i l [] = refl
 length-levels zero l (w ∷ L) = refl
 length-levels (suc i) l (w ∷ L) = ap suc (length-levels i l L)
 
-length-after : (e : Event) (L : List Whole) → length (lineAfter e L) ≡ length L
-unfolding lineAfter pick
-length-after e L = go (ltb (e .number) 2) (eqb (e .number) 2) (eqb (e .number) 3)
-  where
-    go : (a b c : Bool) → length (pick a (map (actOf (Take (slotValue e L))) L) (pick b (map (actOf Reset) L) (pick c (map (actOf PowerOn) L) (levelsAt (e .chip) (e .levels) L)))) ≡ length L
-    go true b c = length-map L _
-    go false true c = length-map L _
-    go false false true = length-map L _
-    go false false false = length-levels (e .chip) (e .levels) L
+pub length-after : (p : Plan) (L : List Whole) → length (afterBy p L) ≡ length L
+length-after (plan.Refused r) L = refl
+length-after (plan.Slot b) L = length-map L _
+length-after plan.Reset L = length-map L _
+length-after plan.PowerOn L = length-map L _
+length-after (plan.Levels i l) L = length-levels i l L
 
 -- every event keeps the number of chips and of places
+module _ (n : ℕ) (cs : List Chip) (ms ss : List ℕ) (l : n ≤ length cs) where
+  did-holds : (p : Plan) → Holds n (length cs) (did p n cs ms ss)
+  did-holds p =
+      record {
+        chips = refl;
+        places = let k = length-after p (lineOf n cs ms ss) ∙ length-split (take n cs) ms ss ∙ length-take-le n cs l in
+            simp (length-append, length-map, length-drop) (omega arith);
+      }
+
+  done-holds : (p : Plan) → Holds n (length cs) (doneOf p n cs ms ss)
+  done-holds (plan.Refused r) = record { chips = refl; places = refl }
+  done-holds (plan.Slot b) = did-holds (plan.Slot b)
+  done-holds plan.Reset = did-holds plan.Reset
+  done-holds plan.PowerOn = did-holds plan.PowerOn
+  done-holds (plan.Levels i x) = did-holds (plan.Levels i x)
+
 pub event-holds : (n : ℕ) (cs : List Chip) (e : Event) (ms ss : List ℕ) → n ≤ length cs → Holds n (length cs) (eventOf n cs e ms ss)
-unfolding eventOf acceptedOf happens
-event-holds n cs e ms ss l =
-    holds-pick n (length cs) (tableInRange n cs) _ _
-    (holds-pick n (length cs) (sizesFit n cs ms ss) _ _
-    (holds-pick n (length cs) (leb (e .number) 4) _ _
-    (holds-pick n (length cs) (levelsFit e n cs) _ _
-    (record { chips = refl; places = after })
-    (record { chips = refl; places = refl }))
-    (record { chips = refl; places = refl }))
-    (record { chips = refl; places = refl }))
-    (record { chips = refl; places = refl })
-  where
-    after : length (chipsOf (lineAfter e (lineOf n cs ms ss)) ++ drop n cs) ≡ length cs
-    after =
-        let k = length-after e (lineOf n cs ms ss) ∙ length-split (take n cs) ms ss ∙ length-take-le n cs l in
-        simp (length-append, length-map, length-drop) (omega arith)
+unfolding eventOf
+event-holds n cs e ms ss l = done-holds n cs ms ss l (planOf n cs e ms ss)

@@ -1,30 +1,28 @@
 -- Laws: what the code knows of a table and an event that are not refused, and what it puts together of an event.
-use Prim.Native.Nat.{ℕ, zero, suc, _+_, _<_, _≤_}
+use Prim.Native.Nat.{ℕ, zero, suc, _<_, _≤_}
 use native.Mathlib.Omega.{arith}
-use native.Mathlib.Nat.{not-suc-le-zero, le-of-suc-le-suc}
 use mathlib.Core.Bool.{Bool, true, false, true≢false}
-use mathlib.Core.List.{List, [], _∷_, _++_, map}
+use mathlib.Core.List.{List, [], _∷_, _++_}
 use mathlib.Core.Path.{_≡_, refl, _∙_, ap, sym}
 use lib.Dec.{eqb, ltb, leb}
-use borrow.Author.Tests.{eqb-true, ltb-true, leb-true, eq-eqb, ne-eqb, lt-ltb, le-ltb, le-leb}
-use lib.ListN.{length, take, drop, getD, set, take-append-drop, length-drop}
-use lib.Seq.{length-take-le}
-use Rattle.base.specs.Pick.{pick, pick-true, pick-false}
+use borrow.Author.Tests.{eqb-true, ltb-true, leb-true, eq-eqb, ne-eqb, le-ltb, lt-leb}
+use lib.ListN.{length, take, drop, getD, take-append-drop, length-drop}
+use Rattle.base.specs.Pick.{pick, pick-true}
 use Rattle.base.specs.Bits.{both}
 use Rattle.base.specs.Both.{both-holds}
-use Rattle.chip.specs.Chip.{Whole, levelsChip, levelsOf}
-use Rattle.chip.specs.Range.{imageSize, padSize}
+use Rattle.chip.specs.Chip.{Whole}
+use Rattle.chip.specs.Kinds.{takesLevels, imageSize, padSize}
 use Rattle.chip.specs.declared.Chip.{Chip}
-use Rattle.line.specs.Line.{valueOf, absent, actOf, levelsAt, slotValue, busBit, lineAfter}
-use Rattle.line.specs.Layout.{imagesSize, padsSize, split, chipsOf, imagesOf, padsOf, Lent, lent, lineOf, lentFrom}
-use Rattle.line.specs.Event.{Answered, bit, refused, noChip, tableInRange, allInRange, sizesFit, levelsFit, Fits, Outcome, outcome, happens, acceptedOf, eventOf, standingOf}
-use Rattle.line.specs.Sizes.{act-sized}
-use Rattle.line.specs.Bridge.{each, eachBit, each-means, bits-mean}
+use Rattle.line.specs.Line.{absent, busFrom, busOf}
+use Rattle.line.specs.Layout.{imagesSize, padsSize, split, chipsOf, imagesOf, padsOf}
+use Rattle.line.specs.Event.{tableInRange, allInRange, sizesFit, Fits, levelsFit, verdictOf, noChip, askedBy, planEvent, planIn}
 use Rattle.line.specs.declared.Event.{Event}
-use Rattle.line.specs.declared.Standing.{Standing}
-use Rattle.line.specs.declared.Standing.the-variants as standing
-use Rattle.line.specs.declared.Act.{Act}
-use Rattle.line.specs.declared.Act.the-variants.{Take, Reset, PowerOn}
+use Rattle.line.specs.declared.Refusal.{Refusal}
+use Rattle.line.specs.declared.Refusal.the-variants.{OutOfRange, WrongSize, NoSuchEvent, NoSuchLevels}
+use Rattle.line.specs.declared.Verdict.{Verdict}
+use Rattle.line.specs.declared.Verdict.the-variants as verdict
+use Rattle.line.specs.declared.Plan.{Plan}
+use Rattle.line.specs.declared.Plan.the-variants as plan
 
 -- a choice that comes out true by its first way
 chosen : (s t : Bool) → pick s t false ≡ true → (s ≡ true) × (t ≡ true)
@@ -45,15 +43,6 @@ fit n cs ms ss e f =
       images = eqb-true (length ms) (imagesSize (take n cs)) (b .0);
       pads = eqb-true (length ss) (padsSize (take n cs)) (b .1);
     }
-
--- event 4 that is not refused names a chip of the line, and two bits
-pub levels-fit : (e : Event) (n : ℕ) (cs : List Chip) → levelsFit e n cs ≡ true → e .number ≡ 4 → (e .chip < n) × (e .levels ≤ 3)
-unfolding levelsFit
-levels-fit e n cs h p =
-    let a = eqb (getD cs (e .chip) noChip .kind) 2 in
-    let k = sym (pick-true (eqb (e .number) 4) (pick (ltb (e .chip) n) (both a (leb (e .levels) 3)) false) true (eq-eqb (e .number) 4 p)) ∙ h in
-    let q = chosen (ltb (e .chip) n) (both a (leb (e .levels) 3)) k in
-    (ltb-true (e .chip) n (q .0), leb-true (e .levels) 3 (both-holds a (leb (e .levels) 3) (q .1) .1))
 
 -- a line, put back as it was
 none-left : (l : List ℕ) → length l ≡ 0 → [] ≡ l
@@ -76,129 +65,86 @@ pads-split (c ∷ cs) ms ss e =
     ap (λ (l : List ℕ). take (padSize (c .kind)) ss ++ l) (pads-split cs (drop (imageSize (c .kind)) ms) (drop (padSize (c .kind)) ss) (simp length-drop (omega arith)))
     ∙ take-append-drop (padSize (c .kind)) ss
 
--- new levels change one place of the table, and no byte
-levels-chips : (i l : ℕ) (cs Z : List Chip) (ms ss : List ℕ) → i < length cs → chipsOf (levelsAt i l (split cs ms ss)) ++ Z ≡ set (cs ++ Z) i (levelsChip l (getD (cs ++ Z) i noChip))
-unfolding levelsOf
-levels-chips i l [] Z ms ss h = absurd (not-suc-le-zero h)
-levels-chips zero l (c ∷ cs) Z ms ss h = ap (λ (k : List Chip). levelsChip l c ∷ (k ++ Z)) (chips-split cs _ _)
-levels-chips (suc i) l (c ∷ cs) Z ms ss h = ap (λ (k : List Chip). c ∷ k) (levels-chips i l cs Z _ _ (le-of-suc-le-suc h))
+-- "Reset answers 0 if any chip is there, otherwise 1."
+bus-zero : (L : List Whole) → busFrom (λ (w : Whole). false) false L ≡ false
+unfolding both pick
+bus-zero [] = refl
+bus-zero (w ∷ L) = bus-zero L
 
-levels-images : (i l : ℕ) (L : List Whole) → imagesOf (levelsAt i l L) ≡ imagesOf L
-unfolding levelsOf
-levels-images i l [] = refl
-levels-images zero l (w ∷ L) = refl
-levels-images (suc i) l (w ∷ L) = ap (λ (k : List ℕ). w .memory ++ k) (levels-images i l L)
+pub presence : (L : List Whole) → busOf plan.Reset L ≡ absent L
+unfolding both pick
+presence [] = refl
+presence (w ∷ L) = bus-zero L
 
-levels-pads : (i l : ℕ) (L : List Whole) → padsOf (levelsAt i l L) ≡ padsOf L
-unfolding levelsOf
-levels-pads i l [] = refl
-levels-pads zero l (w ∷ L) = refl
-levels-pads (suc i) l (w ∷ L) = ap (λ (k : List ℕ). w .pad ++ k) (levels-pads i l L)
-
-absent-is : (n : ℕ) (cs : List Chip) (ms ss : List ℕ) → n ≤ length cs → absent (lineOf n cs ms ss) ≡ eqb n 0
-absent-is zero cs ms ss l = refl
-absent-is (suc n) [] ms ss l = absurd (not-suc-le-zero l)
-absent-is (suc n) (c ∷ cs) ms ss l = sym (ne-eqb (suc n) 0 (λ (e : suc n ≡ 0). omega arith))
-
--- the ways of an event, from what the loops leave
-module _ (n : ℕ) (cs : List Chip) (e : Event) (ms ss : List ℕ) (l : n ≤ length cs) (ok : Fits n cs ms ss) where
-  acted : (a : Act) (g : Lent) → g ≡ each (actOf a) n 0 0 0 cs ms ss → g ≡ lentFrom n cs (map (actOf a) (lineOf n cs ms ss))
-  acted a g h = h ∙ each-means (actOf a) (act-sized a) n cs ms ss l (ok .images) (ok .pads)
-
-  pub slot-happens : (v : Bool) (m : ℕ) (g : Lent) → m ≡ n → e .number < 2 → v ≡ eachBit n 0 0 0 cs (eqb (e .number) 1) ms ss → g ≡ each (actOf (Take v)) n 0 0 0 cs ms ss
-      → outcome (bit v) m g ≡ happens n cs e ms ss
-  unfolding happens busBit lineAfter
-  slot-happens v m g c h f k =
-      let u : v ≡ slotValue e (lineOf n cs ms ss) = f ∙ bits-mean n cs (eqb (e .number) 1) ms ss l (ok .images) (ok .pads) in
-      ap (λ (x : ℕ). outcome (bit v) x g) c
-      ∙ ap (λ (x : Lent). outcome (bit v) n x) (acted (Take v) g k)
-      ∙ ap (λ (x : Bool). outcome (bit x) n (lentFrom n cs (map (actOf (Take x)) (lineOf n cs ms ss)))) u
-      ∙ (simp (lt-ltb (e .number) 2 h, pick-true))
-
-  pub reset-happens : (b : Bool) (m : ℕ) (g : Lent) → m ≡ n → e .number ≡ 2 → b ≡ eqb n 0 → g ≡ each (actOf Reset) n 0 0 0 cs ms ss
-      → outcome (bit b) m g ≡ happens n cs e ms ss
-  unfolding happens busBit lineAfter
-  reset-happens b m g c h f k =
-      let u : b ≡ absent (lineOf n cs ms ss) = f ∙ sym (absent-is n cs ms ss l) in
-      ap (λ (x : ℕ). outcome (bit b) x g) c
-      ∙ ap (λ (x : Lent). outcome (bit b) n x) (acted Reset g k)
-      ∙ ap (λ (x : Bool). outcome (bit x) n (lentFrom n cs (map (actOf Reset) (lineOf n cs ms ss)))) u
-      ∙ (simp (le-ltb (e .number) 2 (omega arith), eq-eqb (e .number) 2 h, pick-true, pick-false))
-
-  pub power-happens : (m : ℕ) (g : Lent) → m ≡ n → e .number ≡ 3 → g ≡ each (actOf PowerOn) n 0 0 0 cs ms ss
-      → outcome (bit true) m g ≡ happens n cs e ms ss
-  unfolding happens busBit lineAfter
-  power-happens m g c h k =
-      ap (λ (x : ℕ). outcome (bit true) x g) c
-      ∙ ap (λ (x : Lent). outcome (bit true) n x) (acted PowerOn g k)
-      ∙ (simp (le-ltb (e .number) 2 (omega arith), ne-eqb (e .number) 2 (λ (p : e .number ≡ 2). omega arith), eq-eqb (e .number) 3 h, pick-true, pick-false))
-
-  pub levels-happen : (x : Answered) (m : ℕ) (ds : List Chip) → x ≡ bit true → m ≡ n → ds ≡ set cs (e .chip) (levelsChip (e .levels) (getD cs (e .chip) noChip))
-      → e .number ≡ 4 → e .chip < n → outcome x m (lent ds ms ss) ≡ happens n cs e ms ss
-  unfolding happens busBit lineAfter
-  levels-happen x m ds p q r h i =
-      let L = lineOf n cs ms ss in
-      let k : e .chip < length (take n cs) = rw (length-take-le n cs l) i in
-      let a : set cs (e .chip) (levelsChip (e .levels) (getD cs (e .chip) noChip)) ≡ chipsOf (levelsAt (e .chip) (e .levels) L) ++ drop n cs
-      = ap (λ (x : List Chip). set x (e .chip) (levelsChip (e .levels) (getD x (e .chip) noChip))) (sym (take-append-drop n cs))
-      ∙ sym (levels-chips (e .chip) (e .levels) (take n cs) (drop n cs) ms ss k) in
-      let b : ms ≡ imagesOf (levelsAt (e .chip) (e .levels) L) = sym (levels-images (e .chip) (e .levels) L ∙ images-split (take n cs) ms ss (ok .images)) in
-      let d : ss ≡ padsOf (levelsAt (e .chip) (e .levels) L) = sym (levels-pads (e .chip) (e .levels) L ∙ pads-split (take n cs) ms ss (ok .pads)) in
-      (λ j. outcome (p j) (q j) (lent ((r ∙ a) j) (b j) (d j)))
-      ∙ (simp (le-ltb (e .number) 2 (omega arith), ne-eqb (e .number) 2 (λ (p : e .number ≡ 2). omega arith), ne-eqb (e .number) 3 (λ (p : e .number ≡ 3). omega arith), pick-false))
-
--- what a standing says
-stands : (s t : Bool) (q : Standing) → q ≡ pick s (pick t standing.Fine standing.WrongSize) standing.OutOfRange
-    → ((q ≡ standing.Fine → (s ≡ true) × (t ≡ true)) × (q ≡ standing.WrongSize → (s ≡ true) × (t ≡ false)) × (q ≡ standing.OutOfRange → s ≡ false))
+-- a test that did not refuse holds
+held : (t : Bool) (q : Verdict) (r : Refusal) → verdict.Well ≡ pick t q (verdict.Refused r) → (t ≡ true) × (verdict.Well ≡ q)
 unfolding pick
-stands true true q e = ((λ f. (refl, refl)), (λ f. absurd (other (sym e ∙ f))), (λ f. absurd (other′ (sym e ∙ f))))
+held true q r e = (refl, e)
+held false q r e = absurd (other e)
   where
-    other : standing.Fine ≡ standing.WrongSize → ⊥
+    other : verdict.Well ≡ verdict.Refused r → ⊥
     other z = let y : _≡_ {A = ℕ} 0 1 = cc in omega arith
 
-    other′ : standing.Fine ≡ standing.OutOfRange → ⊥
-    other′ z = let y : _≡_ {A = ℕ} 0 1 = cc in omega arith
-stands true false q e = ((λ f. absurd (other (sym e ∙ f))), (λ f. (refl, refl)), (λ f. absurd (other′ (sym e ∙ f))))
-  where
-    other : standing.WrongSize ≡ standing.Fine → ⊥
-    other z = let y : _≡_ {A = ℕ} 0 1 = cc in omega arith
+-- a table that stands well, with its buffers
+pub judged-well : (n : ℕ) (cs : List Chip) (ms ss : List ℕ) → verdict.Well ≡ verdictOf n cs ms ss → (tableInRange n cs ≡ true) × (sizesFit n cs ms ss ≡ true)
+unfolding verdictOf
+judged-well n cs ms ss h =
+    let a = held (tableInRange n cs) _ OutOfRange h in
+    (a .0, held (sizesFit n cs ms ss) _ WrongSize (a .1) .0)
 
-    other′ : standing.WrongSize ≡ standing.OutOfRange → ⊥
-    other′ z = let y : _≡_ {A = ℕ} 0 1 = cc in omega arith
-stands false t q e = ((λ f. absurd (other (sym e ∙ f))), (λ f. absurd (other′ (sym e ∙ f))), (λ f. refl))
-  where
-    other : standing.OutOfRange ≡ standing.Fine → ⊥
-    other z = let y : _≡_ {A = ℕ} 0 1 = cc in omega arith
+pub well-judged : (n : ℕ) (cs : List Chip) (ms ss : List ℕ) → tableInRange n cs ≡ true → sizesFit n cs ms ss ≡ true → verdictOf n cs ms ss ≡ verdict.Well
+unfolding verdictOf
+well-judged n cs ms ss h k = simp (h, k, pick-true)
 
-    other′ : standing.OutOfRange ≡ standing.WrongSize → ⊥
-    other′ z = let y : _≡_ {A = ℕ} 0 1 = cc in omega arith
+pub judged-fit : (n : ℕ) (cs : List Chip) (ms ss : List ℕ) → verdict.Well ≡ verdictOf n cs ms ss → Fits n cs ms ss
+judged-fit n cs ms ss h = let b = judged-well n cs ms ss h in fit n cs ms ss (b .0) (b .1)
 
-module _ (n : ℕ) (cs : List Chip) (ms ss : List ℕ) (q : Standing) (h : q ≡ standingOf n cs ms ss) where
-  pub stands-fine : q ≡ standing.Fine → (tableInRange n cs ≡ true) × (sizesFit n cs ms ss ≡ true)
-  unfolding standingOf
-  stands-fine = stands (tableInRange n cs) (sizesFit n cs ms ss) q h .0
+-- event 4 that fits has two bits
+pub fit-small : (e : Event) (n kind : ℕ) → levelsFit e n kind ≡ true → e .number ≡ 4 → e .levels ≤ 3
+unfolding levelsFit
+fit-small e n kind h p =
+    let x = both (takesLevels kind) (leb (e .levels) 3) in
+    let k = sym (pick-true (eqb (e .number) 4) (both (ltb (e .chip) n) x) true (eq-eqb (e .number) 4 p)) ∙ h in
+    leb-true (e .levels) 3 (both-holds (takesLevels kind) (leb (e .levels) 3) (both-holds (ltb (e .chip) n) x k .1) .1)
 
-  pub stands-size : q ≡ standing.WrongSize → (tableInRange n cs ≡ true) × (sizesFit n cs ms ss ≡ false)
-  unfolding standingOf
-  stands-size = stands (tableInRange n cs) (sizesFit n cs ms ss) q h .1
+-- what an event comes to, by what it asks: a refusal more is a clause more
+pub data Comes (cs : List Chip) : Plan → Plan → Type 0 where
+  slot : (b : Bool) → Comes cs (plan.Slot b) (plan.Slot b)
+  reset : Comes cs plan.Reset plan.Reset
+  power-on : Comes cs plan.PowerOn plan.PowerOn
+  levels : (i l : ℕ) → i < length cs → takesLevels (getD cs i noChip .kind) ≡ true → l ≤ 3 → Comes cs (plan.Levels i l) (plan.Levels i l)
+  refused : (i l : ℕ) (r : Refusal) → Comes cs (plan.Levels i l) (plan.Refused r)
 
-  pub stands-range : q ≡ standing.OutOfRange → tableInRange n cs ≡ false
-  unfolding standingOf
-  stands-range = stands (tableInRange n cs) (sizesFit n cs ms ss) q h .2
+module _ (cs : List Chip) (e : Event) where
+  abbrev Come : Type 0
+  Come = Comes cs (askedBy e) (planIn cs e)
 
-  pub stands-fit : q ≡ standing.Fine → Fits n cs ms ss
-  stands-fit f = let b = stands-fine f in fit n cs ms ss (b .0) (b .1)
+  four-comes : (a b c : Bool) → ltb (e .chip) (length cs) ≡ a → takesLevels (getD cs (e .chip) noChip .kind) ≡ b → leb (e .levels) 3 ≡ c → e .number ≡ 4 → Come
+  unfolding askedBy planEvent levelsFit both pick
+  four-comes true true true p q r h =
+      rw (h, p, q, r) (levels (e .chip) (e .levels) (ltb-true (e .chip) (length cs) p) q (leb-true (e .levels) 3 r))
+  four-comes true true false p q r h = rw (h, p, q, r) (refused (e .chip) (e .levels) NoSuchLevels)
+  four-comes true false c p q r h = rw (h, p, q) (refused (e .chip) (e .levels) NoSuchLevels)
+  four-comes false b c p q r h = rw (h, p) (refused (e .chip) (e .levels) NoSuchLevels)
 
-  -- an event, by how the table stands
-  module _ (e : Event) where
-    pub event-range : q ≡ standing.OutOfRange → outcome (refused 8) n (lent cs ms ss) ≡ eventOf n cs e ms ss
-    unfolding eventOf
-    event-range f = simp (stands-range f, pick-false)
+  many-comes : 4 < e .number → Come
+  unfolding askedBy planEvent pick
+  many-comes h =
+      rw (
+        lt-leb (e .number) 4 h,
+        le-ltb (e .number) 2 (omega arith),
+        ne-eqb (e .number) 2 (λ (q : e .number ≡ 2). omega arith),
+        ne-eqb (e .number) 3 (λ (q : e .number ≡ 3). omega arith),
+      ) (refused (e .chip) (e .levels) NoSuchEvent)
 
-    pub event-size : q ≡ standing.WrongSize → outcome (refused 5) n (lent cs ms ss) ≡ eventOf n cs e ms ss
-    unfolding eventOf
-    event-size f = let b = stands-size f in simp (b .0, b .1, pick-true, pick-false)
+  by-number : (k : ℕ) → e .number ≡ k → Come
+  unfolding askedBy planEvent levelsFit pick
+  by-number zero p = rw p (slot false)
+  by-number (suc zero) p = rw p (slot true)
+  by-number (suc (suc zero)) p = rw p reset
+  by-number (suc (suc (suc zero))) p = rw p power-on
+  by-number (suc (suc (suc (suc zero)))) p = four-comes (ltb (e .chip) (length cs)) (takesLevels (getD cs (e .chip) noChip .kind)) (leb (e .levels) 3) refl refl refl p
+  by-number (suc (suc (suc (suc (suc k))))) p = many-comes (omega arith)
 
-    pub event-accepted : q ≡ standing.Fine → acceptedOf n cs e ms ss ≡ eventOf n cs e ms ss
-    unfolding eventOf
-    event-accepted f = let b = stands-fine f in simp (b .0, b .1, pick-true)
+  pub comes : Come
+  comes = by-number (e .number) refl

@@ -1,21 +1,26 @@
 // Up to 16 chips on one line: the table by value, and the event with its refusals.
+pub mod events;
 mod judged;
 
 pub use judged::images_asked;
 pub use judged::pads_asked;
 
+pub mod carrier;
 mod loops;
 
 use chip::Chip;
 pub use loops::act_at;
 pub use loops::bit_at;
 ghost use mathlib.Core.Path.{_≡_};
-ghost use mathlib.Core.Bool.{true};
-ghost use Prim.Native.Nat.{_<_, _≤_};
-ghost use lib.ListN.{getD, set};
-ghost use Rattle.chip.specs.Chip.{levelsChip};
+ghost use Prim.Native.Nat.{_≤_};
 ghost use Rattle.line.specs.Layout.{lent, capped};
-ghost use Rattle.line.specs.Event.{bit, answered, noChip, levelsFit, Fits, outcome, happens, acceptedOf, eventOf, standingOf};
+ghost use Rattle.line.specs.Event.{numberOf, answered, outcome, verdictOf, eventOf};
+
+// The most bytes of images that a table asks for.
+pub const IMAGES_MOST: usize = 41984;
+
+// The most bytes of scratchpads that a table asks for.
+pub const PADS_MOST: usize = 512;
 
 // The table: the first n places hold the attached chips.
 pub struct Table {
@@ -30,9 +35,8 @@ pub struct Event {
     pub levels: u32,
 }
 
-// What an event answers: the bus bit, or a refusal.
-pub enum Answer {
-    Bit(bool),
+// A refusal of an event.
+pub enum Refusal {
     // refusal 8
     OutOfRange,
     // refusal 5
@@ -43,11 +47,16 @@ pub enum Answer {
     NoSuchLevels,
 }
 
-// How a table and its buffers stand.
-pub enum Standing {
-    Fine,
-    WrongSize,
-    OutOfRange,
+// What an event answers: the bus bit, or a refusal.
+pub enum Answer {
+    Bit(bool),
+    Refused(Refusal),
+}
+
+// What a table and its buffers are judged to: they stand well, or they are refused.
+pub enum Verdict {
+    Well,
+    Refused(Refusal),
 }
 
 // What an event answers, and the table that it leaves.
@@ -63,6 +72,57 @@ pub enum Act {
     PowerOn,
 }
 
+// What an event comes to on a table.
+pub enum Plan {
+    // nothing happens
+    Refused(Refusal),
+    // a slot, with the host's bit
+    Slot(bool),
+    Reset,
+    PowerOn,
+    // new outside levels of one chip
+    Levels { chip: usize, levels: u8 },
+}
+
+// Where the next chip of a table stands: its number, and where its parts of the buffers begin.
+pub struct Spot {
+    pub place: usize,
+    pub image: usize,
+    pub pad: usize,
+}
+
+// What is known of the chips so far: whether all are in range, the kind of the chip that an event names, and where the
+// next one stands, which is also the sizes that they ask.
+pub struct Survey {
+    pub within: bool,
+    pub kind: u8,
+    pub spot: Spot,
+}
+
+// The bit on the bus so far.
+pub struct Bus {
+    pub value: bool,
+    pub spot: Spot,
+}
+
+// A chip after its turn, and where the next one stands.
+pub struct Turned {
+    pub chip: Chip,
+    pub spot: Spot,
+}
+
+// The number of a refusal.
+pub fn number_of(r: Refusal) -> u8
+    ensures { λ n. ⌜ n ≡ numberOf r ⌝ }
+{
+    match r {
+        Refusal::OutOfRange => 8,
+        Refusal::WrongSize => 5,
+        Refusal::NoSuchEvent => 6,
+        Refusal::NoSuchLevels => 7,
+    }
+}
+
 // The places of a list or a table that can be used.
 pub fn used_places(places: usize) -> usize
     ensures { λ r. ⌜ r ≡ capped places ⌝ }
@@ -71,120 +131,12 @@ pub fn used_places(places: usize) -> usize
     if places < 16 { places } else { 16 }
 }
 
-// A slot: the value of the line first, then each chip takes it.
-fn slot(t: Table, e: Event, ms: &mut [u8], ss: &mut [u8]) -> Happened
-    requires { ⌜ Fits (t .n) (t .chips) (now ms) (now ss) ⌝ }
-    requires { ⌜ e .number < 2 ⌝ }
-    ensures { λ r. ⌜ outcome (answered (r .answer)) (r .table .n) (lent (r .table .chips) (now (ms .exit)) (now (ss .exit)))
-        ≡ happens (t .n) (t .chips) e (now (ms .entry)) (now (ss .entry)) ⌝ }
-{
-    let value = loops::all_send(t, e.number == 1, ms, ss);
-    let table = loops::all_act(t, Act::Take(value), ms, ss);
-    Happened {
-        answer: Answer::Bit(value),
-        table: table,
-    }
-}
-
-// A reset: presence, and each chip is reset.
-fn reset(t: Table, e: Event, ms: &mut [u8], ss: &mut [u8]) -> Happened
-    requires { ⌜ Fits (t .n) (t .chips) (now ms) (now ss) ⌝ }
-    requires { ⌜ e .number ≡ 2 ⌝ }
-    ensures { λ r. ⌜ outcome (answered (r .answer)) (r .table .n) (lent (r .table .chips) (now (ms .exit)) (now (ss .exit)))
-        ≡ happens (t .n) (t .chips) e (now (ms .entry)) (now (ss .entry)) ⌝ }
-{
-    let absent = t.n == 0;
-    let table = loops::all_act(t, Act::Reset, ms, ss);
-    Happened {
-        answer: Answer::Bit(absent),
-        table: table,
-    }
-}
-
-// Power on of each chip.
-fn power_on(t: Table, e: Event, ms: &mut [u8], ss: &mut [u8]) -> Happened
-    requires { ⌜ Fits (t .n) (t .chips) (now ms) (now ss) ⌝ }
-    requires { ⌜ e .number ≡ 3 ⌝ }
-    ensures { λ r. ⌜ outcome (answered (r .answer)) (r .table .n) (lent (r .table .chips) (now (ms .exit)) (now (ss .exit)))
-        ≡ happens (t .n) (t .chips) e (now (ms .entry)) (now (ss .entry)) ⌝ }
-{
-    let table = loops::all_act(t, Act::PowerOn, ms, ss);
-    Happened {
-        answer: Answer::Bit(true),
-        table: table,
-    }
-}
-
-// New outside levels of one chip.
-fn levels(t: Table, i: usize, l: u8) -> Happened
-    requires { ⌜ i < 16 ⌝ }
-    ensures { λ r. ⌜ (answered (r .answer) ≡ bit true) × (r .table .n ≡ t .n) × (r .table .chips ≡ set (t .chips) i (levelsChip l (getD (t .chips) i noChip))) ⌝ }
-{
-    let n = t.n;
-    let mut chips = t.chips;
-    let c = chips[i];
-    let changed = chip::set_levels(c, l);
-    chips[i] = changed;
-    let table = Table { n: n, chips: chips };
-    Happened {
-        answer: Answer::Bit(true),
-        table: table,
-    }
-}
-
-// An event that is not refused.
-fn happen(t: Table, e: Event, ms: &mut [u8], ss: &mut [u8]) -> Happened
-    requires { ⌜ Fits (t .n) (t .chips) (now ms) (now ss) ⌝ }
-    requires { ⌜ (e .number ≤ 4) × (levelsFit e (t .n) (t .chips) ≡ true) ⌝ }
-    ensures { λ r. ⌜ outcome (answered (r .answer)) (r .table .n) (lent (r .table .chips) (now (ms .exit)) (now (ss .exit)))
-        ≡ happens (t .n) (t .chips) e (now (ms .entry)) (now (ss .entry)) ⌝ }
-{
-    let number = e.number;
-    if number < 2 {
-        return slot(t, e, ms, ss);
-    }
-    if number == 2 {
-        return reset(t, e, ms, ss);
-    }
-    if number == 3 {
-        return power_on(t, e, ms, ss);
-    }
-    levels(t, e.chip as usize, e.levels as u8)
-}
-
-// An event on a table that stands well: refusals 6 and 7, else the bus bit.
-fn accept(t: Table, e: Event, ms: &mut [u8], ss: &mut [u8]) -> Happened
-    requires { ⌜ Fits (t .n) (t .chips) (now ms) (now ss) ⌝ }
-    ensures { λ r. ⌜ outcome (answered (r .answer)) (r .table .n) (lent (r .table .chips) (now (ms .exit)) (now (ss .exit)))
-        ≡ acceptedOf (t .n) (t .chips) e (now (ms .entry)) (now (ss .entry)) ⌝ }
-{
-    let number = e.number;
-    if number <= 4 {
-        if judged::levels_fit(t, e) {
-            return happen(t, e, ms, ss);
-        }
-        return Happened {
-            answer: Answer::NoSuchLevels,
-            table: t,
-        };
-    }
-    Happened {
-        answer: Answer::NoSuchEvent,
-        table: t,
-    }
-}
-
 // How a table and its buffers stand: refusal 8, then 5.
-pub fn how_stands(t: Table, ms: &[u8], ss: &[u8]) -> Standing
-    ensures { λ r. ⌜ r ≡ standingOf (t .n) (t .chips) (now (ms .entry)) (now (ss .entry)) ⌝ }
+pub fn how_stands(t: Table, ms: &[u8], ss: &[u8]) -> Verdict
+    ensures { λ r. ⌜ r ≡ verdictOf (t .n) (t .chips) (now (ms .entry)) (now (ss .entry)) ⌝ }
 {
-    if judged::in_range(t) {
-        if judged::sizes_fit(t, ms, ss) {
-            return Standing::Fine;
-        }
-        return Standing::WrongSize;
-    }
-    Standing::OutOfRange
+    let survey = loops::survey_table(t, 0);
+    carrier::verdict_by(survey, t.n, ms.len(), ss.len())
 }
 
 // One event: refusals 8, 5, 6 and 7 in this order, each with nothing changed; else the bus bit.
@@ -192,16 +144,13 @@ pub fn take_event(t: Table, e: Event, ms: &mut [u8], ss: &mut [u8]) -> Happened
     ensures { λ r. ⌜ outcome (answered (r .answer)) (r .table .n) (lent (r .table .chips) (now (ms .exit)) (now (ss .exit)))
         ≡ eventOf (t .n) (t .chips) e (now (ms .entry)) (now (ss .entry)) ⌝ }
 {
-    let stands = how_stands(t, ms, ss);
-    match stands {
-        Standing::Fine => accept(t, e, ms, ss),
-        Standing::WrongSize => Happened {
-            answer: Answer::WrongSize,
-            table: t,
-        },
-        Standing::OutOfRange => Happened {
-            answer: Answer::OutOfRange,
-            table: t,
-        },
+    let survey = loops::survey_table(t, e.chip);
+    let plan = carrier::plan_of(survey, t.n, e, ms.len(), ss.len());
+    let value = loops::line_value(t, plan, ms, ss);
+    let table = loops::all_turn(t, plan, value, ms, ss);
+    let answer = carrier::answer_of(plan, value);
+    Happened {
+        answer: answer,
+        table: table,
     }
 }

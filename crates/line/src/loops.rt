@@ -1,16 +1,20 @@
 // Each chip of the table in turn, with its parts of the buffers.
 use crate::Act;
+use crate::Plan;
+use crate::Survey;
 use crate::Table;
+use crate::carrier;
 use chip::Chip;
 ghost use mathlib.Core.Path.{_≡_};
 ghost use Prim.Native.Nat.{_+_, _≤_};
 ghost use lib.Dec.{leb};
 ghost use lib.ListN.{length};
 ghost use Rattle.chip.specs.Chip.{whole, sendsOf};
-ghost use Rattle.chip.specs.Range.{imageSize, padSize};
+ghost use Rattle.chip.specs.Kinds.{imageSize, padSize};
 ghost use Rattle.line.specs.Line.{actOf};
-ghost use Rattle.line.specs.Layout.{lent};
-ghost use Rattle.line.specs.Bridge.{wholeAt, actWithin, actAt, each, bitAt, eachBit};
+ghost use Rattle.line.specs.Layout.{lent, capped};
+ghost use Rattle.line.specs.Bridge.{wholeAt, actWithin, actAt, bitAt};
+ghost use Rattle.line.specs.Carrier.{firstSpot, surveyed, busOver, acts};
 
 // What one chip does.
 pub fn act_on(c: Chip, act: Act, m: &mut [u8], s: &mut [u8]) -> Chip
@@ -59,8 +63,8 @@ pub fn lies_in(at: usize, size: usize, bytes: usize) -> bool
 pub fn act_at(c: Chip, act: Act, image: usize, pad: usize, ms: &mut [u8], ss: &mut [u8]) -> Chip
     ensures { λ r. ⌜ whole r (now (ms .exit)) (now (ss .exit)) ≡ actAt (actOf act) c image pad (now (ms .entry)) (now (ss .entry)) ⌝ }
 {
-    let size = chip::range::image_size(c.kind);
-    let room = chip::range::pad_size(c.kind);
+    let size = chip::kinds::image_size(c.kind);
+    let room = chip::kinds::pad_size(c.kind);
     if lies_in(image, size, ms.len()) {
         if lies_in(pad, room, ss.len()) {
             return act_within(c, act, image, pad, size, room, ms, ss);
@@ -68,30 +72,6 @@ pub fn act_at(c: Chip, act: Act, image: usize, pad: usize, ms: &mut [u8], ss: &m
         return c;
     }
     c
-}
-
-// Every chip of the line.
-pub fn all_act(t: Table, act: Act, ms: &mut [u8], ss: &mut [u8]) -> Table
-    requires { ⌜ t .n ≤ 16 ⌝ }
-    ensures { λ r. ⌜ lent (r .chips) (now (ms .exit)) (now (ss .exit)) ≡ each (actOf act) (t .n) 0 0 0 (t .chips) (now (ms .entry)) (now (ss .entry)) ⌝ }
-    ensures count { λ r. ⌜ r .n ≡ t .n ⌝ }
-{
-    let n = t.n;
-    let mut chips = t.chips;
-    let mut i: usize = 0;
-    let mut image: usize = 0;
-    let mut pad: usize = 0;
-    while i < n {
-        let c = chips[i];
-        let size = chip::range::image_size(c.kind);
-        let room = chip::range::pad_size(c.kind);
-        let r = act_at(c, act, image, pad, ms, ss);
-        chips[i] = r;
-        image += size;
-        pad += room;
-        i += 1;
-    }
-    Table { n: n, chips: chips }
 }
 
 // The bit of one chip with its parts of the buffers, which lie inside them.
@@ -116,8 +96,8 @@ pub fn bit_within(
 pub fn bit_at(c: Chip, image: usize, pad: usize, ms: &[u8], ss: &[u8]) -> bool
     ensures { λ r. ⌜ r ≡ bitAt c image pad (now (ms .entry)) (now (ss .entry)) ⌝ }
 {
-    let size = chip::range::image_size(c.kind);
-    let room = chip::range::pad_size(c.kind);
+    let size = chip::kinds::image_size(c.kind);
+    let room = chip::kinds::pad_size(c.kind);
     if lies_in(image, size, ms.len()) {
         if lies_in(pad, room, ss.len()) {
             return bit_within(c, image, pad, size, room, ms, ss);
@@ -127,26 +107,58 @@ pub fn bit_at(c: Chip, image: usize, pad: usize, ms: &[u8], ss: &[u8]) -> bool
     true
 }
 
-// The AND of the host's bit and what every chip of the line sends.
-pub fn all_send(t: Table, host: bool, ms: &[u8], ss: &[u8]) -> bool
-    requires { ⌜ t .n ≤ 16 ⌝ }
-    ensures { λ r. ⌜ r ≡ eachBit (t .n) 0 0 0 (t .chips) host (now (ms .entry)) (now (ss .entry)) ⌝ }
+// A look over the chips of the line.
+pub fn survey_table(t: Table, chip: u32) -> Survey
+    ensures { λ r. ⌜ r ≡ surveyed chip (capped (t .n)) (t .chips) ⌝ }
 {
-    let n = t.n;
+    let n = crate::used_places(t.n);
     let chips = t.chips;
-    let mut v = host;
+    let mut survey = carrier::first_survey();
     let mut i: usize = 0;
-    let mut image: usize = 0;
-    let mut pad: usize = 0;
     while i < n {
         let c = chips[i];
-        let size = chip::range::image_size(c.kind);
-        let room = chip::range::pad_size(c.kind);
-        let b = bit_at(c, image, pad, ms, ss);
-        v = base::are_both(b, v);
-        image += size;
-        pad += room;
+        survey = carrier::survey_chip(c, survey, chip);
         i += 1;
     }
-    v
+    survey
+}
+
+// The AND of what the host and every chip of the line put on the bus.
+pub fn line_value(t: Table, plan: Plan, ms: &[u8], ss: &[u8]) -> bool
+    ensures { λ r. ⌜ r ≡ busOver plan (capped (t .n)) (t .chips) (now (ms .entry)) (now (ss .entry)) .value ⌝ }
+{
+    let n = crate::used_places(t.n);
+    let chips = t.chips;
+    let mut sum = carrier::first_bus(plan);
+    let mut i: usize = 0;
+    while i < n {
+        let c = chips[i];
+        sum = carrier::bus_with(c, sum, plan, ms, ss);
+        i += 1;
+    }
+    sum.value
+}
+
+// Every chip of the line has its turn.
+pub fn all_turn(t: Table, plan: Plan, value: bool, ms: &mut [u8], ss: &mut [u8]) -> Table
+    ensures { λ r. ⌜ (lent (r .chips) (now (ms .exit)) (now (ss .exit)) ≡ acts plan value (capped (t .n)) 0 firstSpot (t .chips) (now (ms .entry)) (now (ss .entry))) × (r .n ≡ t .n) ⌝ }
+{
+    let n = crate::used_places(t.n);
+    let mut chips = t.chips;
+    let mut spot = carrier::first_spot();
+    let mut i: usize = 0;
+    while i < n {
+        let c = chips[i];
+        let r = carrier::turn(c, spot, plan, value, ms, ss);
+        let after = r.chip;
+        let next = r.spot;
+        chips[i] = after;
+        spot = next;
+        i += 1;
+    }
+    let count = t.n;
+    Table {
+        n: count,
+        chips: chips,
+    }
 }

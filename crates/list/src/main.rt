@@ -1,7 +1,6 @@
 // Reads a card from standard input, searches the line that it sets up, and writes the codes found, as document 01 says.
 use libc::STDIN_FILENO;
 use libc::STDOUT_FILENO;
-use line::Event;
 use line::Table;
 
 // A hexadecimal digit in capitals.
@@ -59,12 +58,7 @@ fn write_counts(codes: usize, slots: u64) {
 
 // Powers the line on, searches it with 16 places, and writes what was found.
 fn search_and_write(t: Table, images: &mut [u8], pads: &mut [u8]) {
-    let on = Event {
-        number: 3,
-        chip: 0,
-        levels: 0,
-    };
-    let powered = line::take_event(t, on, images, pads);
+    let powered = line::take_event(t, line::events::power_on(), images, pads);
     let table = powered.table;
     let mut list = [0u64; 16];
     let found = search::search_line(table, &mut list, images, pads);

@@ -10,32 +10,17 @@ use Rattle.base.specs.Bits.{bitOf, same, filled}
 use Rattle.rom.specs.Rom.{rom, commandOf, commandBit, searchBit, searchSends}
 use Rattle.rom.specs.declared.RomNext.the-variants as next
 use Rattle.rom.specs.declared.RomStep.the-variants.{Search}
-use Rattle.chip.specs.Chip.{Whole, levelOf, romSlot, functionSlot, memorySlot, switchSlot, levelTakes, takesOf, levelSends, sendsOf, resetChip, resetOf}
-use Rattle.chip.specs.declared.Chip.{Chip}
+use Rattle.chip.specs.Chip.{Whole, levelOf, romSlot, levelTakes, takesOf, levelSends, sendsOf, resetChip, resetOf}
 use Rattle.chip.specs.declared.Level.{Level}
-use Rattle.chip.specs.declared.Level.the-variants.{Waiting, Rom, FunctionCommand, Memory, Pio}
+use Rattle.chip.specs.declared.Level.the-variants.{Waiting, Rom, FunctionCommand}
+use Rattle.line.specs.declared.Act.the-variants.{Take}
+use Rattle.runs.specs.Keeps.{act-named}
 
 -- the code ------------------------------------------------------------------------------------
 
--- a choice of two chips with this code
-pick-code : (t : Bool) (x : ℕ) (a b : Chip) → a .code ≡ x → b .code ≡ x → pick t a b .code ≡ x
-unfolding pick
-pick-code true x a b e f = e
-pick-code false x a b e f = f
-
--- at every level a slot keeps the code
-level-code : (w : Whole) (v : Bool) (l : Level) → levelTakes w v l .chip .code ≡ w .chip .code
-unfolding romSlot functionSlot memorySlot switchSlot
-level-code w v Waiting = refl
-level-code w v (Rom s) = refl
-level-code w v (FunctionCommand count bits) = pick-code _ _ _ _ refl refl
-level-code w v (Memory p) = refl
-level-code w v (Pio p) = refl
-
 -- a slot keeps a chip's code
 pub code-takes : (v : Bool) (w : Whole) → takesOf v w .chip .code ≡ w .chip .code
-unfolding takesOf
-code-takes v w = level-code w v (w .chip .level)
+code-takes v w = act-named (Take v) w .0
 
 -- so does a reset
 pub code-resets : (w : Whole) → resetOf w .chip .code ≡ w .chip .code

@@ -9,7 +9,8 @@ use lib.ListN.{length, length-map}
 use Rattle.chip.specs.Chip.{Whole}
 use Rattle.line.specs.Layout.{capped}
 use Rattle.line.specs.Line.{absent}
-use Rattle.search.specs.Host.{ask, resetEvent, play, write, pass, searchHost}
+use Rattle.line.specs.Events.{resetEvent}
+use Rattle.search.specs.Host.{ask, play, write, pass, searchHost}
 use Rattle.runs.specs.Runs.{lineWire, codesOf}
 use Rattle.listing.specs.Order.{branchOrder, Codes, SameMembers, Before, Sorted, InBranchOrder, Lists, SameListing}
 use Rattle.listing.specs.Branch.{order-length}

@@ -12,10 +12,12 @@ use borrow.Author.Tests.{eq-eqb, ne-eqb, le-leb, lt-leb, ltb-false}
 use Rattle.base.specs.Pick.{pick, pick-true, pick-false}
 use Rattle.chip.specs.Chip.{Whole}
 use Rattle.line.specs.Layout.{capped}
-use Rattle.line.specs.Line.{absent, busBit, lineAfter}
+use Rattle.line.specs.Line.{absent}
+use Rattle.line.specs.Event.{askedBy, planEvent, levelsFit}
+use Rattle.line.specs.Refusals.{presence}
 use Rattle.search.specs.Host.{Host, done, bind, Played, played, Listed, listed, End, end, more, play, write, pass, passes, goOn, upTo}
 use Rattle.search.specs.Counts.{more-more, andThen, play-bind}
-use Rattle.runs.specs.Runs.{levelsTaken, answerOf, afterOf, lineWire, codesOf}
+use Rattle.runs.specs.Runs.{answerOf, afterOf, lineWire, codesOf}
 use Rattle.listing.specs.Order.{branchOrder, Codes, Lists}
 use Rattle.listing.specs.Branch.{isNil, order-nil}
 use Rattle.listing.specs.Rest.{rest, rest-all, rest-some, Outcome, ended, parted}
@@ -135,14 +137,18 @@ resetAlone b L = played (listed [] b) (afterReset L) 1 0
 
 -- no presence
 none-there : (n : ℕ) → play lineWire (passes n 0 []) [] ≡ resetAlone true []
-unfolding play passes answerOf afterOf levelsTaken busBit lineAfter pick
+unfolding play passes answerOf afterOf planEvent levelsFit askedBy pick
 none-there zero = refl
 none-there (suc n) = refl
 
 -- presence, and no place
+present-ends : (L : List Whole) → more 1 0 (play lineWire (pick false (done (listed [] true)) (done (listed [] false))) L) ≡ played (listed [] false) L 1 0
+unfolding play pick
+present-ends L = refl
+
 no-place : (w : Whole) (L : List Whole) → play lineWire (passes 0 0 []) (w ∷ L) ≡ resetAlone false (w ∷ L)
-unfolding play passes answerOf afterOf levelsTaken busBit lineAfter pick
-no-place w L = refl
+unfolding passes
+no-place w L = reset-played _ (w ∷ L) ∙ present-ends (afterReset (w ∷ L))
 
 -- the passes from the first, with any number of places, on any line
 pub passes-list : (places : ℕ) (L : List Whole) → Codes (codesOf L) → Lists (branchOrder 64 0 (codesOf L)) places L (play lineWire (passes places 0 []) L)

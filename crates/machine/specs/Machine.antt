@@ -1,15 +1,16 @@
--- Document 01, "Search": "The host knows the line by the answers to its events alone". The host of the search as a machine:
--- what it asks of the line next, and how it goes on by what it hears. `Searches` has the law that it plays `searchHost`.
-use Prim.Native.Nat.{ℕ, _+_, _-_, _^_}
+-- Form: the host of the search as a machine, what it asks of the line next, and how it goes on by what it hears. `Searches`
+-- has the law that it plays `searchHost`, which is the meaning.
+use Prim.Native.Nat.{ℕ, _+_, _^_}
 use mathlib.Core.Bool.{Bool, true, false}
 use mathlib.Core.List.{List}
-use lib.Dec.{eqb, ltb, leb}
+use lib.Dec.{eqb, ltb}
 use lib.ListN.{length, set}
 use Rattle.base.specs.Pick.{pick}
 use Rattle.base.specs.Bits.{bitOf}
 use Rattle.line.specs.Event.{Answered}
 use Rattle.line.specs.Layout.{capped}
-use Rattle.search.specs.Host.{heard, slotEvent, resetEvent, upTo}
+use Rattle.line.specs.Events.{slotEvent, resetEvent}
+use Rattle.search.specs.Host.{heard, wanted}
 use Rattle.search.specs.Search.{Searched, completeOr4}
 use Rattle.machine.specs.declared.Turn.{Turn}
 use Rattle.machine.specs.declared.Turn.the-variants.{Reset, Command, First, Second, Write, Done}
@@ -25,9 +26,38 @@ pub record Stand : Type 0 where
 abbrev pub stand : Machine → List ℕ → Stand
 stand m l = record { machine = m; list = l }
 
+-- a machine by its fields
+abbrev pub machineWith : Turn → ℕ → ℕ → ℕ → ℕ → ℕ → ℕ → ℕ → Machine
+machineWith turn want path last places listed resets slots = record {
+  turn = turn;
+  want = want;
+  path = path;
+  last = last;
+  places = places;
+  listed = listed;
+  resets = resets;
+  slots = slots;
+}
+
+-- the same machine at another turn
+abbrev pub atTurn : Machine → Turn → Machine
+atTurn m t = machineWith t (m .want) (m .path) (m .last) (m .places) (m .listed) (m .resets) (m .slots)
+
+-- with another way through the codes: the path that it wants, the one that it took, and the last parting
+abbrev onWay : Machine → ℕ → ℕ → ℕ → Machine
+onWay m want path last = machineWith (m .turn) want path last (m .places) (m .listed) (m .resets) (m .slots)
+
+-- with so many codes listed
+abbrev withListed : Machine → ℕ → Machine
+withListed m n = machineWith (m .turn) (m .want) (m .path) (m .last) (m .places) n (m .resets) (m .slots)
+
+-- with these counts of resets and slots
+abbrev withCounts : Machine → ℕ → ℕ → Machine
+withCounts m r s = machineWith (m .turn) (m .want) (m .path) (m .last) (m .places) (m .listed) r s
+
 -- the host before its first reset; more places than 16 are never used
 unfoldable pub beginOf : ℕ → Machine
-beginOf places = record { turn = Reset; want = 0; path = 0; last = 0; places = capped places; listed = 0; resets = 0; slots = 0 }
+beginOf places = machineWith Reset 0 0 0 (capped places) 0 0 0
 
 -- what a host asks at each turn: "A pass is a reset, F0h, and 64 times two reads and one write."
 abbrev pub askedAt : Turn → Ask
@@ -41,20 +71,16 @@ askedAt (Done complete) = Nothing
 abbrev pub asksOf : Machine → Ask
 asksOf m = askedAt (m .turn)
 
--- the same machine at another turn
-abbrev pub atTurn : Machine → Turn → Machine
-atTurn m t = record { turn = t; want = m .want; path = m .path; last = m .last; places = m .places; listed = m .listed; resets = m .resets; slots = m .slots }
-
 -- a count with one more; at the end of its range it stays
 unfoldable pub oneMore : ℕ → ℕ
 oneMore n = pick (ltb n 0xFFFFFFFFFFFFFFFF) (n + 1) n
 
 -- the machine after a slot, and after a reset, was put on the line
 unfoldable pub slotCounted : Machine → Machine
-slotCounted m = record { turn = m .turn; want = m .want; path = m .path; last = m .last; places = m .places; listed = m .listed; resets = m .resets; slots = oneMore (m .slots) }
+slotCounted m = withCounts m (m .resets) (oneMore (m .slots))
 
 unfoldable pub resetCounted : Machine → Machine
-resetCounted m = record { turn = m .turn; want = m .want; path = m .path; last = m .last; places = m .places; listed = m .listed; resets = oneMore (m .resets); slots = m .slots }
+resetCounted m = withCounts m (oneMore (m .resets)) (m .slots)
 
 -- after the reset: no presence and so no code, no place for one, or F0h
 unfoldable pub afterReset : Machine → Bool → Machine
@@ -72,7 +98,7 @@ writes m place value = atTurn m (Write place value)
 
 -- where the codes part and 0 is taken: that place is the last parting so far
 unfoldable pub parts : Machine → ℕ → Machine
-parts m place = record { turn = Write place false; want = m .want; path = m .path; last = pick (ltb place 64) (place + 1) 0; places = m .places; listed = m .listed; resets = m .resets; slots = m .slots }
+parts m place = atTurn (onWay m (m .want) (m .path) (pick (ltb place 64) (place + 1) 0)) (Write place false)
 
 -- after two reads of 0 the codes part
 unfoldable pub afterParting : Machine → ℕ → Machine
@@ -95,19 +121,15 @@ longerBy value place path = pick value (withOne place path) path
 
 -- at the next place, by this path
 abbrev pub onPath : Machine → ℕ → ℕ → Machine
-onPath m path place = record { turn = First place; want = m .want; path = path; last = m .last; places = m .places; listed = m .listed; resets = m .resets; slots = m .slots }
-
--- what the next pass wants: the path below the last parting, and a 1 there
-unfoldable pub wanted : ℕ → ℕ → ℕ
-wanted last path = pick (eqb last 0) 0 (pick (leb last 64) (upTo (last - 1) path) 0)
+onPath m path place = atTurn (onWay m (m .want) path (m .last)) (First place)
 
 -- done, with so many codes listed
 abbrev pub doneWith : Machine → ℕ → Bool → Machine
-doneWith m n complete = record { turn = Done complete; want = m .want; path = m .path; last = m .last; places = m .places; listed = n; resets = m .resets; slots = m .slots }
+doneWith m n complete = atTurn (withListed m n) (Done complete)
 
 -- once more from the reset, with so many codes listed
 abbrev pub onceMore : Machine → ℕ → ℕ → Machine
-onceMore m path n = record { turn = Reset; want = wanted (m .last) path; path = 0; last = 0; places = m .places; listed = n; resets = m .resets; slots = m .slots }
+onceMore m path n = atTurn (withListed (onWay m (wanted (m .last) path) 0 0) n) Reset
 
 -- after a whole pass whose code is listed: no parting is left, no place is, or the next pass
 unfoldable pub afterPass : Machine → ℕ → ℕ → Machine

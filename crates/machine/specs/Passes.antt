@@ -9,17 +9,18 @@ use mathlib.Core.Path.{_≡_, refl, sym, _∙_, ap}
 use lib.Dec.{eqb, ltb}
 use lib.ListN.{length, drop, set, getD, length-append, length-drop}
 use lib.Seq.{set-append-seam, drop-cons}
-use borrow.Author.Tests.{eq-eqb, ne-eqb, lt-ltb, le-ltb, le-leb}
+use borrow.Author.Tests.{eq-eqb, ne-eqb, lt-ltb, le-ltb}
 use Rattle.base.specs.Pick.{pick, pick-true, pick-false}
 use Rattle.base.specs.Bits.{bitOf, both}
 use Rattle.line.specs.Event.{Answered}
-use Rattle.search.specs.Host.{Host, done, ask, bind, Wire, End, end, resetsOf, slotsOf, slotEvent, resetEvent, heard, pass, write, turn, mark, put, upTo, Listed, listed, goOn, passes}
-use Rattle.search.specs.Pass.{put-low}
+use Rattle.line.specs.Events.{slotEvent, resetEvent}
+use Rattle.search.specs.Host.{Host, done, ask, bind, Wire, End, end, resetsOf, slotsOf, heard, pass, write, turn, mark, put, upTo, Listed, listed, goOn, passes}
+use Rattle.search.specs.Pass.{put-low, wanted-up}
 use Rattle.machine.specs.declared.Turn.{Turn}
 use Rattle.machine.specs.declared.Turn.the-variants.{Reset, Command, First, Second, Write, Done}
 use Rattle.machine.specs.declared.Machine.{Machine}
 use Rattle.machine.specs.declared.Ask.the-variants.{Put}
-use Rattle.machine.specs.Machine.{stand, asksOf, hearsOf, oneMore, slotCounted, resetCounted, atTurn, afterReset, afterCommand, writes, parts, afterParting, afterSecond, withOne, longerBy, wanted, doneWith, onceMore, afterPass, countPut, passed, moved, afterWrite}
+use Rattle.machine.specs.Machine.{stand, machineWith, asksOf, hearsOf, oneMore, slotCounted, resetCounted, atTurn, afterReset, afterCommand, writes, parts, afterParting, afterSecond, withOne, longerBy, doneWith, onceMore, afterPass, countPut, passed, moved, afterWrite}
 use Rattle.machine.specs.Plays.{most, filled, at, Plays, plays-done, plays-as, plays-less, plays-ask}
 
 -- a count that has not come to its end
@@ -43,11 +44,6 @@ longer-put : (d : Bool) (k path : ℕ) → k < 64 → path < 2 ^ k → longerBy 
 unfolding longerBy withOne pick
 longer-put true k path h l = rw (lt-ltb k 64 h, lt-ltb path (2 ^ k) l)
 longer-put false k path h l = refl
-
--- and so is what it wants next
-wanted-up : (last path : ℕ) → (last ≡ 0 → ⊥) → last ≤ 64 → wanted last path ≡ upTo (last - 1) path
-unfolding wanted
-wanted-up last path h l = pick-false _ _ _ (ne-eqb last 0 h) ∙ pick-true _ _ _ (le-leb last 64 l)
 
 -- one code more on the list
 snoc-length : (out : List ℕ) (p : ℕ) → length (out ++ (p ∷ [])) ≡ length out + 1
@@ -198,7 +194,7 @@ module _ (W : Wire) (list₀ : List ℕ) (places : ℕ) (room : places ≤ lengt
         go (suc k) e =
             plays-as W list₀
             (λ r s. pick-true _ _ _ (lt-ltb (length out + 1) places (omega arith))
-            ∙ λ i. record { turn = Reset; want = wanted-up last p some low i; path = 0; last = 0; places = places; listed = sym (snoc-length out p) i; resets = r; slots = s })
+            ∙ λ i. machineWith Reset (wanted-up last p some low i) 0 0 places (sym (snoc-length out p) i) r s)
             (pick-false _ _ _ (ne-eqb n 0 (λ z. omega arith)))
             (next (upTo (last - 1) p) (out ++ (p ∷ [])) (rw (snoc-length out p) left))
 

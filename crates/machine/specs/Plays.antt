@@ -15,7 +15,7 @@ use Rattle.machine.specs.declared.Turn.the-variants.{Done}
 use Rattle.machine.specs.declared.Machine.{Machine}
 use Rattle.machine.specs.declared.Ask.{Ask}
 use Rattle.machine.specs.declared.Ask.the-variants.{Put}
-use Rattle.machine.specs.Machine.{Stand, stand, asksOf, hearsOf}
+use Rattle.machine.specs.Machine.{Stand, stand, machineWith, asksOf, hearsOf}
 use Rattle.machine.specs.Run.{saysTo, leavesTo, ran, run, seen, seenOf}
 
 -- where the counts end
@@ -28,7 +28,7 @@ filled out list = out ++ drop (length out) list
 
 -- the machine at a turn, with these codes listed
 abbrev pub at : Turn → ℕ → ℕ → ℕ → ℕ → List ℕ → ℕ → ℕ → Machine
-at t want path last places out r s = record { turn = t; want = want; path = path; last = last; places = places; listed = length out; resets = r; slots = s }
+at t want path last places out r s = machineWith t want path last places (length out) r s
 
 module _ (W : Wire) (list₀ : List ℕ) where
   -- a machine, whatever it counted, plays a host within n turns: a run shows what the host came to

@@ -1,18 +1,19 @@
--- A run of the machine on a wire, and what it shows.
+-- Form: a run of the machine on a wire, and what it shows.
 use Prim.Native.Nat.{ℕ, zero, suc, _+_}
 use mathlib.Core.Bool.{Bool, true}
 use mathlib.Core.List.{List, _++_}
 use lib.ListN.{length, drop}
-use Rattle.line.specs.Event.{Answered, bit}
+use Rattle.line.specs.Event.{Answered, refused, numberOf}
+use Rattle.line.specs.declared.Refusal.the-variants.{NoSuchEvent}
 use Rattle.search.specs.Host.{Wire, Played, Listed}
 use Rattle.machine.specs.declared.Machine.{Machine}
 use Rattle.machine.specs.declared.Ask.{Ask}
 use Rattle.machine.specs.declared.Ask.the-variants.{Nothing, Put}
 use Rattle.machine.specs.Machine.{Stand, stand, asksOf, hearsOf, completeAt}
 
--- what a wire says to what is asked; where nothing is, a 1, to which nobody listens
+-- what a wire says to what is asked; where nothing is, as to an event that does not exist, and nobody listens
 abbrev pub saysTo : (W : Wire) → Ask → W .L → Answered
-saysTo W Nothing l = bit true
+saysTo W Nothing l = refused (numberOf NoSuchEvent)
 saysTo W (Put e) l = W .says e l
 
 -- the line that it leaves

@@ -1,4 +1,4 @@
--- The machine is the host of the search: 3217 turns of it show, on every wire, what `searchHost` comes to.
+-- Laws: the machine is the host of the search: 3217 turns of it show, on every wire, what `searchHost` comes to.
 use Prim.Native.Nat.{ℕ, _-_}
 use native.Mathlib.Omega.{arith}
 use mathlib.Core.List.{List, []}

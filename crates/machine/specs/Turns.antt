@@ -2,22 +2,18 @@
 use Prim.Native.Nat.{ℕ, _+_, _*_, _%_, _<_, _≤_, _^_}
 use mathlib.Core.Bool.{Bool}
 use mathlib.Core.List.{List}
-use mathlib.Core.Path.{_≡_, sym, _∙_, ap}
+use mathlib.Core.Path.{_≡_, sym, _∙_}
+use Rattle.base.specs.Along.{along}
 use Rattle.base.specs.Pick.{pick-true, pick-false}
 use Rattle.search.specs.Pass.{shl-one, put-fits}
 use borrow.Author.Tests.{lt-ltb, le-ltb}
 use Rattle.machine.specs.declared.Turn.{Turn}
 use Rattle.machine.specs.declared.Machine.{Machine}
-use Rattle.machine.specs.declared.Ask.{Ask}
-use Rattle.machine.specs.Machine.{Stand, askedAt, goesFrom, withOne}
-
--- what is asked, taken at the turn that a match found
-pub asked-at : (q p : Turn) (r : Ask) → q ≡ p → r ≡ askedAt p → r ≡ askedAt q
-asked-at q p r e h = h ∙ ap askedAt (sym e)
+use Rattle.machine.specs.Machine.{Stand, goesFrom, withOne}
 
 -- how the host goes on, taken at the turn that a match found
 pub goes-at : (m : Machine) (b : Bool) (list : List ℕ) (q p : Turn) (r : Stand) → q ≡ p → r ≡ goesFrom p m b list → r ≡ goesFrom q m b list
-goes-at m b list q p r e h = h ∙ ap (λ (t : Turn). goesFrom t m b list) (sym e)
+goes-at m b list = along (λ (t : Turn). goesFrom t m b list)
 
 -- a 1 above a path, as the code shifts it
 module _ (place path : ℕ) (h : place < 64) where

@@ -9,10 +9,8 @@ use search::SearchAnswer;
 use search::Slots;
 ghost use mathlib.Core.Path.{_≡_};
 ghost use Rattle.line.specs.Event.{answered};
-ghost use Rattle.search.specs.Host.{eventNumber, slotEvent};
 ghost use Rattle.search.specs.Search.{searched};
 ghost use Rattle.machine.specs.Machine.{stand, beginOf, asksOf, hearsOf, goesFrom, completeAt, tale, tellsOf};
-ghost use Rattle.machine.specs.declared.Ask.the-variants.{Put};
 
 // What the host does next: a reset, a bit of F0h, the two reads and the write at a place, or nothing more.
 pub enum Turn {
@@ -68,39 +66,17 @@ pub fn begin(places: usize) -> Machine
     }
 }
 
-// An event that names no chip.
-fn put_number(number: u32) -> Ask
-    ensures { λ r. ⌜ r ≡ Put (eventNumber number) ⌝ }
-{
-    let e = Event {
-        number: number,
-        chip: 0,
-        levels: 0,
-    };
-    Ask::Put(e)
-}
-
-// A slot.
-fn put_slot(value: bool) -> Ask
-    ensures { λ r. ⌜ r ≡ Put (slotEvent value) ⌝ }
-{
-    if value {
-        return put_number(1);
-    }
-    put_number(0)
-}
-
 // What the host asks next.
 pub fn asks(m: Machine) -> Ask
     ensures { λ r. ⌜ r ≡ asksOf m ⌝ }
 {
     let turn = m.turn;
     match turn {
-        Turn::Reset => put_number(2),
-        Turn::Command { place } => put_slot(base::bit_of(0xF0, place)),
-        Turn::First { place: _ } => put_slot(true),
-        Turn::Second { place: _, first: _ } => put_slot(true),
-        Turn::Write { place: _, value } => put_slot(value),
+        Turn::Reset => Ask::Put(line::events::reset()),
+        Turn::Command { place } => Ask::Put(line::events::slot(base::bit_of(0xF0, place))),
+        Turn::First { place: _ } => Ask::Put(line::events::slot(true)),
+        Turn::Second { place: _, first: _ } => Ask::Put(line::events::slot(true)),
+        Turn::Write { place: _, value } => Ask::Put(line::events::slot(value)),
         Turn::Done { complete: _ } => Ask::Nothing,
     }
 }

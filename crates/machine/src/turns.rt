@@ -8,16 +8,7 @@ ghost use Rattle.machine.specs.Machine.{atTurn, oneMore, slotCounted, re
 pub fn at_turn(m: Machine, turn: Turn) -> Machine
     ensures { λ r. ⌜ r ≡ atTurn m turn ⌝ }
 {
-    Machine {
-        turn: turn,
-        want: m.want,
-        path: m.path,
-        last: m.last,
-        places: m.places,
-        listed: m.listed,
-        resets: m.resets,
-        slots: m.slots,
-    }
+    Machine { turn: turn, ..m }
 }
 
 // A count with one more; at the end of its range it stays.
@@ -34,35 +25,18 @@ fn one_more(n: u64) -> u64
 pub fn count_slot(m: Machine) -> Machine
     ensures { λ r. ⌜ r ≡ slotCounted m ⌝ }
 {
-    let turn = m.turn;
     let slots = one_more(m.slots);
-    Machine {
-        turn: turn,
-        want: m.want,
-        path: m.path,
-        last: m.last,
-        places: m.places,
-        listed: m.listed,
-        resets: m.resets,
-        slots: slots,
-    }
+    Machine { slots: slots, ..m }
 }
 
 // The machine after a reset was put on the line.
 pub fn count_reset(m: Machine) -> Machine
     ensures { λ r. ⌜ r ≡ resetCounted m ⌝ }
 {
-    let turn = m.turn;
     let resets = one_more(m.resets);
     Machine {
-        turn: turn,
-        want: m.want,
-        path: m.path,
-        last: m.last,
-        places: m.places,
-        listed: m.listed,
         resets: resets,
-        slots: m.slots,
+        ..m
     }
 }
 
@@ -99,13 +73,8 @@ fn parts_at(m: Machine, place: u8) -> Machine
             place: place,
             value: false,
         },
-        want: m.want,
-        path: m.path,
         last: last,
-        places: m.places,
-        listed: m.listed,
-        resets: m.resets,
-        slots: m.slots,
+        ..m
     }
 }
 

@@ -2,10 +2,8 @@
 use crate::Machine;
 use crate::Turn;
 ghost use mathlib.Core.Path.{_≡_};
-ghost use Prim.Native.Nat.{_≤_, _<_, _-_};
 ghost use lib.ListN.{set};
-ghost use Rattle.search.specs.Host.{upTo};
-ghost use Rattle.machine.specs.Machine.{stand, withOne, longerBy, onPath, wanted, doneWith, onceMore, afterPass, countPut, passed, moved, afterWrite};
+ghost use Rattle.machine.specs.Machine.{stand, withOne, longerBy, onPath, doneWith, onceMore, afterPass, countPut, passed, moved, afterWrite};
 
 // The path with a 1 at a place above it.
 fn with_one(place: u8, path: u64) -> u64
@@ -31,41 +29,14 @@ fn longer(value: bool, place: u8, path: u64) -> u64
     path
 }
 
-// The path below the last parting, and a 1 there.
-fn above(last: u8, path: u64) -> u64
-    requires { ⌜ (0 < last) × (last ≤ 64) ⌝ }
-    ensures { λ r. ⌜ r ≡ upTo (last - 1) path ⌝ }
-{
-    let one: u64 = 1 << ((last - 1) as u64);
-    path % one + one
-}
-
-// What the next pass wants; 0 where there is no parting.
-fn wants(last: u8, path: u64) -> u64
-    ensures { λ r. ⌜ r ≡ wanted last path ⌝ }
-{
-    if last == 0 {
-        return 0;
-    }
-    if last <= 64 {
-        return above(last, path);
-    }
-    0
-}
-
 // At the next place, by a path.
 fn on_path(m: Machine, path: u64, place: u8) -> Machine
     ensures { λ r. ⌜ r ≡ onPath m path place ⌝ }
 {
     Machine {
         turn: Turn::First { place: place },
-        want: m.want,
         path: path,
-        last: m.last,
-        places: m.places,
-        listed: m.listed,
-        resets: m.resets,
-        slots: m.slots,
+        ..m
     }
 }
 
@@ -75,13 +46,8 @@ fn done_with(m: Machine, n: usize, complete: bool) -> Machine
 {
     Machine {
         turn: Turn::Done { complete: complete },
-        want: m.want,
-        path: m.path,
-        last: m.last,
-        places: m.places,
         listed: n,
-        resets: m.resets,
-        slots: m.slots,
+        ..m
     }
 }
 
@@ -89,16 +55,14 @@ fn done_with(m: Machine, n: usize, complete: bool) -> Machine
 fn again(m: Machine, path: u64, n: usize) -> Machine
     ensures { λ r. ⌜ r ≡ onceMore m path n ⌝ }
 {
-    let want = wants(m.last, path);
+    let want = search::wants(m.last, path);
     Machine {
         turn: Turn::Reset,
         want: want,
         path: 0,
         last: 0,
-        places: m.places,
         listed: n,
-        resets: m.resets,
-        slots: m.slots,
+        ..m
     }
 }
 

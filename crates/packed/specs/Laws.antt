@@ -13,7 +13,7 @@ use Rattle.base.specs.Bits.{both}
 use Rattle.base.specs.Both.{both-holds}
 use Rattle.chip.specs.declared.Chip.{Chip}
 use Rattle.packed.specs.Step.{flag-back, step, levelPacked, levelUnpacked, level-back}
-use Rattle.packed.specs.Packed.{packed, unpacked, sameBytes, isRecord, packedTable, unpackedFrom, unpackedTable, isTable}
+use Rattle.packed.specs.Packed.{recordSize, packed, unpacked, sameBytes, isRecord, packedTable, unpackedFrom, unpackedTable, isTable}
 
 -- a number is found again from its bytes
 abbrev fromBytes : ℕ → ℕ → ℕ
@@ -69,12 +69,12 @@ of-record bs c e =
     let k : packed (unpacked bs) ≡ bs = ap (λ (d : Chip). packed d) h ∙ sym e in
     (ap (λ (x : List ℕ). sameBytes x bs) k ∙ same-refl bs, h)
 
--- a record has 24 bytes
-pub packed-length : (c : Chip) → length (packed c) ≡ 24
+-- a record's size
+pub packed-length : (c : Chip) → length (packed c) ≡ recordSize
 unfolding packed
 packed-length c = refl
 
-pub table-length : (cs : List Chip) → length (packedTable cs) ≡ 24 * length cs
+pub table-length : (cs : List Chip) → length (packedTable cs) ≡ recordSize * length cs
 table-length [] = refl
 table-length (c ∷ cs) =
     let h = table-length cs in
@@ -83,19 +83,19 @@ table-length (c ∷ cs) =
 
 pub from-length : (n : ℕ) (bs : List ℕ) → length (unpackedFrom n bs) ≡ n
 from-length zero bs = refl
-from-length (suc n) bs = ap suc (from-length n (drop 24 bs))
+from-length (suc n) bs = ap suc (from-length n (drop recordSize bs))
 
 from-table : (cs : List Chip) → unpackedFrom (length cs) (packedTable cs) ≡ cs
 from-table [] = refl
 from-table (c ∷ cs) =
-    λ j. (ap (λ (k : List ℕ). unpacked k) (take-at (packed c) (packedTable cs) 24 (packed-length c)) ∙ unpacked-packed c) j
-    ∷ (ap (λ (k : List ℕ). unpackedFrom (length cs) k) (drop-at (packed c) (packedTable cs) 24 (packed-length c)) ∙ from-table cs) j
+    λ j. (ap (λ (k : List ℕ). unpacked k) (take-at (packed c) (packedTable cs) recordSize (packed-length c)) ∙ unpacked-packed c) j
+    ∷ (ap (λ (k : List ℕ). unpackedFrom (length cs) k) (drop-at (packed c) (packedTable cs) recordSize (packed-length c)) ∙ from-table cs) j
 
 -- every table that is packed is found again
 pub unpacked-table : (cs : List Chip) → unpackedTable (packedTable cs) ≡ cs
 unfolding unpackedTable
 unpacked-table cs =
-    let e : length (packedTable cs) / 24 ≡ length cs = let h = table-length cs in omega arith in
+    let e : length (packedTable cs) / recordSize ≡ length cs = let h = table-length cs in omega arith in
     ap (λ (n : ℕ). unpackedFrom n (packedTable cs)) e ∙ from-table cs
 
 -- bytes are a table that stands for cs exactly where they are cs packed

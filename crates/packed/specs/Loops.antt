@@ -13,7 +13,7 @@ use Rattle.base.specs.Pick.{pick, pick-true, pick-false}
 use Rattle.base.specs.Bits.{both}
 use Rattle.base.specs.Both.{both-assoc, both-true}
 use Rattle.chip.specs.declared.Chip.{Chip}
-use Rattle.packed.specs.Packed.{packed, unpacked, sameBytes, putRecord}
+use Rattle.packed.specs.Packed.{recordSize, packed, unpacked, sameBytes, putRecord}
 use Rattle.packed.specs.Laws.{packed-length}
 
 both-false : (a : Bool) → both a false ≡ false
@@ -52,17 +52,17 @@ module _ (xs ys : List ℕ) (i : ℕ) (s all : Bool) where
       sym (both-true s) ∙ ap (both s) (sym (λ j. sameBytes (drop-of-length-le xs h j) (drop-of-length-le ys {i = i} (omega arith) j))) ∙ p
 
 -- a record that was copied over the first bytes
-pub record-put : (c : Chip) (r s x : List ℕ) → r ≡ packed c → 24 ≤ length s → x ≡ take (length r) r ++ drop (length r) s → x ≡ putRecord c s
+pub record-put : (c : Chip) (r s x : List ℕ) → r ≡ packed c → recordSize ≤ length s → x ≡ take (length r) r ++ drop (length r) s → x ≡ putRecord c s
 unfolding putRecord
 record-put c r s x e h k =
     k ∙ (λ j. take-length r j ++ drop (length r) s)
     ∙ (λ j. e j ++ drop (length (e j)) s)
     ∙ ap (λ (n : ℕ). packed c ++ drop n s) (packed-length c)
-    ∙ sym (pick-true (leb 24 (length s)) (packed c ++ drop 24 s) s (le-leb 24 (length s) h))
+    ∙ sym (pick-true (leb recordSize (length s)) (packed c ++ drop recordSize s) s (le-leb recordSize (length s) h))
 
-pub record-left : (c : Chip) (s : List ℕ) → length s < 24 → s ≡ putRecord c s
+pub record-left : (c : Chip) (s : List ℕ) → length s < recordSize → s ≡ putRecord c s
 unfolding putRecord
-record-left c s h = sym (pick-false (leb 24 (length s)) (packed c ++ drop 24 s) s (lt-leb 24 (length s) h))
+record-left c s h = sym (pick-false (leb recordSize (length s)) (packed c ++ drop recordSize s) s (lt-leb recordSize (length s) h))
 
 -- bytes with zeros after them stand for the same chip
 abbrev pub zerosOf : ℕ → List ℕ
@@ -78,10 +78,10 @@ zeros-after [] zs h k = h k
 zeros-after (x ∷ s) zs h zero = refl
 zeros-after (x ∷ s) zs h (suc k) = zeros-after s zs h k
 
-pub zeros-unpacked : (s x : List ℕ) → x ≡ take (length s) s ++ drop (length s) (zerosOf 24) → unpacked x ≡ unpacked s
+pub zeros-unpacked : (s x : List ℕ) → x ≡ take (length s) s ++ drop (length s) (zerosOf recordSize) → unpacked x ≡ unpacked s
 unfolding unpacked
 zeros-unpacked s x e =
-    let zs = drop (length s) (zerosOf 24) in
-    let g : (k : ℕ) → getD (s ++ zs) k 0 ≡ getD s k 0 = zeros-after s zs (λ k. getD-drop (length s) (zerosOf 24) k 0 ∙ zeros 24 (length s + k)) in
+    let zs = drop (length s) (zerosOf recordSize) in
+    let g : (k : ℕ) → getD (s ++ zs) k 0 ≡ getD s k 0 = zeros-after s zs (λ k. getD-drop (length s) (zerosOf recordSize) k 0 ∙ zeros recordSize (length s + k)) in
     let f : x ≡ s ++ zs = e ∙ ap (λ (l : List ℕ). l ++ zs) (take-length s) in
     ap (λ (l : List ℕ). unpacked l) f ∙ (simp g)

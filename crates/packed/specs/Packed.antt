@@ -1,15 +1,19 @@
--- include/toemsakun.h, "A chip's record": a chip as 24 bytes, numbers with the low byte first, and a table as a run of records.
-use Prim.Native.Nat.{ℕ, zero, suc, _+_, _*_, _/_, _%_}
+-- include/toemsakun.h, "A chip's record": a chip as a run of bytes, numbers with the low byte first, and a table as a run of records.
+use Prim.Native.Nat.{ℕ, zero, suc, _+_, _-_, _*_, _/_, _%_}
 use mathlib.Core.Bool.{Bool, true, false}
 use mathlib.Core.List.{List, [], _∷_, _++_}
 use lib.Dec.{eqb, leb}
-use lib.ListN.{length, take, drop, getD}
+use lib.ListN.{length, take, drop, getD, replicate}
 use Rattle.base.specs.Pick.{pick}
 use Rattle.base.specs.Bits.{both}
 use Rattle.chip.specs.declared.Chip.{Chip}
 use Rattle.line.specs.declared.Table.{Table}
 use Rattle.packed.specs.declared.Step.{Step}
 use Rattle.packed.specs.Step.{step, flag, levelPacked, levelUnpacked}
+
+-- "TK_RECORD_SIZE": the bytes of a record, for good; the places that no field has are kept for later ones
+abbrev pub recordSize : ℕ
+recordSize = 32
 
 -- a number as n bytes, the low byte first, and one more for what is left
 abbrev pub bytesOf : ℕ → ℕ → List ℕ
@@ -21,7 +25,7 @@ abbrev pub numberAt : List ℕ → ℕ → ℕ → ℕ
 numberAt bs at zero = getD bs at 0
 numberAt bs at (suc n) = getD bs at 0 + 256 * numberAt bs (at + 1) n
 
--- the bytes of a chip's record, by the step that its level is
+-- the bytes of a chip's record, by the step that its level is: from 21 on each is 0
 abbrev pub packedWith : Chip → Step → List ℕ
 packedWith c s =
     bytesOf 7 (c .code)
@@ -29,17 +33,17 @@ packedWith c s =
     ++ bytesOf 1 (c .registers .t)
     ++ (c .registers .es ∷ c .switch .latches ∷ c .switch .levels ∷ s .number ∷ [])
     ++ bytesOf 1 (s .w)
-    ++ (s .a ∷ s .b ∷ s .c ∷ 0 ∷ 0 ∷ 0 ∷ [])
+    ++ (s .a ∷ s .b ∷ s .c ∷ replicate (recordSize - 21) 0)
 
 -- a chip's record as bytes
 unfoldable pub packed : Chip → List ℕ
 packed c = packedWith c (levelPacked (c .level))
 
--- the step that 24 bytes name
+-- the step that a record's bytes name
 abbrev pub stepAt : List ℕ → Step
 stepAt bs = step (getD bs 15 0) (numberAt bs 16 1) (getD bs 18 0) (getD bs 19 0) (getD bs 20 0)
 
--- the chip that any 24 bytes stand for: what the step does not name is passed over
+-- the chip that any bytes stand for, as many as a record has: what the step does not name is passed over
 unfoldable pub unpacked : List ℕ → Chip
 unpacked bs = record {
   code = numberAt bs 0 7;
@@ -62,9 +66,9 @@ sameBytes (x ∷ xs) (y ∷ ys) = both (eqb x y) (sameBytes xs ys)
 unfoldable pub isRecord : List ℕ → Bool
 isRecord bs = sameBytes (packed (unpacked bs)) bs
 
--- a chip's record in the place of the first 24 bytes; where there are fewer, nothing is put
+-- a chip's record in the place of the first bytes, as many as it has; where there are fewer, nothing is put
 unfoldable pub putRecord : Chip → List ℕ → List ℕ
-putRecord c bs = pick (leb 24 (length bs)) (packed c ++ drop 24 bs) bs
+putRecord c bs = pick (leb recordSize (length bs)) (packed c ++ drop recordSize bs) bs
 
 -- a table as bytes, record after record
 abbrev pub packedTable : List Chip → List ℕ
@@ -74,13 +78,14 @@ packedTable (c ∷ cs) = packed c ++ packedTable cs
 -- the chips that n records stand for
 abbrev pub unpackedFrom : ℕ → List ℕ → List Chip
 unpackedFrom zero bs = []
-unpackedFrom (suc n) bs = unpacked (take 24 bs) ∷ unpackedFrom n (drop 24 bs)
+unpackedFrom (suc n) bs = unpacked (take recordSize bs) ∷ unpackedFrom n (drop recordSize bs)
 
--- the chips that bytes stand for, a chip for each 24
+-- the chips that bytes stand for, a chip for each record's size
 unfoldable pub unpackedTable : List ℕ → List Chip
-unpackedTable bs = unpackedFrom (length bs / 24) bs
+unpackedTable bs = unpackedFrom (length bs / recordSize) bs
 
--- bytes are a table where packing what they stand for gives them again: so their number is a multiple of 24, and each 24 are a record
+-- bytes are a table where packing what they stand for gives them again: so their number is a multiple of a record's size, and each
+-- so many are a record
 unfoldable pub isTable : List ℕ → Bool
 isTable bs = sameBytes (packedTable (unpackedTable bs)) bs
 
@@ -89,7 +94,7 @@ isTable bs = sameBytes (packedTable (unpackedTable bs)) bs
 unfoldable pub tableFrom : List ℕ → Table → Table
 tableFrom bs t =
     let cs = unpackedTable bs in
-    pick (leb (length bs / 24) 16)
+    pick (leb (length bs / recordSize) 16)
     (pick (isTable bs) (record { n = length cs; chips = cs ++ drop (length cs) (t .chips) }) t)
     t
 
@@ -97,5 +102,5 @@ tableFrom bs t =
 unfoldable pub putTable : ℕ → List Chip → List ℕ → List ℕ
 putTable n cs bs =
     pick (leb n 16)
-    (pick (leb (n * 24) (length bs)) (packedTable (take n cs) ++ drop (n * 24) bs) bs)
+    (pick (leb (n * recordSize) (length bs)) (packedTable (take n cs) ++ drop (n * recordSize) bs) bs)
     bs

@@ -10,7 +10,7 @@ use borrow.Author.Tests.{le-leb}
 use Rattle.base.specs.Pick.{pick, pick-true}
 use Rattle.chip.specs.declared.Chip.{Chip}
 use Rattle.line.specs.Event.{noChip}
-use Rattle.packed.specs.Packed.{packed, unpacked, packedTable, unpackedTable, putRecord}
+use Rattle.packed.specs.Packed.{recordSize, packed, unpacked, packedTable, unpackedTable, putRecord}
 use Rattle.packed.specs.Laws.{packed-length, table-length, unpacked-packed, unpacked-table}
 use Rattle.packed.specs.Filling.{table-append}
 
@@ -19,7 +19,7 @@ pub record Table16 (bs : List ℕ) : Type 0 where
   pub few : length (unpackedTable bs) ≤ 16
   pub packs : packedTable (unpackedTable bs) ≡ bs
 
-pub bytes-length : (bs : List ℕ) → Table16 bs → length bs ≡ length (unpackedTable bs) * 24
+pub bytes-length : (bs : List ℕ) → Table16 bs → length bs ≡ length (unpackedTable bs) * recordSize
 bytes-length bs h =
     let k = table-length (unpackedTable bs) in
     let e = ap (λ (l : List ℕ). length l) (h .packs) in
@@ -30,7 +30,7 @@ module _ (cs : List Chip) (i : ℕ) (h : i < length cs) where
   front : List ℕ
   front = packedTable (take i cs)
 
-  front-length : length front ≡ i * 24
+  front-length : length front ≡ i * recordSize
   unfolding front
   front-length = let k = table-length (take i cs) in let m = length-take-le i cs (omega arith) in omega arith
 
@@ -41,52 +41,52 @@ module _ (cs : List Chip) (i : ℕ) (h : i < length cs) where
   parted : packedTable cs ≡ front ++ (packed (getD cs i noChip) ++ packedTable (drop (suc i) cs))
   parted = ap (λ (l : List Chip). packedTable l) (split-at cs i noChip h) ∙ with (getD cs i noChip)
 
-  from-place : drop (i * 24) (packedTable cs) ≡ packed (getD cs i noChip) ++ packedTable (drop (suc i) cs)
-  from-place = ap (λ (l : List ℕ). drop (i * 24) l) parted ∙ drop-at front _ (i * 24) front-length
+  from-place : drop (i * recordSize) (packedTable cs) ≡ packed (getD cs i noChip) ++ packedTable (drop (suc i) cs)
+  from-place = ap (λ (l : List ℕ). drop (i * recordSize) l) parted ∙ drop-at front _ (i * recordSize) front-length
 
   -- the record there
-  pub place-at : take 24 (drop (i * 24) (packedTable cs)) ≡ packed (getD cs i noChip)
-  place-at = ap (λ (l : List ℕ). take 24 l) from-place ∙ take-at (packed (getD cs i noChip)) _ 24 (packed-length (getD cs i noChip))
+  pub place-at : take recordSize (drop (i * recordSize) (packedTable cs)) ≡ packed (getD cs i noChip)
+  place-at = ap (λ (l : List ℕ). take recordSize l) from-place ∙ take-at (packed (getD cs i noChip)) _ recordSize (packed-length (getD cs i noChip))
 
   -- another record put there
-  pub place-put : (c : Chip) → take (i * 24) (packedTable cs) ++ (packed c ++ drop 24 (drop (i * 24) (packedTable cs))) ≡ packedTable (set cs i c)
+  pub place-put : (c : Chip) → take (i * recordSize) (packedTable cs) ++ (packed c ++ drop recordSize (drop (i * recordSize) (packedTable cs))) ≡ packedTable (set cs i c)
   place-put c =
-      (λ j. (ap (λ (l : List ℕ). take (i * 24) l) parted ∙ take-at front _ (i * 24) front-length) j
-      ++ (packed c ++ (ap (λ (l : List ℕ). drop 24 l) from-place ∙ drop-at (packed (getD cs i noChip)) _ 24 (packed-length (getD cs i noChip))) j))
+      (λ j. (ap (λ (l : List ℕ). take (i * recordSize) l) parted ∙ take-at front _ (i * recordSize) front-length) j
+      ++ (packed c ++ (ap (λ (l : List ℕ). drop recordSize l) from-place ∙ drop-at (packed (getD cs i noChip)) _ recordSize (packed-length (getD cs i noChip))) j))
       ∙ sym (with c)
       ∙ ap (λ (l : List Chip). packedTable l) (sym (set-split cs i c h))
 
 -- the same of bytes that are a table, as the code lends a part of them
 module _ (bs : List ℕ) (t : Table16 bs) (i : ℕ) (h : i < length (unpackedTable bs)) where
-  part : take (i * 24 + 24 - i * 24) (drop (i * 24) bs) ≡ packed (getD (unpackedTable bs) i noChip)
+  part : take (i * recordSize + recordSize - i * recordSize) (drop (i * recordSize) bs) ≡ packed (getD (unpackedTable bs) i noChip)
   part =
-      let z : i * 24 + 24 - i * 24 ≡ 24 = omega arith in
-      (λ j. take (z j) (drop (i * 24) (sym (t .packs) j))) ∙ place-at (unpackedTable bs) i h
+      let z : i * recordSize + recordSize - i * recordSize ≡ recordSize = omega arith in
+      (λ j. take (z j) (drop (i * recordSize) (sym (t .packs) j))) ∙ place-at (unpackedTable bs) i h
 
-  pub chip-at : (c : Chip) → c ≡ unpacked (take (i * 24 + 24 - i * 24) (drop (i * 24) bs)) → c ≡ getD (unpackedTable bs) i noChip
+  pub chip-at : (c : Chip) → c ≡ unpacked (take (i * recordSize + recordSize - i * recordSize) (drop (i * recordSize) bs)) → c ≡ getD (unpackedTable bs) i noChip
   chip-at c e = e ∙ ap (λ (l : List ℕ). unpacked l) part ∙ unpacked-packed (getD (unpackedTable bs) i noChip)
 
   -- the bytes with another record at a place are the table with another chip there
-  module _ (c : Chip) (x : List ℕ) (e : x ≡ putRecord c (take (i * 24 + 24 - i * 24) (drop (i * 24) bs))) where
+  module _ (c : Chip) (x : List ℕ) (e : x ≡ putRecord c (take (i * recordSize + recordSize - i * recordSize) (drop (i * recordSize) bs))) where
     put-is : x ≡ packed c
     unfolding putRecord
     put-is =
         let p = packed (getD (unpackedTable bs) i noChip) in
         let l = packed-length (getD (unpackedTable bs) i noChip) in
-        e ∙ (λ j. pick (leb 24 (length (part j))) (packed c ++ drop 24 (part j)) (part j))
-        ∙ pick-true (leb 24 (length p)) _ _ (le-leb 24 (length p) (omega arith))
-        ∙ ap (λ (k : List ℕ). packed c ++ k) (drop-of-length-le p {i = 24} (omega arith)) ∙ append-nil (packed c)
+        e ∙ (λ j. pick (leb recordSize (length (part j))) (packed c ++ drop recordSize (part j)) (part j))
+        ∙ pick-true (leb recordSize (length p)) _ _ (le-leb recordSize (length p) (omega arith))
+        ∙ ap (λ (k : List ℕ). packed c ++ k) (drop-of-length-le p {i = recordSize} (omega arith)) ∙ append-nil (packed c)
 
-    pub bytes-put : take (i * 24) bs ++ (x ++ drop (i * 24 + 24 - i * 24) (drop (i * 24) bs)) ≡ packedTable (set (unpackedTable bs) i c)
+    pub bytes-put : take (i * recordSize) bs ++ (x ++ drop (i * recordSize + recordSize - i * recordSize) (drop (i * recordSize) bs)) ≡ packedTable (set (unpackedTable bs) i c)
     bytes-put =
-        let z : i * 24 + 24 - i * 24 ≡ 24 = omega arith in
-        (λ j. take (i * 24) (sym (t .packs) j) ++ (put-is j ++ drop (z j) (drop (i * 24) (sym (t .packs) j))))
+        let z : i * recordSize + recordSize - i * recordSize ≡ recordSize = omega arith in
+        (λ j. take (i * recordSize) (sym (t .packs) j) ++ (put-is j ++ drop (z j) (drop (i * recordSize) (sym (t .packs) j))))
         ∙ place-put (unpackedTable bs) i h c
 
-    pub chips-put : unpackedTable (take (i * 24) bs ++ (x ++ drop (i * 24 + 24 - i * 24) (drop (i * 24) bs))) ≡ set (unpackedTable bs) i c
+    pub chips-put : unpackedTable (take (i * recordSize) bs ++ (x ++ drop (i * recordSize + recordSize - i * recordSize) (drop (i * recordSize) bs))) ≡ set (unpackedTable bs) i c
     chips-put = ap (λ (l : List ℕ). unpackedTable l) bytes-put ∙ unpacked-table (set (unpackedTable bs) i c)
 
-    pub table-put : Table16 (take (i * 24) bs ++ (x ++ drop (i * 24 + 24 - i * 24) (drop (i * 24) bs)))
+    pub table-put : Table16 (take (i * recordSize) bs ++ (x ++ drop (i * recordSize + recordSize - i * recordSize) (drop (i * recordSize) bs)))
     table-put = record {
       few = let f = t .few in let k = ap (λ (l : List Chip). length l) chips-put ∙ length-set (unpackedTable bs) i c in omega arith;
       packs = ap (λ (l : List Chip). packedTable l) chips-put ∙ sym bytes-put;

@@ -235,14 +235,11 @@ pub fn unpack_level(s: Step) -> Level
     ensures { λ r. ⌜ r ≡ levelUnpacked s ⌝ }
 {
     let number = s.number;
-    let step = unpack_rom(s);
-    let memory = unpack_memory(s);
-    let switch = unpack_switch(s);
     if number == 0 {
         return Level::Waiting;
     }
     if number < 5 {
-        return Level::Rom(step);
+        return Level::Rom(unpack_rom(s));
     }
     if number == 5 {
         return Level::FunctionCommand {
@@ -251,7 +248,7 @@ pub fn unpack_level(s: Step) -> Level
         };
     }
     if number < 32 {
-        return Level::Memory(memory);
+        return Level::Memory(unpack_memory(s));
     }
-    Level::Pio(switch)
+    Level::Pio(unpack_switch(s))
 }

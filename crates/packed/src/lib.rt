@@ -1,4 +1,4 @@
-// A chip's record as 24 bytes, and a table as a run of them.
+// A chip's record as bytes, and a table as a run of them.
 mod level;
 mod record;
 mod table;
@@ -10,6 +10,9 @@ pub use record::put_record;
 pub use record::unpack;
 pub use table::put_table;
 pub use table::table_of;
+
+// The bytes of a record.
+pub const RECORD_SIZE: usize = 32;
 
 // What a chip is in the middle of: the number of the step, and what it needs to go on.
 pub struct Step {

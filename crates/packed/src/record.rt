@@ -1,4 +1,5 @@
-// A chip's record as 24 bytes, numbers with the low byte first.
+// A chip's record as bytes, numbers with the low byte first.
+use crate::RECORD_SIZE;
 use crate::Step;
 use crate::level;
 use chip::Chip;
@@ -7,10 +8,10 @@ use scratchpad::Registers;
 ghost use mathlib.Core.Path.{_≡_};
 ghost use Prim.Native.Nat.{_+_, _*_, _<_, _≤_};
 ghost use lib.ListN.{length, getD};
-ghost use Rattle.packed.specs.Packed.{numberAt, stepAt, packedWith, packed, unpacked, sameBytes, putRecord};
+ghost use Rattle.packed.specs.Packed.{recordSize, numberAt, stepAt, packedWith, packed, unpacked, sameBytes, putRecord};
 
 // The bytes of a chip's record, by the step that its level is.
-fn bytes_of(c: Chip, s: Step) -> [u8; 24]
+fn bytes_of(c: Chip, s: Step) -> [u8; RECORD_SIZE]
     ensures { λ r. ⌜ r ≡ packedWith c s ⌝ }
 {
     let code = c.code;
@@ -24,36 +25,33 @@ fn bytes_of(c: Chip, s: Step) -> [u8; 24]
     let registers = c.registers;
     let switch = c.switch;
     let rc = level::flag_of(c.rc);
-    [
-        (code % 256) as u8,
-        (code1 % 256) as u8,
-        (code2 % 256) as u8,
-        (code3 % 256) as u8,
-        (code4 % 256) as u8,
-        (code5 % 256) as u8,
-        (code6 % 256) as u8,
-        code7 as u8,
-        c.kind,
-        rc,
-        (registers.t % 256) as u8,
-        (registers.t / 256) as u8,
-        registers.es,
-        switch.latches,
-        switch.levels,
-        s.number,
-        (s.w % 256) as u8,
-        (s.w / 256) as u8,
-        s.a,
-        s.b,
-        s.c,
-        0,
-        0,
-        0,
-    ]
+    let mut r = [0; RECORD_SIZE];
+    r[0] = (code % 256) as u8;
+    r[1] = (code1 % 256) as u8;
+    r[2] = (code2 % 256) as u8;
+    r[3] = (code3 % 256) as u8;
+    r[4] = (code4 % 256) as u8;
+    r[5] = (code5 % 256) as u8;
+    r[6] = (code6 % 256) as u8;
+    r[7] = code7 as u8;
+    r[8] = c.kind;
+    r[9] = rc;
+    r[10] = (registers.t % 256) as u8;
+    r[11] = (registers.t / 256) as u8;
+    r[12] = registers.es;
+    r[13] = switch.latches;
+    r[14] = switch.levels;
+    r[15] = s.number;
+    r[16] = (s.w % 256) as u8;
+    r[17] = (s.w / 256) as u8;
+    r[18] = s.a;
+    r[19] = s.b;
+    r[20] = s.c;
+    r
 }
 
 // A chip's record as bytes.
-pub fn pack(c: Chip) -> [u8; 24]
+pub fn pack(c: Chip) -> [u8; RECORD_SIZE]
     ensures { λ r. ⌜ r ≡ packed c ⌝ }
 {
     let level = c.level;
@@ -78,7 +76,7 @@ fn byte(s: &[u8], k: usize) -> u8
 
 // The code that a record begins with.
 fn code_of(s: &[u8]) -> u64
-    requires { ⌜ 24 ≤ length (now s) ⌝ }
+    requires { ⌜ recordSize ≤ length (now s) ⌝ }
     ensures { λ r. ⌜ r ≡ numberAt (now (s .entry)) 0 7 ⌝ }
 {
     let b0 = byte(s, 0);
@@ -97,7 +95,7 @@ fn code_of(s: &[u8]) -> u64
 
 // The step that a record names.
 fn step_of(s: &[u8]) -> Step
-    requires { ⌜ 24 ≤ length (now s) ⌝ }
+    requires { ⌜ recordSize ≤ length (now s) ⌝ }
     ensures { λ r. ⌜ r ≡ stepAt (now (s .entry)) ⌝ }
 {
     let w = pair(s[16], s[17]);
@@ -110,9 +108,9 @@ fn step_of(s: &[u8]) -> Step
     }
 }
 
-// The chip that 24 bytes stand for.
+// The chip that the bytes of a record stand for.
 fn unpack_whole(s: &[u8]) -> Chip
-    requires { ⌜ 24 ≤ length (now s) ⌝ }
+    requires { ⌜ recordSize ≤ length (now s) ⌝ }
     ensures { λ r. ⌜ r ≡ unpacked (now (s .entry)) ⌝ }
 {
     let code = code_of(s);
@@ -138,10 +136,10 @@ fn unpack_whole(s: &[u8]) -> Chip
 pub fn unpack(s: &[u8]) -> Chip
     ensures { λ r. ⌜ r ≡ unpacked (now (s .entry)) ⌝ }
 {
-    if 24 <= s.len() {
+    if RECORD_SIZE <= s.len() {
         return unpack_whole(s);
     }
-    let mut whole = [0; 24];
+    let mut whole = [0; RECORD_SIZE];
     bytes::copy(s, &mut whole);
     unpack_whole(&whole)
 }
@@ -170,12 +168,12 @@ pub fn is_packed(c: Chip, s: &[u8]) -> bool
     same_bytes(&r, s)
 }
 
-// A chip's record put in the first 24 bytes; where there are fewer, nothing is put.
+// A chip's record put in the first bytes; where there are fewer, nothing is put.
 pub fn put_record(s: &mut [u8], c: Chip)
     ensures { λ r. ⌜ now (s .exit) ≡ putRecord c (now (s .entry)) ⌝ }
 {
     let r = pack(c);
-    if 24 <= s.len() {
+    if RECORD_SIZE <= s.len() {
         bytes::copy(&r, s);
     }
 }

@@ -1,16 +1,30 @@
--- What is promised of a block from one memory to a later one, and laws: every history keeps it.
-use Prim.Native.Nat.{ℕ, _+_, _*_, _<_, _≤_}
+-- What is promised of a block of a DS28EC20 from one memory to a later one, and laws: every history keeps it.
+use Prim.Native.Nat.{ℕ, _+_, _*_, _/_, _<_, _≤_}
+use native.Mathlib.Omega.{arith}
+use mathlib.Core.Bool.{Bool, true, false}
 use mathlib.Core.List.{List}
-use mathlib.Core.Path.{_≡_, refl, _∙_}
-use lib.Bits.{bitAnd, and-self}
+use mathlib.Core.Path.{_≡_, refl}
+use lib.Bits.{and-self}
+use lib.Dec.{ltb}
 use lib.ListN.{getD}
-use Rattle.ds28ec20.specs.Image.{copied}
-use Rattle.chip.specs.Chip.{Whole, levelsOf}
+use borrow.Author.Tests.{lt-ltb, le-ltb}
+use Rattle.base.specs.Pick.{pick-true, pick-false}
+use Rattle.scratchpad.specs.Registers.{ruleOfByte}
+use Rattle.scratchpad.specs.Map.{ruleBy}
+use Rattle.scratchpad.specs.declared.Deed.{Deed}
+use Rattle.scratchpad.specs.declared.Deed.the-variants.{Nothing, Put, Copy}
+use Rattle.ds28ec20.specs.Map.{isData, controlAddress, isControlOrLock, held, onlyFalls, ds28ec20}
+use Rattle.memory.specs.Part.{mapOf}
+use Rattle.memory.specs.Memory.{ruleAt, copied, done}
+use Rattle.chip.specs.Kinds.{takesLevels, partOf}
+use Rattle.chip.specs.Chip.{Whole, levelSeen, levelTakesBy, takesOf, resetOf, powerOnOf, levelsOf}
+use Rattle.line.specs.Line.{actOf}
+use Rattle.line.specs.declared.Act.{Act}
+use Rattle.line.specs.declared.Act.the-variants.{Take, Reset, PowerOn}
 use Rattle.line.specs.declared.Event.{Event}
 use Rattle.runs.specs.Runs.{at, run}
 use Rattle.runs.specs.Kept.{each-at, run-kept}
-use Rattle.protection.specs.And.{falls-onto, and-falls}
-use Rattle.protection.specs.Copies.{copied-at, rule-marked, mark-55, mark-AA, rule-held, rule-falls, act-memory}
+use Rattle.protection.specs.Guarded.{Guarded, Protected, OnlyFalls, protected-copied, only-falls-copied, protected-onto, only-falls-onto}
 
 -- the control byte of block j of a memory: "0A00h to 0A09h one control byte a block"
 abbrev pub control : List ℕ → ℕ → ℕ
@@ -20,48 +34,44 @@ control m j = getD m (0x0A00 + j) 0
 abbrev pub blockByte : List ℕ → ℕ → ℕ → ℕ
 blockByte m j k = getD m (256 * j + k) 0
 
--- block j of the memory m is write-protected: then it is so in r too, and none of its bytes differs
-abbrev pub Protected : ℕ → List ℕ → List ℕ → Type 0
-Protected j m r = control m j ≡ 0x55 → (control r j ≡ 0x55) × ((k : ℕ) → k < 256 → blockByte r j k ≡ blockByte m j k)
+-- the map of a DS28EC20 guards each block by its control byte
+block : (j : ℕ) → j < 10 → Guarded ds28ec20 (0x0A00 + j) (256 * j) 256
+unfolding ds28ec20 ruleAt ruleBy ruleOfByte held onlyFalls isData isControlOrLock controlAddress
+block j h =
+    let x : ltb (0x0A00 + j) 0x0A00 ≡ false = le-ltb (0x0A00 + j) 0x0A00 (omega arith) in
+    let y : ltb (0x0A00 + j) 0x0A0A ≡ true = lt-ltb (0x0A00 + j) 0x0A0A (omega arith) in
+    record {
+      marked = λ m b e. simp (x, y, e, pick-true, pick-false);
+      held = λ m k b l e.
+          let q : (256 * j + k) / 256 ≡ j = omega arith in
+          let d : ltb (256 * j + k) 0x0A00 ≡ true = lt-ltb (256 * j + k) 0x0A00 (omega arith) in
+          simp (d, q, e, pick-true);
+      falls = λ m k b l e.
+          let q : (256 * j + k) / 256 ≡ j = omega arith in
+          let d : ltb (256 * j + k) 0x0A00 ≡ true = lt-ltb (256 * j + k) 0x0A00 (omega arith) in
+          simp (d, q, e, pick-true, pick-false);
+    }
 
--- block j of the memory m is in EPROM mode: then it is so in r too, and each byte of r AND that of m is that of r
-abbrev pub OnlyFalls : ℕ → List ℕ → List ℕ → Type 0
-OnlyFalls j m r = control m j ≡ 0xAA → (control r j ≡ 0xAA) × ((k : ℕ) → k < 256 → bitAnd (blockByte r j k) (blockByte m j k) ≡ blockByte r j k)
+-- what holds of a memory and of every copy into it holds of the memory after an act
+module _ (Q : List ℕ → Type 0) (w : Whole) (stays : Q (w .memory)) (copies : (p k n : ℕ) → Q (copied ds28ec20 (w .memory) (w .pad) p k n)) where
+  -- after a deed
+  deed-memory : (d : Deed) → Q (done ds28ec20 (w .memory) (w .pad) d .memory)
+  deed-memory Nothing = stays
+  deed-memory (Put offset b) = stays
+  deed-memory (Copy t e) = copies _ _ _
 
--- a copy keeps a protected block
-protected-copied : (j : ℕ) → j < 10 → (m s : List ℕ) (p k n : ℕ) → Protected j m (copied m s p k n)
-protected-copied j h m s p k n e = (
-  copied-at (λ (x : ℕ). x ≡ 0x55) m s p k n (0x0A00 + j) e (λ b. rule-marked m j b h (mark-55 (control m j) e) ∙ e),
-  λ o l. copied-at (λ (x : ℕ). x ≡ blockByte m j o) m s p k n (256 * j + o) refl (λ b. rule-held m j o b h l e),
-)
-
--- what is kept from m to r and from r to s is kept from m to s
-protected-onto : (j : ℕ) (m r s : List ℕ) → Protected j m r → Protected j r s → Protected j m s
-protected-onto j m r s f g e =
-    let p = f e in
-    let q = g (p .0) in
-    (q .0, λ k h. q .1 k h ∙ p .1 k h)
-
--- a copy raises no bit of a block in EPROM mode
-only-falls-copied : (j : ℕ) → j < 10 → (m s : List ℕ) (p k n : ℕ) → OnlyFalls j m (copied m s p k n)
-only-falls-copied j h m s p k n e = (
-  copied-at (λ (x : ℕ). x ≡ 0xAA) m s p k n (0x0A00 + j) e (λ b. rule-marked m j b h (mark-AA (control m j) e) ∙ e),
-  λ o l. copied-at (λ (x : ℕ). bitAnd x (blockByte m j o) ≡ x) m s p k n (256 * j + o) (and-self (blockByte m j o))
-      (λ b. rw (rule-falls m j o b h l e) (and-falls (blockByte m j o) b)),
-)
-
--- where no bit rises from m to r and from r to s, none rises from m to s
-only-falls-onto : (j : ℕ) (m r s : List ℕ) → OnlyFalls j m r → OnlyFalls j r s → OnlyFalls j m s
-only-falls-onto j m r s f g e =
-    let p = f e in
-    let q = g (p .0) in
-    (q .0, λ k h. falls-onto (blockByte s j k) (blockByte r j k) (blockByte m j k) (q .1 k h) (p .1 k h))
+  -- after any act
+  act-memory : (a : Act) → Q (actOf a w .memory)
+  unfolding takesOf resetOf powerOnOf partOf mapOf
+  act-memory (Take v) = let l = w .chip .level in deed-memory (levelTakesBy (w .chip) v (levelSeen w l) l .deed)
+  act-memory Reset = stays
+  act-memory PowerOn = stays
 
 -- a relation between memories that copies keep holds over every history
 module _ (R : List ℕ → List ℕ → Type 0) (same : (m : List ℕ) → R m m) (onto : (m r s : List ℕ) → R m r → R r s → R m s)
-    (copies : (m s : List ℕ) (p k n : ℕ) → R m (copied m s p k n)) where
+    (copies : (m s : List ℕ) (p k n : ℕ) → R m (copied ds28ec20 m s p k n)) where
   -- outside levels leave the memory
-  levels-memory : (l : ℕ) (w : Whole) → w .chip .kind ≡ 2 → l ≤ 3 → R (w .memory) (levelsOf l w .memory)
+  levels-memory : (l : ℕ) (w : Whole) → takesLevels (w .chip .kind) ≡ true → l ≤ 3 → R (w .memory) (levelsOf l w .memory)
   unfolding levelsOf
   levels-memory l w e h = same (w .memory)
 
@@ -73,9 +83,12 @@ module _ (R : List ℕ → List ℕ → Type 0) (same : (m : List ℕ) → R m m
       (λ a w. act-memory (R (w .memory)) w (same (w .memory)) (copies (w .memory) (w .pad)) a) levels-memory es L)
 
 -- a write-protected block over a history
-pub run-protected : (es : List Event) (L : List Whole) (i j : ℕ) → j < 10 → Protected j (at i L .memory) (at i (run es L) .memory)
-run-protected es L i j h = run-memory (Protected j) (λ m e. (e, λ k l. refl)) (protected-onto j) (protected-copied j h) es L i
+pub run-protected : (es : List Event) (L : List Whole) (i j : ℕ) → j < 10 → Protected (0x0A00 + j) (256 * j) 256 (at i L .memory) (at i (run es L) .memory)
+run-protected es L i j h =
+    run-memory (Protected (0x0A00 + j) (256 * j) 256) (λ m e. (e, λ k l. refl)) (protected-onto (0x0A00 + j) (256 * j) 256) (protected-copied ds28ec20 (0x0A00 + j) (256 * j) 256 (block j h)) es L i
 
 -- a block in EPROM mode over a history
-pub run-only-falls : (es : List Event) (L : List Whole) (i j : ℕ) → j < 10 → OnlyFalls j (at i L .memory) (at i (run es L) .memory)
-run-only-falls es L i j h = run-memory (OnlyFalls j) (λ m e. (e, λ k l. and-self (blockByte m j k))) (only-falls-onto j) (only-falls-copied j h) es L i
+pub run-only-falls : (es : List Event) (L : List Whole) (i j : ℕ) → j < 10 → OnlyFalls (0x0A00 + j) (256 * j) 256 (at i L .memory) (at i (run es L) .memory)
+run-only-falls es L i j h =
+    run-memory (OnlyFalls (0x0A00 + j) (256 * j) 256) (λ m e. (e, λ k l. and-self (getD m (256 * j + k) 0))) (only-falls-onto (0x0A00 + j) (256 * j) 256)
+    (only-falls-copied ds28ec20 (0x0A00 + j) (256 * j) 256 (block j h)) es L i

@@ -1,5 +1,5 @@
 pub mod Protection
 pub mod Public
 pub mod Blocks
-pub mod Copies
+pub mod Guarded
 pub mod And

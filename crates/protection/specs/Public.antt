@@ -1,5 +1,5 @@
 -- "Protected blocks never change, and in EPROM mode no bit rises.": of the public event, over a table and its buffers.
-use Prim.Native.Nat.{ℕ, _<_}
+use Prim.Native.Nat.{ℕ, _+_, _*_, _<_}
 use mathlib.Core.List.{List}
 use mathlib.Core.Path.{_≡_, sym, subst}
 use lib.Bits.{bitAnd}
@@ -9,7 +9,8 @@ use Rattle.search.specs.Search.{Attached}
 use Rattle.runs.specs.Runs.{at}
 use Rattle.runs.specs.Standing.{Stands, lineFrom}
 use Rattle.runs.specs.Joined.{runOn, run-joined}
-use Rattle.protection.specs.Blocks.{control, blockByte, Protected, OnlyFalls, run-protected, run-only-falls}
+use Rattle.protection.specs.Guarded.{Protected, OnlyFalls}
+use Rattle.protection.specs.Blocks.{control, blockByte, run-protected, run-only-falls}
 
 -- the memory of chip i of a table
 abbrev pub memoryOf : ℕ → Attached → List ℕ
@@ -20,11 +21,11 @@ pub protected-on : (es : List Event) (l : Attached) → Stands l → (i j : ℕ)
     → control (memoryOf i l) j ≡ 0x55
     → (control (memoryOf i (runOn es l)) j ≡ 0x55)
     × ((k : ℕ) → k < 256 → blockByte (memoryOf i (runOn es l)) j k ≡ blockByte (memoryOf i l) j k)
-protected-on es l s i j h = subst (λ (M : List Whole). Protected j (memoryOf i l) (at i M .memory)) (sym (run-joined es l s)) (run-protected es (lineFrom l) i j h)
+protected-on es l s i j h = subst (λ (M : List Whole). Protected (0x0A00 + j) (256 * j) 256 (memoryOf i l) (at i M .memory)) (sym (run-joined es l s)) (run-protected es (lineFrom l) i j h)
 
 -- THEOREM: once it is AAh, none changes it or raises a bit of the block's bytes
 pub only-falls-on : (es : List Event) (l : Attached) → Stands l → (i j : ℕ) → j < 10
     → control (memoryOf i l) j ≡ 0xAA
     → (control (memoryOf i (runOn es l)) j ≡ 0xAA)
     × ((k : ℕ) → k < 256 → bitAnd (blockByte (memoryOf i (runOn es l)) j k) (blockByte (memoryOf i l) j k) ≡ blockByte (memoryOf i (runOn es l)) j k)
-only-falls-on es l s i j h = subst (λ (M : List Whole). OnlyFalls j (memoryOf i l) (at i M .memory)) (sym (run-joined es l s)) (run-only-falls es (lineFrom l) i j h)
+only-falls-on es l s i j h = subst (λ (M : List Whole). OnlyFalls (0x0A00 + j) (256 * j) 256 (memoryOf i l) (at i M .memory)) (sym (run-joined es l s)) (run-only-falls es (lineFrom l) i j h)

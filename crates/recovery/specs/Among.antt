@@ -3,20 +3,24 @@ use Prim.Native.Nat.{ℕ, zero, suc, _^_, _<_}
 use mathlib.Core.Bool.{Bool, true, false}
 use mathlib.Core.List.{List, [], _∷_, map}
 use mathlib.Core.Path.{_≡_, refl, _∙_, ap, sym}
-use lib.Dec.{eqb, ltb, leb}
 use lib.ListN.{length, getD}
 use Rattle.base.specs.Pick.{pick, pick-true}
 use Rattle.base.specs.Bits.{both}
+use Rattle.chip.specs.Kinds.{takesLevels}
 use Rattle.chip.specs.Chip.{Whole, takesOf, sendsOf, resetOf, powerOnChip, powerOnOf, levelsChip, levelsOf}
+use Rattle.chip.specs.declared.Chip.{Chip}
 use Rattle.chip.specs.declared.Level.the-variants.{Waiting}
-use Rattle.line.specs.Line.{valueOf, absent, actOf, levelsAt}
-use Rattle.line.specs.Event.{Answered, bit, refused}
+use Rattle.line.specs.Line.{valueOf, absent, actOf, levelsAt, afterBy}
+use Rattle.line.specs.Layout.{chipsOf}
+use Rattle.line.specs.Refusals.{presence, Comes, slot, reset, power-on, levels, refused, comes}
+use Rattle.line.specs.Event.{Answered, bit, refused as says, numberOf, noChip, askedBy, planEvent, planOn, answerBy}
 use Rattle.line.specs.declared.Event.{Event}
+use Rattle.line.specs.declared.Plan.{Plan}
+use Rattle.line.specs.declared.Plan.the-variants as plan
 use Rattle.line.specs.declared.Act.the-variants.{Take, Reset, PowerOn}
-use Rattle.runs.specs.Runs.{at, afterOf, run, answers}
-use Rattle.runs.specs.Range.{pick-if}
+use Rattle.runs.specs.Runs.{at, answerOf, afterOf, run, answers}
 use Rattle.runs.specs.Keeps.{act-named}
-use Rattle.runs.specs.Sorts.{Sort, slot, reset, powerOn, levels, unknown, sortOf, levelsAllowed, levels-allowed, afterSort, answerSort, after-is, answer-is}
+use Rattle.runs.specs.Standing.{at-chip, length-chips}
 use Rattle.recovery.specs.Sessions.{opening, toCome, Next, Addressed}
 use Rattle.recovery.specs.Stays.{not-both, kindsOf, length-kinds, run-kinds}
 use Rattle.recovery.specs.Opening.{Silent, Waits, sends-at, waiting-takes, opening-silent}
@@ -49,35 +53,33 @@ abbrev pub ownValue : Whole → Bool → Bool
 ownValue w v = both (sendsOf w) v
 
 -- the chip alone
-abbrev pub ownAfter : Sort → Whole → Whole
-ownAfter (slot v) w = actOf (Take (ownValue w v)) w
-ownAfter reset w = actOf Reset w
-ownAfter powerOn w = actOf PowerOn w
-ownAfter (levels i l) w = w
-ownAfter unknown w = w
+abbrev pub ownAfter : Plan → Whole → Whole
+ownAfter (plan.Slot v) w = actOf (Take (ownValue w v)) w
+ownAfter plan.Reset w = actOf Reset w
+ownAfter plan.PowerOn w = actOf PowerOn w
+ownAfter (plan.Levels i l) w = w
+ownAfter (plan.Refused r) w = w
 
 -- the chip alone, over a history
 abbrev pub ownRun : List Event → Whole → Whole
 ownRun [] w = w
-ownRun (e ∷ es) w = ownRun es (ownAfter (sortOf e) w)
+ownRun (e ∷ es) w = ownRun es (ownAfter (askedBy e) w)
 
 -- what silence says of the next bit, and of outside levels
 module _ (code : ℕ) (b : Bool) (bs : List Bool) (x : Whole) (s : Silent (Waits code) (b ∷ bs) x) where
   -- it sends 1
   silent-sends : sendsOf x ≡ true
-  unfolding levelsOf levelsChip
-  silent-sends = s (x .chip .switch .levels) .0
+  silent-sends = s [] .0
 
   -- after the bit it is silent over the rest
   silent-takes : Silent (Waits code) bs (takesOf b x)
-  unfolding levelsOf levelsChip
-  silent-takes = s (x .chip .switch .levels) .1
+  silent-takes = s [] .1
 
 -- outside levels leave a chip silent
 silent-levels : (code : ℕ) (bs : List Bool) (l : ℕ) (x : Whole) → Silent (Waits code) bs x → Silent (Waits code) bs (levelsOf l x)
 unfolding levelsOf levelsChip
 silent-levels code [] l x s = s
-silent-levels code (b ∷ bs) l x s = λ k. s k
+silent-levels code (b ∷ bs) l x s = λ ls. s (l ∷ ls)
 
 -- a chip that sends 1 leaves a slot the value that it has
 pub both-one : (a v : Bool) → a ≡ true → both a v ≡ v
@@ -123,7 +125,7 @@ others-levels {code} {bs} zero l (more {x = x} o r) = more (other-levels code bs
 others-levels (suc i) l (more o r) = more o (others-levels i l r)
 
 -- and they are not those of a DS28EC20
-among-levels : {code : ℕ} {bs : List Bool} {w : Whole} {i : ℕ} {L : List Whole} (j l : ℕ) → w .chip .kind ≡ 1 → at j L .chip .kind ≡ 2 → Among code bs w i L → Among code bs w i (levelsAt j l L)
+among-levels : {code : ℕ} {bs : List Bool} {w : Whole} {i : ℕ} {L : List Whole} (j l : ℕ) → w .chip .kind ≡ 1 → takesLevels (at j L .chip .kind) ≡ true → Among code bs w i L → Among code bs w i (levelsAt j l L)
 among-levels {w} zero l e f (here r) = absurd (not-both (w .chip .kind) e f)
 among-levels (suc j) l e f (here r) = here (others-levels j l r)
 among-levels {code} {bs} zero l e f (there {x = x} o r) = there (other-levels code bs l x o) r
@@ -151,82 +153,80 @@ unfolding powerOnOf powerOnChip
 other-power code bs x (n, h, s) = (n, h, λ k. refl)
 
 -- one event, at the chip itself
-own-step : (code : ℕ) (bs : List Bool) (e : Sort) (w : Whole) → Next bs e → Own code bs w → Own code (toCome code bs e) (ownAfter e w)
-own-step code [] (slot v) w a (c, h, k, s) =
+own-step : (code : ℕ) (bs : List Bool) (e : Plan) (w : Whole) → Next bs e → Own code bs w → Own code (toCome code bs e) (ownAfter e w)
+own-step code [] (plan.Slot v) w a (c, h, k, s) =
     let q = act-named (Take (ownValue w v)) w in
     (q .0 ∙ c, rw (q .0) h, q .1 ∙ k, λ n. absurd (n (q .0 ∙ c)))
-own-step code (b ∷ bs) (slot v) w a (c, h, k, s) =
+own-step code (b ∷ bs) (plan.Slot v) w a (c, h, k, s) =
     let q = act-named (Take b) w in
     let u : ownValue w v ≡ b = both-one (sendsOf w) v (silent-sends code b bs w s) ∙ a in
     rw u (q .0 ∙ c, rw (q .0) h, q .1 ∙ k, silent-takes code b bs w s)
-own-step code bs reset w a (c, h, k, s) =
+own-step code bs plan.Reset w a (c, h, k, s) =
     let q = act-named Reset w in
     (q .0 ∙ c, rw (q .0) h, q .1 ∙ k, opening-silent code (rw c at h) w h)
-own-step code bs powerOn w a (c, h, k, s) =
+own-step code bs plan.PowerOn w a (c, h, k, s) =
     let q = act-named PowerOn w in
     (q .0 ∙ c, rw (q .0) h, q .1 ∙ k, λ n. absurd (n (q .0 ∙ c)))
-own-step code bs (levels j l) w a o = o
-own-step code bs unknown w a o = o
+own-step code bs (plan.Levels j l) w a o = o
+own-step code bs (plan.Refused r) w a o = o
 
 -- one event, on the line
-among-step : (code : ℕ) (bs : List Bool) (e : Sort) (w : Whole) (i : ℕ) (L : List Whole) → Next bs e → Own code bs w → Among code bs w i L
-    → Among code (toCome code bs e) (ownAfter e w) i (afterSort e L)
-among-step code [] (slot v) w i L a o m =
+among-step : (code : ℕ) (bs : List Bool) (w : Whole) (i : ℕ) (L : List Whole) {p q : Plan} → Comes (chipsOf L) p q → Next bs p → Own code bs w → Among code bs w i L
+    → Among code (toCome code bs p) (ownAfter p w) i (afterBy q L)
+among-step code [] w i L (slot v) a o m =
     rw (among-value v m) (among-map code [] [] (actOf (Take (ownValue w v))) (other-slot code (ownValue w v)) m)
-among-step code (b ∷ bs) (slot v) w i L a (c, h, k, s) m =
+among-step code (b ∷ bs) w i L (slot v) a (c, h, k, s) m =
     let u : ownValue w v ≡ b = both-one (sendsOf w) v (silent-sends code b bs w s) ∙ a in
     rw (among-value v m, u) (among-map code (b ∷ bs) bs (actOf (Take b)) (other-bit code b bs) m)
-among-step code bs reset w i L a (c, h, k, s) m =
+among-step code bs w i L reset a (c, h, k, s) m =
     among-map code bs (opening code) (actOf Reset) (λ x o. other-reset code (rw c at h) x (o .0) (o .1)) m
-among-step code bs powerOn w i L a o m = among-map code bs [] (actOf PowerOn) (other-power code bs) m
-among-step code bs (levels j l) w i L a (c, h, k, s) m =
-    pick-if (Among code bs w i) (levelsAllowed j l L) _ _ (λ e. among-levels j l k (levels-allowed j l L e .0) m) (λ e. m)
-among-step code bs unknown w i L a o m = m
+among-step code bs w i L power-on a o m = among-map code bs [] (actOf PowerOn) (other-power code bs) m
+among-step code bs w i L (levels j l f g n) a (c, h, k, s) m = among-levels j l k (ap (λ (c : Chip). takesLevels (c .kind)) (at-chip j L) ∙ g) m
+among-step code bs w i L (refused j l r) a o m = m
 
 -- what is to come after a history
 abbrev pub toComes : ℕ → List Bool → List Event → List Bool
 toComes code bs [] = bs
-toComes code bs (e ∷ es) = toComes code (toCome code bs (sortOf e)) es
+toComes code bs (e ∷ es) = toComes code (toCome code bs (askedBy e)) es
 
 -- one event, by its number
-event-step : (code : ℕ) (bs : List Bool) (e : Event) (w : Whole) (i : ℕ) (L : List Whole) → Next bs (sortOf e) → Own code bs w → Among code bs w i L
-    → Among code (toCome code bs (sortOf e)) (ownAfter (sortOf e) w) i (afterOf e L)
-event-step code bs e w i L a o m = rw (after-is e L) (among-step code bs (sortOf e) w i L a o m)
+event-step : (code : ℕ) (bs : List Bool) (e : Event) (w : Whole) (i : ℕ) (L : List Whole) → Next bs (askedBy e) → Own code bs w → Among code bs w i L
+    → Among code (toCome code bs (askedBy e)) (ownAfter (askedBy e) w) i (afterOf e L)
+unfolding afterOf
+event-step code bs e w i L a o m = among-step code bs w i L (comes (chipsOf L) e) a o m
 
 -- THEOREM: while each session matches its code, the chip goes as if it were alone, and the others are silent
 pub alone : (code : ℕ) (bs : List Bool) (es : List Event) (w : Whole) (i : ℕ) (L : List Whole) → Addressed code bs es → Own code bs w → Among code bs w i L
     → Among code (toComes code bs es) (ownRun es w) i (run es L)
 alone code bs [] w i L a o m = m
 alone code bs (e ∷ es) w i L (a, r) o m =
-    alone code (toCome code bs (sortOf e)) es (ownAfter (sortOf e) w) i (afterOf e L) r (own-step code bs (sortOf e) w a o) (event-step code bs e w i L a o m)
-
--- levels are allowed by the kinds of a line alone
-unfoldable pub kindsAllow : ℕ → ℕ → List ℕ → Bool
-kindsAllow i l ks = both (ltb i (length ks)) (both (eqb (getD ks i 0) 2) (leb l 3))
+    alone code (toCome code bs (askedBy e)) es (ownAfter (askedBy e) w) i (afterOf e L) r (own-step code bs (askedBy e) w a o) (event-step code bs e w i L a o m)
 
 -- the kind of chip i
-kind-at : (i : ℕ) (L : List Whole) → at i L .chip .kind ≡ getD (kindsOf L) i 0
+kind-at : (i : ℕ) (L : List Whole) → getD (chipsOf L) i noChip .kind ≡ getD (kindsOf L) i 0
 kind-at i [] = refl
 kind-at zero (w ∷ L) = refl
 kind-at (suc i) (w ∷ L) = kind-at i L
 
--- by the kinds it is the same
-kinds-allow : (i l : ℕ) (L : List Whole) → levelsAllowed i l L ≡ kindsAllow i l (kindsOf L)
-unfolding levelsAllowed kindsAllow
-kinds-allow i l L = λ j. both (ltb i (sym (length-kinds L) j)) (both (eqb (kind-at i L j) 2) (leb l 3))
+-- what an event comes to goes by the kinds of a line alone
+abbrev pub planAmong : Event → List ℕ → Plan
+planAmong e ks = planEvent e (length ks) (getD ks (e .chip) 0)
 
--- the answers of the chip alone, on a line of these kinds
-abbrev pub ownAnswer : Sort → List ℕ → Whole → Answered
-ownAnswer (slot v) ks w = bit (ownValue w v)
-ownAnswer reset ks w = bit false
-ownAnswer powerOn ks w = bit true
-ownAnswer (levels i l) ks w = pick (kindsAllow i l ks) (bit true) (refused 7)
-ownAnswer unknown ks w = refused 6
+plan-among : (e : Event) (L : List Whole) → planOn e L ≡ planAmong e (kindsOf L)
+plan-among e L = λ j. planEvent e ((length-chips L ∙ sym (length-kinds L)) j) (kind-at (e .chip) L j)
 
--- and over a history
+-- the answers of the chip alone
+abbrev pub ownAnswer : Plan → Whole → Answered
+ownAnswer (plan.Slot v) w = bit (ownValue w v)
+ownAnswer plan.Reset w = bit false
+ownAnswer plan.PowerOn w = bit true
+ownAnswer (plan.Levels i l) w = bit true
+ownAnswer (plan.Refused r) w = says (numberOf r)
+
+-- and over a history, on a line of these kinds
 abbrev pub ownAnswers : List Event → List ℕ → Whole → List Answered
 ownAnswers [] ks w = []
-ownAnswers (e ∷ es) ks w = ownAnswer (sortOf e) ks w ∷ ownAnswers es ks (ownAfter (sortOf e) w)
+ownAnswers (e ∷ es) ks w = ownAnswer (planAmong e ks) w ∷ ownAnswers es ks (ownAfter (askedBy e) w)
 
 -- a line with the chip on it is not empty
 among-present : {code : ℕ} {bs : List Bool} {w : Whole} {i : ℕ} {L : List Whole} → Among code bs w i L → absent L ≡ false
@@ -234,20 +234,24 @@ among-present (here r) = refl
 among-present (there o r) = refl
 
 -- one event is answered as by the chip alone
-answer-step : (code : ℕ) (bs : List Bool) (e : Sort) (w : Whole) (i : ℕ) (L : List Whole) → Among code bs w i L → answerSort e L ≡ ownAnswer e (kindsOf L) w
-answer-step code bs (slot v) w i L m = ap bit (among-value v m)
-answer-step code bs reset w i L m = ap bit (among-present m)
-answer-step code bs powerOn w i L m = refl
-answer-step code bs (levels j l) w i L m = ap (λ (t : Bool). pick t (bit true) (refused 7)) (kinds-allow j l L)
-answer-step code bs unknown w i L m = refl
+answer-step : (code : ℕ) (bs : List Bool) (p : Plan) (w : Whole) (i : ℕ) (L : List Whole) → Among code bs w i L → answerBy p L ≡ ownAnswer p w
+answer-step code bs (plan.Slot v) w i L m = ap bit (among-value v m)
+answer-step code bs plan.Reset w i L m = ap bit (presence L ∙ among-present m)
+answer-step code bs plan.PowerOn w i L m = refl
+answer-step code bs (plan.Levels j l) w i L m = refl
+answer-step code bs (plan.Refused r) w i L m = refl
+
+event-answer : (code : ℕ) (bs : List Bool) (e : Event) (w : Whole) (i : ℕ) (L : List Whole) → Among code bs w i L → answerOf e L ≡ ownAnswer (planAmong e (kindsOf L)) w
+unfolding answerOf
+event-answer code bs e w i L m = answer-step code bs (planOn e L) w i L m ∙ ap (λ (p : Plan). ownAnswer p w) (plan-among e L)
 
 -- THEOREM: and the answers are those of the chip alone
 pub alone-answers : (code : ℕ) (bs : List Bool) (es : List Event) (w : Whole) (i : ℕ) (L : List Whole) → Addressed code bs es → Own code bs w → Among code bs w i L
     → answers es L ≡ ownAnswers es (kindsOf L) w
 alone-answers code bs [] w i L a o m = refl
 alone-answers code bs (e ∷ es) w i L (a, r) o m =
-    let first = answer-is e L ∙ answer-step code bs (sortOf e) w i L m in
-    let u = ownAfter (sortOf e) w in
-    let rest = alone-answers code (toCome code bs (sortOf e)) es u i (afterOf e L) r (own-step code bs (sortOf e) w a o) (event-step code bs e w i L a o m) in
+    let first = event-answer code bs e w i L m in
+    let u = ownAfter (askedBy e) w in
+    let rest = alone-answers code (toCome code bs (askedBy e)) es u i (afterOf e L) r (own-step code bs (askedBy e) w a o) (event-step code bs e w i L a o m) in
     let ks = ap (λ (k : List ℕ). ownAnswers es k u) (run-kinds (e ∷ []) L) in
     λ j. first j ∷ (rest ∙ ks) j

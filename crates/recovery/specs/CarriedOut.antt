@@ -5,22 +5,24 @@ use mathlib.Core.List.{List, [], _∷_, map}
 use mathlib.Core.Path.{_≡_, refl, _∙_, ap}
 use lib.Dec.{ltb}
 use borrow.Author.Tests.{ltb-true}
-use Rattle.base.specs.Pick.{pick}
+use Rattle.base.specs.Pick.{pick, pick-both, pick-if}
 use Rattle.base.specs.Bits.{filled}
 use Rattle.scratchpad.specs.Scratchpad.{carriedOut, authorized, copyEnd}
 use Rattle.scratchpad.specs.declared.MemoryStep.{MemoryStep}
 use Rattle.scratchpad.specs.declared.MemoryPhase.the-variants.{CopyEnd}
 use Rattle.scratchpad.specs.declared.Deed.{Deed}
 use Rattle.scratchpad.specs.declared.Deed.the-variants.{Nothing, Put, Copy}
-use Rattle.ds28ec20.specs.Image.{sightOf, done}
-use Rattle.chip.specs.Chip.{Whole, memoryStep, memorySlot, levelTakes, takesOf, resetOf, powerOnOf, levelsOf}
+use Rattle.memory.specs.Memory.{done}
+use Rattle.chip.specs.Chip.{Whole, chipMap, levelSeen, levelTakesBy, memorySight, memorySlot, takesOf, resetOf, powerOnOf, levelsOf}
 use Rattle.chip.specs.declared.Level.{Level}
 use Rattle.chip.specs.declared.Level.the-variants.{Waiting, Rom, FunctionCommand, Memory, Pio}
-use Rattle.line.specs.Line.{actOf, levelsAt, slotValue, lineAfter}
+use Rattle.line.specs.Line.{valueOf, actOf, levelsAt, afterBy}
+use Rattle.line.specs.Event.{planOn}
+use Rattle.line.specs.declared.Plan.{Plan}
+use Rattle.line.specs.declared.Plan.the-variants as plan
 use Rattle.line.specs.declared.Event.{Event}
 use Rattle.line.specs.declared.Act.the-variants.{Take, Reset, PowerOn}
 use Rattle.runs.specs.Runs.{at, afterOf, run}
-use Rattle.runs.specs.Range.{pick-if, pick-both}
 
 -- the deed is a copy
 abbrev pub isCopy : Deed → Bool
@@ -30,11 +32,7 @@ isCopy (Copy t e) = true
 
 -- at each level, the step that a slot of the value v makes has a copy for its deed
 abbrev pub levelCarriesOut : Whole → Bool → Level → Bool
-levelCarriesOut w v Waiting = false
-levelCarriesOut w v (Rom s) = false
-levelCarriesOut w v (FunctionCommand count bits) = false
-levelCarriesOut w v (Memory p) = isCopy (memoryStep (w .chip) p v (w .memory) (w .pad) .deed)
-levelCarriesOut w v (Pio p) = false
+levelCarriesOut w v l = isCopy (levelTakesBy (w .chip) v (levelSeen w l) l .deed)
 
 -- a slot of the value v carries out a copy in the chip w
 unfoldable pub carriesOut : Bool → Whole → Bool
@@ -42,8 +40,8 @@ carriesOut v w = levelCarriesOut w v (w .chip .level)
 
 -- THEOREM: at the third byte of 55h it is the test by which the Copy step itself decides, once the last bit is in
 pub carries-out : (w : Whole) (v : Bool) (address count bits : ℕ) → w .chip .level ≡ Memory (CopyEnd address count bits)
-    → carriesOut v w ≡ pick (ltb count 7) false (carriedOut (w .chip .registers) address (filled 0x80 bits v) (sightOf (w .chip .registers) (CopyEnd address count bits) (w .memory) (w .pad)))
-unfolding carriesOut memoryStep copyEnd authorized pick
+    → carriesOut v w ≡ pick (ltb count 7) false (carriedOut (w .chip .registers) address (filled 0x80 bits v) (memorySight (w .chip) (CopyEnd address count bits) (levelSeen w (Memory (CopyEnd address count bits)))))
+unfolding carriesOut memorySlot copyEnd authorized pick
 carries-out w v address count bits e = ap (levelCarriesOut w v) e ∙ go (ltb count 7) _ _ _ _ refl refl refl
   where
     go : (s t : Bool) (a b c : MemoryStep) → isCopy (a .deed) ≡ false → isCopy (b .deed) ≡ true → isCopy (c .deed) ≡ false → isCopy (pick s a (pick t b c) .deed) ≡ pick s false t
@@ -52,31 +50,29 @@ carries-out w v address count bits e = ap (levelCarriesOut w v) e ∙ go (ltb co
     go false false a b c p q r = r
 
 -- no slot of a history carries out a copy in chip i
+abbrev pub Idle : Plan → ℕ → List Whole → Type 0
+Idle (plan.Refused r) i L = Unit
+Idle (plan.Slot b) i L = carriesOut (valueOf b L) (at i L) ≡ false
+Idle plan.Reset i L = Unit
+Idle plan.PowerOn i L = Unit
+Idle (plan.Levels j l) i L = Unit
+
 abbrev pub NoCopy : ℕ → List Event → List Whole → Type 0
 NoCopy i [] L = Unit
-NoCopy i (e ∷ es) L = (e .number < 2 → carriesOut (slotValue e L) (at i L) ≡ false) × NoCopy i es (afterOf e L)
+NoCopy i (e ∷ es) L = Idle (planOn e L) i L × NoCopy i es (afterOf e L)
 
 -- a slot that carries out no copy leaves the memory
 module _ (w : Whole) where
   -- by the deed
-  deed-stays : (d : Deed) → isCopy d ≡ false → done (w .memory) (w .pad) d .memory ≡ w .memory
+  deed-stays : (d : Deed) → isCopy d ≡ false → done (chipMap (w .chip)) (w .memory) (w .pad) d .memory ≡ w .memory
   deed-stays Nothing e = refl
   deed-stays (Put offset b) e = refl
   deed-stays (Copy t n) e = absurd (true≢false e)
 
-  -- by the level
-  level-stays : (v : Bool) (l : Level) → levelCarriesOut w v l ≡ false → levelTakes w v l .memory ≡ w .memory
-  unfolding memorySlot
-  level-stays v Waiting e = refl
-  level-stays v (Rom s) e = refl
-  level-stays v (FunctionCommand count bits) e = refl
-  level-stays v (Memory p) e = deed-stays (memoryStep (w .chip) p v (w .memory) (w .pad) .deed) e
-  level-stays v (Pio p) e = refl
-
   -- by the slot
   slot-stays : (v : Bool) → carriesOut v w ≡ false → actOf (Take v) w .memory ≡ w .memory
   unfolding takesOf carriesOut
-  slot-stays v e = level-stays v (w .chip .level) e
+  slot-stays v e = let l = w .chip .level in deed-stays (levelTakesBy (w .chip) v (levelSeen w l) l .deed) e
 
   -- a reset leaves the memory
   reset-stays : actOf Reset w .memory ≡ w .memory
@@ -108,20 +104,16 @@ levels-at zero (suc j) l (w ∷ L) = refl
 levels-at (suc i) (suc j) l (w ∷ L) = levels-at i j l L
 
 -- chip i over one event
-event-stays : (i : ℕ) (e : Event) (L : List Whole) → (e .number < 2 → carriesOut (slotValue e L) (at i L) ≡ false) → at i (afterOf e L) .memory ≡ at i L .memory
-unfolding afterOf lineAfter
-event-stays i e L n =
-    pick-both M _ _ _
-    (pick-both M _ _ _
-    (pick-if M _ _ _ (λ p. map-stays (actOf (Take (slotValue e L))) i L (slot-stays (at i L) (slotValue e L) (n (ltb-true (e .number) 2 p))))
-    (λ p. pick-both M _ _ _ (map-stays (actOf Reset) i L (reset-stays (at i L)))
-    (pick-both M _ _ _ (map-stays (actOf PowerOn) i L (power-stays (at i L)))
-    (levels-at i (e .chip) (e .levels) L))))
-    refl)
-    refl
-  where
-    M : List Whole → Type 0
-    M K = at i K .memory ≡ at i L .memory
+plan-stays : (i : ℕ) (p : Plan) (L : List Whole) → Idle p i L → at i (afterBy p L) .memory ≡ at i L .memory
+plan-stays i (plan.Refused r) L n = refl
+plan-stays i (plan.Slot b) L n = map-stays (actOf (Take (valueOf b L))) i L (slot-stays (at i L) (valueOf b L) n)
+plan-stays i plan.Reset L n = map-stays (actOf Reset) i L (reset-stays (at i L))
+plan-stays i plan.PowerOn L n = map-stays (actOf PowerOn) i L (power-stays (at i L))
+plan-stays i (plan.Levels j l) L n = levels-at i j l L
+
+event-stays : (i : ℕ) (e : Event) (L : List Whole) → Idle (planOn e L) i L → at i (afterOf e L) .memory ≡ at i L .memory
+unfolding afterOf
+event-stays i e L n = plan-stays i (planOn e L) L n
 
 -- THEOREM: a chip that carries out no copy in a history has the memory that it had
 pub no-copy : (i : ℕ) (es : List Event) (L : List Whole) → NoCopy i es L → at i (run es L) .memory ≡ at i L .memory

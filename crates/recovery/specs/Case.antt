@@ -11,14 +11,17 @@ use Rattle.rom.specs.Rom.{commandOf, commandBit}
 use Rattle.scratchpad.specs.Registers.{registers, targetOf}
 use Rattle.scratchpad.specs.Scratchpad.{memoryFunction, addressIn, writeAddress}
 use Rattle.ds2413.specs.Switch.{switchFunction, switchInRange}
-use Rattle.chip.specs.Chip.{Whole, whole, romSlot, functionLevel, functionSlot, memoryStep, memorySlot, switchSlot, takesOf, sendsOf, resetChip, resetOf, powerOnChip, powerOnOf, levelsChip, levelsOf, setUpChip}
-use Rattle.chip.specs.Range.{knownKind, imageSize, padSize}
-use Rattle.line.specs.Line.{lineAfter}
+use Rattle.scratchpad.specs.Scratchpad.{byteAtHand, pageAtHand, memoryBegins}
+use Rattle.ds2413.specs.Switch.{switchBegins}
+use Rattle.memory.specs.Part.{mapOf}
+use Rattle.chip.specs.Kinds.{partOf, hasMemory, hasScratchpad, hasRegisters, hasSwitch, takesLevels, knowsOf}
+use Rattle.chip.specs.Chip.{Whole, whole, memoryLook, memorySight, romSlot, functionIn, functionSlot, memorySlot, switchSlot, takesOf, sendsOf, resetChip, resetOf, powerOnChip, powerOnOf, levelsChip, levelsOf, setUpChip}
+use Rattle.chip.specs.Kinds.{knownKind, imageSize, padSize}
+use Rattle.line.specs.Event.{askedBy, planEvent, levelsFit}
 use Rattle.line.specs.declared.Event.{Event}
-use Rattle.search.specs.Host.{eventNumber, resetEvent}
-use Rattle.runs.specs.Runs.{at, levelsTaken, afterOf, run, answers}
+use Rattle.line.specs.Events.{eventWith, resetEvent, powerOnEvent, levelsEvent}
+use Rattle.runs.specs.Runs.{at, afterOf, run, answers}
 use Rattle.runs.specs.Keeps.{InRange, Good}
-use Rattle.runs.specs.Sorts.{sortOf}
 use Rattle.recovery.specs.Sessions.{bitsFrom, opening, Addressed, slots, write, Bytes, Page}
 use Rattle.recovery.specs.CarriedOut.{carriesOut, NoCopy}
 use Rattle.recovery.specs.SetUp.{SetUp}
@@ -47,7 +50,7 @@ line-set-up = record { attached = omega arith; differ = (((λ e. omega arith), t
 
 -- power on, an event that is refused, and outside levels of chip 1
 abbrev quiet : List Event
-quiet = eventNumber 3 ∷ eventNumber 5 ∷ record { number = 4; chip = 1; levels = 2 } ∷ []
+quiet = powerOnEvent ∷ eventWith 5 0 0 ∷ levelsEvent 1 2 ∷ []
 
 -- a reset, CCh, 0Fh and the address 0120h
 abbrev noise : List Event
@@ -55,22 +58,23 @@ noise = resetEvent ∷ slots (bitsFrom 8 0 0xCC ++ (bitsFrom 8 0 0x0F ++ bitsFro
 
 -- the registers of chip 0 after the first
 pub quiet-registers : at 0 (run quiet line) .chip .registers ≡ registers 0x0000 0x20
-unfolding setUpChip afterOf lineAfter levelsTaken powerOnOf powerOnChip levelsOf levelsChip both pick
+unfolding setUpChip afterOf planEvent levelsFit askedBy powerOnOf powerOnChip levelsOf levelsChip both pick hasRegisters hasSwitch takesLevels
 quiet-registers = refl
 
 -- they are others after the second
 pub noise-registers : at 0 (run noise line) .chip .registers ≡ registers 0x0120 0x00
-unfolding setUpChip afterOf lineAfter levelsTaken takesOf sendsOf resetOf resetChip romSlot commandBit commandOf functionSlot functionLevel memoryFunction switchFunction switchSlot memorySlot memoryStep writeAddress addressIn targetOf filled bitOf both pick
+unfolding setUpChip afterOf planEvent levelsFit askedBy takesOf sendsOf resetOf resetChip romSlot commandBit commandOf functionSlot functionIn memoryFunction switchFunction switchSlot memorySlot writeAddress addressIn targetOf filled bitOf both pick memoryLook memorySight memoryBegins switchBegins byteAtHand pageAtHand partOf mapOf hasMemory hasScratchpad hasRegisters hasSwitch takesLevels knowsOf
 noise-registers = refl
 
 -- chip 0 carries out no copy in the first
 quiet-no-copy : NoCopy 0 quiet line
-quiet-no-copy = ((λ h. absurd (omega arith)), ((λ h. absurd (omega arith)), ((λ h. absurd (omega arith)), tt)))
+unfolding setUpChip afterOf planEvent levelsFit askedBy powerOnOf powerOnChip levelsOf levelsChip both pick hasRegisters hasSwitch takesLevels
+quiet-no-copy = (tt, (tt, (tt, tt)))
 
 -- nor in the second
 noise-no-copy : NoCopy 0 noise line
-unfolding carriesOut setUpChip afterOf lineAfter levelsTaken takesOf sendsOf resetOf resetChip romSlot commandBit commandOf functionSlot functionLevel memoryFunction switchFunction switchSlot memorySlot memoryStep writeAddress addressIn targetOf filled bitOf both pick
-noise-no-copy = ((λ h. absurd (omega arith)), ((λ h. refl), ((λ h. refl), ((λ h. refl), ((λ h. refl), ((λ h. refl), ((λ h. refl), ((λ h. refl), ((λ h. refl), ((λ h. refl), ((λ h. refl), ((λ h. refl), ((λ h. refl), ((λ h. refl), ((λ h. refl), ((λ h. refl), ((λ h. refl), ((λ h. refl), ((λ h. refl), ((λ h. refl), ((λ h. refl), ((λ h. refl), ((λ h. refl), ((λ h. refl), ((λ h. refl), ((λ h. refl), ((λ h. refl), ((λ h. refl), ((λ h. refl), ((λ h. refl), ((λ h. refl), ((λ h. refl), ((λ h. refl), tt)))))))))))))))))))))))))))))))))
+unfolding carriesOut setUpChip afterOf planEvent levelsFit askedBy takesOf sendsOf resetOf resetChip romSlot commandBit commandOf functionSlot functionIn memoryFunction switchFunction switchSlot memorySlot writeAddress addressIn targetOf filled bitOf both pick memoryLook memorySight memoryBegins switchBegins byteAtHand pageAtHand partOf mapOf hasMemory hasScratchpad hasRegisters hasSwitch takesLevels knowsOf
+noise-no-copy = (tt, (refl, (refl, (refl, (refl, (refl, (refl, (refl, (refl, (refl, (refl, (refl, (refl, (refl, (refl, (refl, (refl, (refl, (refl, (refl, (refl, (refl, (refl, (refl, (refl, (refl, (refl, (refl, (refl, (refl, (refl, (refl, (refl, tt)))))))))))))))))))))))))))))))))
 
 -- a run of one byte
 small : (n b : ℕ) → b < 256 → Bytes (replicate n b)
@@ -92,7 +96,7 @@ reading = resetEvent ∷ slots (opening 5 ++ (bitsFrom 8 0 0xAA ++ replicate 296
 
 -- it opens by matching the code
 reading-addressed : Addressed 5 [] reading
-unfolding sortOf pick
+unfolding askedBy pick
 reading-addressed = (tt, addressed-slots 5 (opening 5) (bitsFrom 8 0 0xAA ++ replicate 296 true))
 
 -- and what it reads is the same

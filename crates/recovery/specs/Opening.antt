@@ -3,26 +3,42 @@ use Prim.Native.Nat.{ℕ, zero, suc, _+_, _*_, _/_, _%_, _^_, _<_, _≤_}
 use native.Mathlib.Omega.{arith}
 use native.Mathlib.Nat.{mod-eq-of-lt}
 use mathlib.Core.Bool.{Bool, true, false, true≢false}
-use mathlib.Core.List.{List, [], _∷_}
+use mathlib.Core.List.{List, [], _∷_, _++_}
 use mathlib.Core.Path.{_≡_, refl, _∙_, ap, sym}
 use lib.Dec.{eqb}
 use lib.Pow.{mod-pow-add}
 use borrow.Author.Tests.{ltb-false}
-use Rattle.base.specs.Pick.{pick}
+use Rattle.base.specs.Pick.{pick, pick-if}
 use Rattle.base.specs.Bits.{bitOf, same, filled}
 use Rattle.rom.specs.Rom.{commandOf, commandBit, matchBit}
 use Rattle.rom.specs.declared.RomResult.{RomResult}
-use Rattle.rom.specs.declared.RomStep.the-variants.{Match}
-use Rattle.chip.specs.Chip.{Whole, whole, chipWith, levelOf, levelReset, romSlot, levelTakes, takesOf, levelSends, sendsOf, resetChip, resetOf, levelsChip, levelsOf}
+use Rattle.rom.specs.declared.RomStep.the-variants.{Command, Match}
+use Rattle.chip.specs.With.{withRc, withLevel}
+use Rattle.chip.specs.Chip.{Whole, whole, levelOf, romSlot, levelTakes, takesOf, levelSends, sendsOf, resetChip, resetOf, levelsChip, levelsOf}
 use Rattle.chip.specs.declared.Level.{Level}
 use Rattle.chip.specs.declared.Level.the-variants.{Waiting, Rom}
-use Rattle.runs.specs.Range.{pick-if}
 use Rattle.recovery.specs.Sessions.{bitsFrom, opening}
+
+-- a chip after outside levels, one after the other
+abbrev pub leveled : List ℕ → Whole → Whole
+leveled [] w = w
+leveled (l ∷ ls) w = leveled ls (levelsOf l w)
+
+-- these leave its level and its code
+leveled-level : (ls : List ℕ) (w : Whole) → leveled ls w .chip .level ≡ w .chip .level
+unfolding levelsOf levelsChip
+leveled-level [] w = refl
+leveled-level (l ∷ ls) w = leveled-level ls (levelsOf l w)
+
+leveled-code : (ls : List ℕ) (w : Whole) → leveled ls w .chip .code ≡ w .chip .code
+unfolding levelsOf levelsChip
+leveled-code [] w = refl
+leveled-code (l ∷ ls) w = leveled-code ls (levelsOf l w)
 
 -- fed these bits, and outside levels at any time, a chip sends 1 all along and comes to P
 abbrev pub Silent : (Whole → Type 0) → List Bool → Whole → Type 0
 Silent P [] w = P w
-Silent P (v ∷ vs) w = (l : ℕ) → (sendsOf (levelsOf l w) ≡ true) × Silent P vs (takesOf v (levelsOf l w))
+Silent P (v ∷ vs) w = (ls : List ℕ) → (sendsOf (leveled ls w) ≡ true) × Silent P vs (takesOf v (leveled ls w))
 
 -- a chip of another code waits
 abbrev pub Waits : ℕ → Whole → Type 0
@@ -79,9 +95,11 @@ same-bit false false e = refl
 module _ (code : ℕ) where
   -- a chip that waits is silent
   waiting-silent : (bs : List Bool) (w : Whole) → w .chip .level ≡ Waiting → Silent (Waits code) bs w
-  unfolding levelsOf levelsChip
   waiting-silent [] w e = λ n. e
-  waiting-silent (b ∷ bs) w e = λ l. (sends-at (levelsOf l w) Waiting e, rw (waiting-takes (levelsOf l w) b e) (waiting-silent bs (levelsOf l w) e))
+  waiting-silent (b ∷ bs) w e = λ ls.
+      let u = leveled ls w in
+      let f : u .chip .level ≡ Waiting = leveled-level ls w ∙ e in
+      (sends-at u Waiting f, rw (waiting-takes u b f) (waiting-silent bs u f))
 
   -- of a chip of the code nothing more is said
   own-silent : (bs : List Bool) (w : Whole) → w .chip .code ≡ code → bs ≡ [] → Silent (Waits code) bs w
@@ -103,7 +121,7 @@ module _ (code : ℕ) where
         → Silent (Waits code) (bitsFrom k (p + 1) code) (whole (romSlot (w .chip) (Match p) (bitOf code p)) (w .memory) (w .pad))
     unfolding romSlot matchBit
     match-bit k p w e h s more =
-        let at : RomResult → Whole = λ (r : RomResult). whole (chipWith (w .chip) (levelOf (r .next)) (r .rc) (w .chip .registers) (w .chip .switch)) (w .memory) (w .pad) in
+        let at : RomResult → Whole = λ (r : RomResult). whole (withLevel (levelOf (r .next)) (withRc (r .rc) (w .chip))) (w .memory) (w .pad) in
         let P : RomResult → Type 0 = λ (r : RomResult). Silent (Waits code) (bitsFrom k (p + 1) code) (at r) in
         let next : same (bitOf (w .chip .code) p) (bitOf code p) ≡ true → w .chip .code % 2 ^ (p + 1) ≡ code % 2 ^ (p + 1)
         = λ a. low-bits (w .chip .code) code p s (same-bit (bitOf (w .chip .code) p) (bitOf code p) a) in
@@ -117,41 +135,37 @@ module _ (code : ℕ) where
 
     -- all the bits to come
     match-silent : (k p : ℕ) → Matching k p
-    unfolding levelsOf levelsChip
     match-silent zero p w e h s q = λ n. absurd (n (same-code (w .chip .code) p (omega arith) h s))
-    match-silent (suc k) p w e h s q = λ l. (
-      sends-at (levelsOf l w) (Rom (Match p)) q,
-      rw (takes-at (levelsOf l w) (bitOf code p) (Rom (Match p)) q) (match-bit k p (levelsOf l w) e h s (match-silent k (p + 1))),
-    )
+    match-silent (suc k) p w e h s q = λ ls.
+        let u = leveled ls w in
+        let f : u .chip .level ≡ Rom (Match p) = leveled-level ls w ∙ q in
+        let c = leveled-code ls w in
+        (sends-at u (Rom (Match p)) f, rw (takes-at u (bitOf code p) (Rom (Match p)) f) (match-bit k p u e (rw c h) (rw c s) (match-silent k (p + 1))))
+
+    -- a chip after a bit of the ROM command, and the bits of the opening from bit i of the command on
+    abbrev heard : ℕ → ℕ → Bool → Whole → Whole
+    heard k b v w = whole (romSlot (w .chip) (Command k b) v) (w .memory) (w .pad)
+
+    abbrev rest : ℕ → ℕ → List Bool
+    rest n i = bitsFrom n i 0x55 ++ bitsFrom 64 0 code
+
+    command-bit : (k b : ℕ) (v : Bool) (vs : List Bool) (w : Whole) → w .chip .level ≡ Rom (Command k b) → w .chip .code < 2 ^ 64
+        → ((u : Whole) → u .chip .code < 2 ^ 64 → Silent (Waits code) vs (heard k b v u)) → Silent (Waits code) (v ∷ vs) w
+    command-bit k b v vs w q h next = λ ls.
+        let u = leveled ls w in
+        let f : u .chip .level ≡ Rom (Command k b) = leveled-level ls w ∙ q in
+        (sends-at u (Rom (Command k b)) f, rw (takes-at u v (Rom (Command k b)) f) (next u (rw (leveled-code ls w) h)))
 
     -- THEOREM: from a reset on, every chip is silent over the opening of a code, and all of other codes wait after it
     pub opening-silent : (w : Whole) → w .chip .code < 2 ^ 64 → Silent (Waits code) (opening code) (resetOf w)
-    unfolding resetOf resetChip levelsOf levelsChip sendsOf takesOf romSlot commandBit commandOf filled bitOf pick
+    unfolding resetOf resetChip romSlot commandBit commandOf filled bitOf pick
     opening-silent w h =
-        λ a. (
-          refl,
-          λ b. (
-            refl,
-            λ c. (
-              refl,
-              λ d. (
-                refl,
-                λ e. (
-                  refl,
-                  λ f. (
-                    refl,
-                    λ i. (
-                      refl,
-                      λ j. (
-                        refl,
-                        match-silent 64 0
-                            (levelsOf j (whole (chipWith (w .chip) (Rom (Match 0)) false (levelReset (w .chip .registers) (w .chip .level)) (w .chip .switch)) (w .memory) (w .pad)))
-                            refl h (omega arith) refl,
-                      ),
-                    ),
-                  ),
-                ),
-              ),
-            ),
-          ),
-        )
+        command-bit 0 0x00 true (rest 7 1) (resetOf w) refl h (λ a h.
+        command-bit 1 0x80 false (rest 6 2) (heard 0 0x00 true a) refl h (λ b h.
+        command-bit 2 0x40 true (rest 5 3) (heard 1 0x80 false b) refl h (λ c h.
+        command-bit 3 0xA0 false (rest 4 4) (heard 2 0x40 true c) refl h (λ d h.
+        command-bit 4 0x50 true (rest 3 5) (heard 3 0xA0 false d) refl h (λ e h.
+        command-bit 5 0xA8 false (rest 2 6) (heard 4 0x50 true e) refl h (λ f h.
+        command-bit 6 0x54 true (rest 1 7) (heard 5 0xA8 false f) refl h (λ i h.
+        command-bit 7 0xAA false (rest 0 8) (heard 6 0x54 true i) refl h (λ j h.
+        match-silent 64 0 (heard 7 0xAA false j) refl h (omega arith) refl))))))))

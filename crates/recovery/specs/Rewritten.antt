@@ -11,36 +11,50 @@ use Rattle.rom.specs.declared.RomStep.the-variants.{Command}
 use Rattle.scratchpad.specs.Registers.{registers}
 use Rattle.scratchpad.specs.declared.MemoryPhase.the-variants.{SendCrc}
 use Rattle.chip.specs.Chip.{Whole, whole, levelReset, takesOf, sendsOf, resetChip, resetOf}
-use Rattle.chip.specs.Range.{padSize}
+use Rattle.chip.specs.Kinds.{padSize}
 use Rattle.chip.specs.declared.Level.the-variants.{Rom, Memory}
-use Rattle.line.specs.Line.{actOf, lineAfter, busBit}
-use Rattle.line.specs.Event.{Answered, bit}
+use Rattle.line.specs.Line.{actOf}
+use Rattle.line.specs.Refusals.{presence}
+use Rattle.line.specs.Event.{Answered, bit, askedBy, planEvent, levelsFit}
 use Rattle.line.specs.declared.Act.the-variants.{Reset}
-use Rattle.search.specs.Host.{resetEvent}
-use Rattle.runs.specs.Runs.{at, levelsTaken, answerOf, afterOf, run, answers}
-use Rattle.runs.specs.Sorts.{Sort, slot-sort}
+use Rattle.line.specs.Events.{slotEvent, resetEvent}
+use Rattle.runs.specs.Runs.{at, answerOf, afterOf, run, answers}
+use Rattle.line.specs.declared.Plan.{Plan}
+use Rattle.line.specs.declared.Plan.the-variants as plan
 use Rattle.recovery.specs.Sessions.{opening, toCome, Addressed, slots, writeBits, write, Page}
-use Rattle.recovery.specs.Among.{Own, Among, ownAfter, ownRun, ownAnswer, ownAnswers, toComes, both-one, alone, alone-answers}
+use Rattle.recovery.specs.Stays.{kindsOf}
+use Rattle.recovery.specs.Among.{Own, Among, ownAfter, ownRun, planAmong, ownAnswer, ownAnswers, toComes, both-one, alone, alone-answers}
 use Rattle.recovery.specs.Written.{ruled, writtenTo, Goes, goes-from, goes-to, ofKind, ec20, goes-written}
 use Rattle.recovery.specs.SetUp.{SetUp, codes-at, reset-among, reset-own}
+
+-- the host's own slots
+asked-slot : (v : Bool) → askedBy (slotEvent v) ≡ plan.Slot v
+unfolding askedBy pick
+asked-slot true = refl
+asked-slot false = refl
+
+planned-slot : (v : Bool) (ks : List ℕ) → planAmong (slotEvent v) ks ≡ plan.Slot v
+unfolding planEvent levelsFit askedBy pick
+planned-slot true ks = refl
+planned-slot false ks = refl
 
 -- slots of the bits to come, and of any bits after them, address the code
 pub addressed-slots : (code : ℕ) (bs vs : List Bool) → Addressed code bs (slots (bs ++ vs))
 addressed-slots code [] [] = tt
-addressed-slots code [] (v ∷ vs) = rw (slot-sort v) (tt, addressed-slots code [] vs)
-addressed-slots code (b ∷ bs) vs = rw (slot-sort b) (refl, addressed-slots code bs vs)
+addressed-slots code [] (v ∷ vs) = rw (asked-slot v) (tt, addressed-slots code [] vs)
+addressed-slots code (b ∷ bs) vs = rw (asked-slot b) (refl, addressed-slots code bs vs)
 
 -- after them nothing is to come
 comes-slots : (code : ℕ) (bs vs : List Bool) → toComes code bs (slots (bs ++ vs)) ≡ []
 comes-slots code [] [] = refl
-comes-slots code [] (v ∷ vs) = ap (λ (k : Sort). toComes code (toCome code [] k) (slots vs)) (slot-sort v) ∙ comes-slots code [] vs
-comes-slots code (b ∷ bs) vs = ap (λ (k : Sort). toComes code (toCome code (b ∷ bs) k) (slots (bs ++ vs))) (slot-sort b) ∙ comes-slots code bs vs
+comes-slots code [] (v ∷ vs) = ap (λ (k : Plan). toComes code (toCome code [] k) (slots vs)) (asked-slot v) ∙ comes-slots code [] vs
+comes-slots code (b ∷ bs) vs = ap (λ (k : Plan). toComes code (toCome code (b ∷ bs) k) (slots (bs ++ vs))) (asked-slot b) ∙ comes-slots code bs vs
 
 -- a chip that is silent over given bits comes, alone, to where they lead
 goes-run : (vs : List Bool) (w u : Whole) → Goes vs w u → ownRun (slots vs) w ≡ u
 goes-run [] w u e = e
 goes-run (v ∷ vs) w u (s, g) =
-    ap (λ (k : Sort). ownRun (slots vs) (ownAfter k w)) (slot-sort v)
+    ap (λ (k : Plan). ownRun (slots vs) (ownAfter k w)) (asked-slot v)
     ∙ ap (λ (b : Bool). ownRun (slots vs) (takesOf b w)) (both-one (sendsOf w) v s)
     ∙ goes-run vs (takesOf v w) u g
 
@@ -48,27 +62,27 @@ goes-run (v ∷ vs) w u (s, g) =
 goes-answers : (vs : List Bool) (ks : List ℕ) (w u : Whole) → Goes vs w u → ownAnswers (slots vs) ks w ≡ map bit vs
 goes-answers [] ks w u e = refl
 goes-answers (v ∷ vs) ks w u (s, g) =
-    ap (λ (k : Sort). ownAnswer k ks w ∷ ownAnswers (slots vs) ks (ownAfter k w)) (slot-sort v)
+    (λ j. ownAnswer (planned-slot v ks j) w ∷ ownAnswers (slots vs) ks (ownAfter (asked-slot v j) w))
     ∙ ap (λ (b : Bool). bit b ∷ ownAnswers (slots vs) ks (takesOf b w)) (both-one (sendsOf w) v s)
     ∙ ap (λ (l : List Answered). bit v ∷ l) (goes-answers vs ks (takesOf v w) u g)
 
 -- what a reset leaves
 reset-after : (L : List Whole) → afterOf resetEvent L ≡ map (actOf Reset) L
-unfolding afterOf levelsTaken lineAfter pick
+unfolding afterOf planEvent levelsFit askedBy pick
 reset-after L = refl
 
 -- what it answers where a chip is attached
 reset-answer : (i : ℕ) (L : List Whole) → i < length L → answerOf resetEvent L ≡ bit false
-unfolding answerOf levelsTaken busBit pick
+unfolding answerOf planEvent levelsFit askedBy pick
 reset-answer i [] h = absurd (not-suc-le-zero h)
-reset-answer i (w ∷ L) h = refl
+reset-answer i (w ∷ L) h = ap bit (presence (w ∷ L))
 
 -- a DS28EC20 after a reset, and after the write, with its kind written out
 module _ (w : Whole) (e : w .chip .kind ≡ 1) where
   -- after a reset
-  reset-is : resetOf w ≡ ec20 (w .chip) (w .memory) (Rom (Command 0 0)) (w .chip .rc) (levelReset (w .chip .registers) (w .chip .level)) (w .pad)
+  reset-is : resetOf w ≡ ec20 (w .chip) (w .memory) (Rom (Command 0 0)) (w .chip .rc) (levelReset (w .chip) (w .chip .level)) (w .pad)
   unfolding resetOf resetChip
-  reset-is = ap (λ (k : ℕ). ofKind (w .chip) (w .memory) k (Rom (Command 0 0)) (w .chip .rc) (levelReset (w .chip .registers) (w .chip .level)) (w .pad)) e
+  reset-is = ap (λ (k : ℕ). ofKind (w .chip) (w .memory) k (Rom (Command 0 0)) (w .chip .rc) (levelReset (w .chip) (w .chip .level)) (w .pad)) e
 
   -- after the write
   written-is : (t : ℕ) (bytes : List ℕ)
@@ -102,7 +116,7 @@ module _ (i : ℕ) (L : List Whole) (s : SetUp i L) (code : ℕ) (e : at i L .ch
       subst (λ (c : ℕ). Goes (opening c ++ writeBits t bytes) (resetOf w) (writtenTo w t bytes)) e
       (goes-from (opening (w .chip .code) ++ writeBits t bytes) _ _ _ (reset-is w (s .kind))
       (goes-to (opening (w .chip .code) ++ writeBits t bytes) _ _ _
-      (goes-written (w .chip) (w .memory) t bytes (w .chip .rc) (levelReset (w .chip .registers) (w .chip .level)) (w .pad) g (s .good .pad ∙ pad-size w (s .kind)))
+      (goes-written (w .chip) (w .memory) t bytes (w .chip .rc) (levelReset (w .chip) (w .chip .level)) (w .pad) g (s .good .pad ∙ pad-size w (s .kind)))
       (written-is w (s .kind) t bytes)))
 
   -- chip i after the reset
@@ -135,4 +149,4 @@ module _ (i : ℕ) (L : List Whole) (s : SetUp i L) (code : ℕ) (e : at i L .ch
       ∙ ap (λ (K : List Whole). bit false ∷ answers (slots sent) K) (reset-after L)
       ∙ ap (λ (l : List Answered). bit false ∷ l)
       (alone-answers code (opening code) (slots sent) (resetOf (at i L)) i (map (actOf Reset) L) (addressed-slots code (opening code) (writeBits t bytes)) own among
-      ∙ goes-answers sent _ _ _ goes)
+      ∙ goes-answers sent (kindsOf (map (actOf Reset) L)) _ _ goes)

@@ -6,9 +6,11 @@ use mathlib.Core.List.{List, [], _∷_, _++_, map}
 use mathlib.Core.Path.{_≡_}
 use lib.ListN.{length}
 use Rattle.base.specs.Bits.{bitOf}
+use Rattle.line.specs.Event.{askedBy}
 use Rattle.line.specs.declared.Event.{Event}
-use Rattle.search.specs.Host.{slotEvent, resetEvent}
-use Rattle.runs.specs.Sorts.{Sort, slot, reset, powerOn, levels, unknown, sortOf}
+use Rattle.line.specs.declared.Plan.{Plan}
+use Rattle.line.specs.declared.Plan.the-variants as plan
+use Rattle.line.specs.Events.{slotEvent, resetEvent}
 
 -- so many bits of a number from a place on, least significant first
 abbrev pub bitsFrom : ℕ → ℕ → ℕ → List Bool
@@ -25,28 +27,28 @@ abbrev pub opening : ℕ → List Bool
 opening code = bitsFrom 8 0 0x55 ++ bitsFrom 64 0 code
 
 -- the bits of an opening that are still to come after an event; none, where slots are free
-abbrev pub toCome : ℕ → List Bool → Sort → List Bool
-toCome code [] (slot v) = []
-toCome code (b ∷ bs) (slot v) = bs
-toCome code bs reset = opening code
-toCome code bs powerOn = []
-toCome code bs (levels i l) = bs
-toCome code bs unknown = bs
+abbrev pub toCome : ℕ → List Bool → Plan → List Bool
+toCome code [] (plan.Slot v) = []
+toCome code (b ∷ bs) (plan.Slot v) = bs
+toCome code bs plan.Reset = opening code
+toCome code bs plan.PowerOn = []
+toCome code bs (plan.Levels i l) = bs
+toCome code bs (plan.Refused r) = bs
 
 -- a slot has the bit that is next to come
-abbrev pub Next : List Bool → Sort → Type 0
-Next [] (slot v) = Unit
-Next (b ∷ bs) (slot v) = v ≡ b
-Next bs reset = Unit
-Next bs powerOn = Unit
-Next bs (levels i l) = Unit
-Next bs unknown = Unit
+abbrev pub Next : List Bool → Plan → Type 0
+Next [] (plan.Slot v) = Unit
+Next (b ∷ bs) (plan.Slot v) = v ≡ b
+Next bs plan.Reset = Unit
+Next bs plan.PowerOn = Unit
+Next bs (plan.Levels i l) = Unit
+Next bs (plan.Refused r) = Unit
 
 -- with these bits of an opening to come, every session of a history opens by matching the code, or is cut inside its opening;
 -- power on and levels may stand anywhere
 abbrev pub Addressed : ℕ → List Bool → List Event → Type 0
 Addressed code bs [] = Unit
-Addressed code bs (e ∷ es) = Next bs (sortOf e) × Addressed code (toCome code bs (sortOf e)) es
+Addressed code bs (e ∷ es) = Next bs (askedBy e) × Addressed code (toCome code bs (askedBy e)) es
 
 -- slots of these bits
 abbrev pub slots : List Bool → List Event

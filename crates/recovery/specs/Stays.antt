@@ -1,16 +1,18 @@
 -- What no event changes: a chip's code and kind, its good standing, and the latches and levels of a DS28EC20.
 use Prim.Native.Nat.{ℕ, suc, _≤_}
 use native.Mathlib.Omega.{arith}
-use mathlib.Core.Bool.{Bool, true}
+use mathlib.Core.Bool.{Bool, true, false, true≢false}
 use mathlib.Core.List.{List, [], _∷_, map}
 use mathlib.Core.Path.{_≡_, refl, _∙_, ap, sym}
 use lib.Dec.{eqb}
 use lib.ListN.{length}
 use borrow.Author.Tests.{eqb-true}
-use Rattle.base.specs.Pick.{pick-false}
+use Rattle.base.specs.Pick.{pick-false, pick-both, pick-if}
 use Rattle.base.specs.Both.{both-holds}
 use Rattle.ds2413.specs.Switch.{phaseInRange}
-use Rattle.chip.specs.Chip.{Whole, romSlot, functionSlot, memorySlot, levelTakes, takesOf, resetChip, resetOf, powerOnChip, powerOnOf, levelsOf}
+use Rattle.chip.specs.Kinds.{hasSwitch, takesLevels}
+use Rattle.chip.specs.declared.ChipAfter.{ChipAfter}
+use Rattle.chip.specs.Chip.{Whole, romSlot, functionIn, functionSlot, memorySlot, levelTakes, takesOf, resetChip, resetOf, powerOnChip, powerOnOf, levelsOf}
 use Rattle.chip.specs.Range.{levelInRange}
 use Rattle.chip.specs.declared.Chip.{Chip}
 use Rattle.chip.specs.declared.Level.{Level}
@@ -20,7 +22,6 @@ use Rattle.line.specs.declared.Act.{Act}
 use Rattle.line.specs.declared.Act.the-variants.{Take, Reset, PowerOn}
 use Rattle.line.specs.declared.Event.{Event}
 use Rattle.runs.specs.Runs.{at, run, codesOf}
-use Rattle.runs.specs.Range.{pick-both}
 use Rattle.runs.specs.Keeps.{Good, act-good, act-named, levels-good, levels-named}
 use Rattle.runs.specs.Kept.{Each, each-at, each-map, run-kept}
 
@@ -45,32 +46,45 @@ stays-onto w u x p q =
       pins = λ g e. q .pins (p .good g) (p .kind ∙ e) ∙ p .pins g e;
     }
 
--- a kind is not 1 and 2
-pub not-both : (k : ℕ) → k ≡ 1 → k ≡ 2 → ⊥
-not-both k e f = omega arith
+-- a DS28EC20 has no latches
+no-switch : (k : ℕ) → k ≡ 1 → hasSwitch k ≡ true → ⊥
+unfolding hasSwitch
+no-switch k e f = true≢false (sym f ∙ ap (λ (n : ℕ). eqb n 2) e)
+
+-- and event 4 does not take it
+pub not-both : (k : ℕ) → k ≡ 1 → takesLevels k ≡ true → ⊥
+unfolding takesLevels
+not-both k e f = no-switch k e f
+
+-- a function command leaves the latches and levels of a DS28EC20
+function-pins : (c : Chip) (b : ℕ) → c .kind ≡ 1 → functionIn c b .chip .switch ≡ c .switch
+unfolding functionIn
+function-pins c b e =
+    pick-both (λ (t : ChipAfter). t .chip .switch ≡ c .switch) _ _ _ refl
+    (pick-if (λ (t : ChipAfter). t .chip .switch ≡ c .switch) _ _ _ (λ f. absurd (no-switch (c .kind) e f)) (λ f. refl))
 
 -- a slot leaves the latches and levels of a DS28EC20
 level-pins : (w : Whole) (v : Bool) (l : Level) → levelInRange (w .chip .kind) l ≡ true → w .chip .kind ≡ 1 → levelTakes w v l .chip .switch ≡ w .chip .switch
 unfolding romSlot functionSlot memorySlot
 level-pins w v Waiting h e = refl
 level-pins w v (Rom s) h e = refl
-level-pins w v (FunctionCommand count bits) h e = pick-both (λ (c : Chip). c .switch ≡ w .chip .switch) _ _ _ refl refl
+level-pins w v (FunctionCommand count bits) h e = pick-both (λ (t : ChipAfter). t .chip .switch ≡ w .chip .switch) _ _ _ refl (function-pins (w .chip) _ e)
 level-pins w v (Memory p) h e = refl
-level-pins w v (Pio p) h e = absurd (not-both (w .chip .kind) e (eqb-true (w .chip .kind) 2 (both-holds (eqb (w .chip .kind) 2) (phaseInRange p) h .0)))
+level-pins w v (Pio p) h e = absurd (no-switch (w .chip .kind) e (both-holds (hasSwitch (w .chip .kind)) (phaseInRange p) h .0))
 
 -- so does every act
 act-pins : (a : Act) (w : Whole) → Good w → w .chip .kind ≡ 1 → actOf a w .chip .switch ≡ w .chip .switch
-unfolding takesOf resetOf resetChip powerOnOf powerOnChip
+unfolding takesOf resetOf resetChip powerOnOf powerOnChip hasSwitch
 act-pins (Take v) w g e = level-pins w v (w .chip .level) (g .range .place) e
 act-pins Reset w g e = refl
-act-pins PowerOn w g e = pick-false (eqb (w .chip .kind) 2) _ _ (ap (λ (k : ℕ). eqb k 2) e)
+act-pins PowerOn w g e = pick-false (hasSwitch (w .chip .kind)) _ _ (ap (λ (k : ℕ). eqb k 2) e)
 
 -- every act
 act-stays : (a : Act) (w : Whole) → Stays w (actOf a w)
 act-stays a w = record { code = act-named a w .0; kind = act-named a w .1; good = act-good a w; pins = act-pins a w }
 
 -- outside levels of a DS2413
-levels-stays : (l : ℕ) (w : Whole) → w .chip .kind ≡ 2 → l ≤ 3 → Stays w (levelsOf l w)
+levels-stays : (l : ℕ) (w : Whole) → takesLevels (w .chip .kind) ≡ true → l ≤ 3 → Stays w (levelsOf l w)
 levels-stays l w e h =
     record { code = levels-named l w .0; kind = levels-named l w .1; good = levels-good l w h; pins = λ g k. absurd (not-both (w .chip .kind) k e) }
 

@@ -18,8 +18,14 @@ use Rattle.scratchpad.specs.Registers.{registers, withE, targetOf}
 use Rattle.scratchpad.specs.Scratchpad.{memoryFunction, crcOfAddress, addressIn, writeAddress, afterByte, byteIn, writeData, inPage}
 use Rattle.scratchpad.specs.declared.Registers.{Registers}
 use Rattle.scratchpad.specs.declared.MemoryPhase.the-variants.{WriteAddress, WriteData, SendCrc}
-use Rattle.ds28ec20.specs.Image.{ruleAt, sightOf}
-use Rattle.chip.specs.Chip.{Whole, whole, chipWith, romSlot, functionLevel, functionSlot, memoryStep, memorySlot, takesOf, sendsOf}
+use Rattle.ds28ec20.specs.Map.{ds28ec20}
+use Rattle.scratchpad.specs.Map.{ruleBy}
+use Rattle.scratchpad.specs.Scratchpad.{byteAtHand, memoryBegins}
+use Rattle.memory.specs.Part.{mapOf}
+use Rattle.memory.specs.Memory.{ruleAt}
+use Rattle.chip.specs.Kinds.{partOf, hasMemory, knowsOf}
+use Rattle.chip.specs.With.{withRc, withLevel, withRegisters}
+use Rattle.chip.specs.Chip.{Whole, whole, romSlot, functionIn, functionSlot, memoryLook, memorySight, memorySlot, takesOf, sendsOf}
 use Rattle.chip.specs.declared.Chip.{Chip}
 use Rattle.chip.specs.declared.Level.{Level}
 use Rattle.chip.specs.declared.Level.the-variants.{Rom, FunctionCommand, Memory}
@@ -29,14 +35,14 @@ use Rattle.recovery.specs.Filled.{filledBy, byte-taken, address-taken}
 -- bytes sent to the addresses from a on, each through the rule of a byte
 abbrev pub ruled : List ℕ → ℕ → List ℕ → List ℕ
 ruled m a [] = []
-ruled m a (b ∷ bs) = ruleAt m a b ∷ ruled m (a + 1) bs
+ruled m a (b ∷ bs) = ruleAt ds28ec20 m a b ∷ ruled m (a + 1) bs
 
 -- the chip after the write: T, E/S 1Fh, RC 1, the CRC-16 of command, address and bytes to be sent, the scratchpad ruled; code,
 -- kind, latches, levels and memory as they were
 unfoldable pub writtenTo : Whole → ℕ → List ℕ → Whole
 writtenTo w t bytes =
     whole
-    (chipWith (w .chip) (Memory (SendCrc 0 (crcOf poly16 0 (0x0F ∷ t % 256 ∷ t / 256 ∷ bytes)))) true (registers t 0x1F) (w .chip .switch))
+    (withLevel (Memory (SendCrc 0 (crcOf poly16 0 (0x0F ∷ t % 256 ∷ t / 256 ∷ bytes)))) (withRc true (withRegisters (registers t 0x1F) (w .chip))))
     (w .memory)
     (ruled (w .memory) t bytes)
 
@@ -121,7 +127,7 @@ module _ (c : Chip) (m : List ℕ) where
 
   -- 0Fh
   goes-0F : (r : Registers) (s : List ℕ) → Goes (bitsFrom 8 0 0x0F) (ec20 (FunctionCommand 0 0) true r s) (ec20 (Memory (WriteAddress 0 0)) true r s)
-  unfolding sendsOf takesOf functionSlot functionLevel memoryFunction filled bitOf pick
+  unfolding sendsOf takesOf functionSlot functionIn hasMemory memoryBegins memoryFunction filled bitOf pick
   goes-0F r s = (refl, (refl, (refl, (refl, (refl, (refl, (refl, (refl, refl))))))))
 
   -- a chip that has the address
@@ -130,7 +136,7 @@ module _ (c : Chip) (m : List ℕ) where
 
   -- the 16 bits of an address, as the register takes them
   goes-bits : (t : ℕ) (r : Registers) (s : List ℕ) → Goes (bitsFrom 16 0 t) (ec20 (Memory (WriteAddress 0 0)) true r s) (addressed s (filledBy 0x8000 0 (bitsFrom 16 0 t)))
-  unfolding sendsOf takesOf memorySlot memoryStep writeAddress addressIn targetOf pick
+  unfolding sendsOf takesOf memorySlot writeAddress addressIn targetOf pick
   goes-bits t r s = (refl, (refl, (refl, (refl, (refl, (refl, (refl, (refl, (refl, (refl, (refl, (refl, (refl, (refl, (refl, (refl, refl))))))))))))))))
 
   -- an address
@@ -140,11 +146,11 @@ module _ (c : Chip) (m : List ℕ) where
   module _ (t : ℕ) where
     -- a chip that has the byte x at offset o
     abbrev put : ℕ → ℕ → ℕ → List ℕ → ℕ → Whole
-    put o crc es s x = ec20 (Memory (afterByte o (crcByte poly16 crc x))) true (registers t (withE es o)) (set s o (ruleAt m (inPage t o) x))
+    put o crc es s x = ec20 (Memory (afterByte o (crcByte poly16 crc x))) true (registers t (withE es o)) (set s o (ruleAt ds28ec20 m (inPage t o) x))
 
     -- the 8 bits of a byte, as the register takes them
     goes-eight : (b o crc es : ℕ) (s : List ℕ) → Goes (bitsFrom 8 0 b) (ec20 (Memory (WriteData o 0 0 crc)) true (registers t es) s) (put o crc es s (filledBy 0x80 0 (bitsFrom 8 0 b)))
-    unfolding sendsOf takesOf memorySlot memoryStep sightOf writeData byteIn ruleAt pick
+    unfolding sendsOf takesOf memorySlot memorySight memoryLook byteAtHand partOf mapOf writeData byteIn ruleAt ruleBy pick
     goes-eight b o crc es s = (refl, (refl, (refl, (refl, (refl, (refl, (refl, (refl, refl))))))))
 
     -- a byte
@@ -159,24 +165,24 @@ module _ (c : Chip) (m : List ℕ) where
     goes-data [] b o crc es s z e l h (k, ks) =
         let q : o ≡ 31 = omega arith in
         let d : length s ≤ suc o = omega arith in
-        let x = ruleAt m (inPage t o) b in
+        let x = ruleAt ds28ec20 m (inPage t o) b in
         let p = after-last o (crcByte poly16 crc b) (omega arith) in
         let u : withE es o ≡ 0x1F = with-e es o h (omega arith) ∙ q in
-        let r : set s o x ≡ take o s ++ (ruleAt m (t + o) b ∷ [])
-        = set-split s o x (omega arith) ∙ ap (λ (y : List ℕ). take o s ++ (x ∷ y)) (drop-of-length-le s d) ∙ ap (λ (a : ℕ). take o s ++ (ruleAt m a b ∷ [])) (in-page t o z) in
+        let r : set s o x ≡ take o s ++ (ruleAt ds28ec20 m (t + o) b ∷ [])
+        = set-split s o x (omega arith) ∙ ap (λ (y : List ℕ). take o s ++ (x ∷ y)) (drop-of-length-le s d) ∙ ap (λ (a : ℕ). take o s ++ (ruleAt ds28ec20 m a b ∷ [])) (in-page t o z) in
         goes-append (bitsFrom 8 0 b) [] _ _ _ (goes-byte b o crc es s k) (λ j. ec20 (Memory (p j)) true (registers t (u j)) (r j))
     goes-data (y ∷ bs) b o crc es s z e l h (k, ks) =
-        let x = ruleAt m (inPage t o) b in
+        let x = ruleAt ds28ec20 m (inPage t o) b in
         let n = crcByte poly16 crc b in
         let p = after-more o n (omega arith) in
         let u = with-e es o h (omega arith) in
         let a : t + (o + 1) ≡ t + o + 1 = omega arith in
-        let r : take (o + 1) (set s o x) ++ ruled m (t + (o + 1)) (y ∷ bs) ≡ take o s ++ (ruleAt m (t + o) b ∷ ruled m (t + o + 1) (y ∷ bs))
+        let r : take (o + 1) (set s o x) ++ ruled m (t + (o + 1)) (y ∷ bs) ≡ take o s ++ (ruleAt ds28ec20 m (t + o) b ∷ ruled m (t + o + 1) (y ∷ bs))
         = ap (λ (v : ℕ). take (o + 1) (set s o x) ++ ruled m v (y ∷ bs)) a
         ∙ ap (λ (v : ℕ). take v (set s o x) ++ ruled m (t + o + 1) (y ∷ bs)) (add-one o)
         ∙ ap (λ (v : List ℕ). v ++ ruled m (t + o + 1) (y ∷ bs)) (take-suc-set s o x (omega arith))
         ∙ append-assoc (take o s) (x ∷ []) (ruled m (t + o + 1) (y ∷ bs))
-        ∙ ap (λ (v : ℕ). take o s ++ (ruleAt m v b ∷ ruled m (t + o + 1) (y ∷ bs))) (in-page t o z) in
+        ∙ ap (λ (v : ℕ). take o s ++ (ruleAt ds28ec20 m v b ∷ ruled m (t + o + 1) (y ∷ bs))) (in-page t o z) in
         goes-append (bitsFrom 8 0 b) (bitsOf (y ∷ bs)) _ _ _ (goes-byte b o crc es s k)
         (goes-from (bitsOf (y ∷ bs)) _ _ _ (λ j. ec20 (Memory (p j)) true (registers t (u j)) (set s o x))
         (goes-to (bitsOf (y ∷ bs)) _ _ _

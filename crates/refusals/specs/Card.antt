@@ -6,14 +6,13 @@ use mathlib.Core.List.{List}
 use mathlib.Core.Path.{_≡_, refl, _∙_, ap, sym}
 use lib.Dec.{eqb, ltb, leb}
 use lib.ListN.{length}
-use Rattle.base.specs.Pick.{pick}
-use Rattle.chip.specs.Range.{knownKind}
+use Rattle.base.specs.Pick.{pick, pick-of}
+use Rattle.chip.specs.Kinds.{knownKind}
 use Rattle.records.specs.Records.{pairAt, headAt}
 use Rattle.records.specs.declared.Head.{Head}
 use Rattle.card.specs.Card.{codeAt, cutEntry, wholeEntry, entryOf, entryAt}
 use Rattle.card.specs.declared.Entry.{Entry}
 use Rattle.card.specs.declared.Entry.the-variants.{Done, Taken, TooMany, UnknownKind, WrongLength}
-use Rattle.line.specs.Prefix.{pick-of}
 use Rattle.refusals.specs.Exactly.{Iff, by-else, by-then, by-left, by-either, by-neither}
 
 -- entries of different sorts differ

@@ -6,14 +6,16 @@ use mathlib.Core.Bool.{Bool, true, false}
 use mathlib.Core.List.{List}
 use mathlib.Core.Path.{_≡_, refl, _∙_, ap, sym}
 use lib.Dec.{leb}
-use Rattle.base.specs.Pick.{pick}
+use lib.ListN.{length, take, getD}
+use Rattle.base.specs.Pick.{pick, pick-if, pick-of}
 use Rattle.chip.specs.declared.Chip.{Chip}
-use Rattle.line.specs.Line.{busBit}
-use Rattle.line.specs.Layout.{lineOf, Lent, lent}
-use Rattle.line.specs.Event.{Answered, bit, refused, tableInRange, sizesFit, levelsFit, Outcome, outcome, happens, acceptedOf, eventOf}
+use Rattle.chip.specs.Chip.{Whole}
+use Rattle.line.specs.Layout.{lineOf, lent}
+use Rattle.line.specs.Event.{Answered, bit, refused, noChip, tableInRange, sizesFit, levelsFit, verdictOf, outcome, askedBy, planBy, planEvent, planIn, planOf, answerBy, doneOf, eventOf}
 use Rattle.line.specs.declared.Event.{Event}
-use Rattle.runs.specs.Range.{pick-if}
-use Rattle.line.specs.Prefix.{pick-of}
+use Rattle.line.specs.declared.Verdict.{Verdict}
+use Rattle.line.specs.declared.Plan.{Plan}
+use Rattle.line.specs.declared.Plan.the-variants as plan
 use Rattle.refusals.specs.Exactly.{Iff, by-else, by-then, by-neither}
 
 -- an answer with the number r
@@ -27,34 +29,61 @@ no-bit : (b : Bool) (s : ℕ) → bit b ≡ refused s → ⊥
 no-bit b s e = let z : _≡_ {A = ℕ} 0 1 = cc in omega arith
 
 module _ (n : ℕ) (cs : List Chip) (e : Event) (ms ss : List ℕ) where
+  abbrev line : List Whole
+  line = lineOf n cs ms ss
+
+  abbrev fits : Bool
+  fits = levelsFit e (length (take n cs)) (getD (take n cs) (e .chip) noChip .kind)
+
+  -- what is answered where nothing is refused
+  abbrev said : Answered
+  said = answerBy (askedBy e) line
+
   -- what an event answers, by what it is judged by
   abbrev judged : Answered
   judged =
       pick (tableInRange n cs)
       (pick (sizesFit n cs ms ss)
       (pick (leb (e .number) 4)
-      (pick (levelsFit e n cs) (bit (busBit e (lineOf n cs ms ss))) (refused 7))
+      (pick fits said (refused 7))
       (refused 6))
       (refused 5))
       (refused 8)
 
+  done-answer : (p : Plan) → doneOf p n cs ms ss .answer ≡ answerBy p line
+  done-answer (plan.Refused r) = refl
+  done-answer (plan.Slot b) = refl
+  done-answer plan.Reset = refl
+  done-answer plan.PowerOn = refl
+  done-answer (plan.Levels i l) = refl
+
   answer-is : eventOf n cs e ms ss .answer ≡ judged
-  unfolding eventOf acceptedOf happens
+  unfolding eventOf planOf verdictOf planEvent
   answer-is =
-      pick-of (λ (o : Outcome). o .answer) _ _ _
+      let f : Verdict → Answered = λ (q : Verdict). answerBy (planBy q (planIn (take n cs) e)) line in
+      let g : Verdict → Answered = λ (q : Verdict). answerBy (planBy q (askedBy e)) line in
+      done-answer (planOf n cs e ms ss)
+      ∙ pick-of f _ _ _
       ∙ ap (λ (x : Answered). pick (tableInRange n cs) x (refused 8))
-      (pick-of (λ (o : Outcome). o .answer) _ _ _
+      (pick-of f _ _ _
       ∙ ap (λ (x : Answered). pick (sizesFit n cs ms ss) x (refused 5))
-      (pick-of (λ (o : Outcome). o .answer) _ _ _
-      ∙ ap (λ (x : Answered). pick (leb (e .number) 4) x (refused 6)) (pick-of (λ (o : Outcome). o .answer) _ _ _)))
+      (pick-of g _ _ _
+      ∙ ap (λ (x : Answered). pick (leb (e .number) 4) x (refused 6)) (pick-of g _ _ _)))
 
   answers : (s : ℕ) {B : Type 0} → Iff (judged ≡ refused s) B → Iff (eventOf n cs e ms ss .answer ≡ refused s) B
   answers s i = ((λ p. i .0 (sym answer-is ∙ p)), (λ p. answer-is ∙ i .1 p))
 
-  past-7 : (s : ℕ) → (7 ≡ s → ⊥) → pick (levelsFit e n cs) (bit (busBit e (lineOf n cs ms ss))) (refused 7) ≡ refused s → ⊥
-  past-7 s k = by-neither (levelsFit e n cs) _ _ _ (no-bit _ s) (numbered 7 s k)
+  said-bit : (s : ℕ) → said ≡ refused s → ⊥
+  unfolding askedBy
+  said-bit s =
+      pick-if (λ (p : Plan). answerBy p line ≡ refused s → ⊥) _ _ _ (λ a. no-bit _ s)
+      (λ a. pick-if (λ (p : Plan). answerBy p line ≡ refused s → ⊥) _ _ _ (λ b. no-bit _ s)
+      (λ b. pick-if (λ (p : Plan). answerBy p line ≡ refused s → ⊥) _ _ _ (λ c. no-bit _ s) (λ c. no-bit _ s)))
 
-  past-6 : (s : ℕ) → (7 ≡ s → ⊥) → (6 ≡ s → ⊥) → pick (leb (e .number) 4) (pick (levelsFit e n cs) (bit (busBit e (lineOf n cs ms ss))) (refused 7)) (refused 6) ≡ refused s → ⊥
+  past-7 : (s : ℕ) → (7 ≡ s → ⊥) → pick fits said (refused 7) ≡ refused s → ⊥
+  past-7 s k = by-neither fits _ _ _ (said-bit s) (numbered 7 s k)
+
+  past-6 : (s : ℕ) → (7 ≡ s → ⊥) → (6 ≡ s → ⊥) → pick (leb (e .number) 4) (pick fits said (refused 7)) (refused 6) ≡ refused s → ⊥
   past-6 s k j = by-neither (leb (e .number) 4) _ _ _ (past-7 s k) (numbered 6 s j)
 
   -- 8: "the table has over 16 chips, or a field lies outside its range"
@@ -77,27 +106,21 @@ module _ (n : ℕ) (cs : List Chip) (e : Event) (ms ss : List ℕ) where
       (by-else (leb (e .number) 4) _ _ (past-7 6 (λ p. omega arith)))))
 
   -- 7, where none of these: "event 4 names an absent chip, one of kind 1, or levels over 3"
-  pub refused-7 : Iff (eventOf n cs e ms ss .answer ≡ refused 7) ((tableInRange n cs ≡ true) × ((sizesFit n cs ms ss ≡ true) × ((leb (e .number) 4 ≡ true) × (levelsFit e n cs ≡ false))))
+  pub refused-7 : Iff (eventOf n cs e ms ss .answer ≡ refused 7) ((tableInRange n cs ≡ true) × ((sizesFit n cs ms ss ≡ true) × ((leb (e .number) 4 ≡ true) × (fits ≡ false))))
   refused-7 =
       answers 7 (by-then _ (tableInRange n cs) _ _ _ (numbered 8 7 (λ p. omega arith))
       (by-then _ (sizesFit n cs ms ss) _ _ _ (numbered 5 7 (λ p. omega arith))
       (by-then _ (leb (e .number) 4) _ _ _ (numbered 6 7 (λ p. omega arith))
-      (by-else (levelsFit e n cs) _ _ (no-bit _ 7)))))
+      (by-else fits _ _ (said-bit 7)))))
 
   -- a refused event leaves table, images and scratchpads as they were
-  abbrev Untouched : Outcome → Type 0
-  Untouched o = (r : ℕ) → o .answer ≡ refused r → o ≡ outcome (refused r) n (lent cs ms ss)
-
-  plainly : (s : ℕ) → Untouched (outcome (refused s) n (lent cs ms ss))
-  plainly s r p = ap (λ (x : Answered). outcome x n (lent cs ms ss)) p
-
   pub refused-leaves : (r : ℕ) → eventOf n cs e ms ss .answer ≡ refused r → eventOf n cs e ms ss ≡ outcome (refused r) n (lent cs ms ss)
-  unfolding eventOf acceptedOf happens
-  refused-leaves =
-      pick-if Untouched _ _ _
-      (λ a. pick-if Untouched _ _ _
-      (λ b. pick-if Untouched _ _ _
-      (λ c. pick-if Untouched _ _ _ (λ d r p. absurd (no-bit _ r p)) (λ d. plainly 7))
-      (λ c. plainly 6))
-      (λ b. plainly 5))
-      (λ a. plainly 8)
+  unfolding eventOf
+  refused-leaves r = go (planOf n cs e ms ss)
+    where
+      go : (p : Plan) → doneOf p n cs ms ss .answer ≡ refused r → doneOf p n cs ms ss ≡ outcome (refused r) n (lent cs ms ss)
+      go (plan.Refused q) h = ap (λ (x : Answered). outcome x n (lent cs ms ss)) h
+      go (plan.Slot b) h = absurd (no-bit _ r h)
+      go plan.Reset h = absurd (no-bit _ r h)
+      go plan.PowerOn h = absurd (no-bit _ r h)
+      go (plan.Levels i l) h = absurd (no-bit _ r h)

@@ -5,12 +5,11 @@ use mathlib.Core.Bool.{Bool, true, false}
 use mathlib.Core.List.{List}
 use mathlib.Core.Path.{_≡_, refl, _∙_, ap, sym}
 use lib.ListN.{length}
-use Rattle.base.specs.Pick.{pick}
-use Rattle.line.specs.Event.{tableInRange, sizesFit}
+use Rattle.base.specs.Pick.{pick, pick-if, pick-of}
+use Rattle.line.specs.Event.{tableInRange, sizesFit, verdictOf}
+use Rattle.line.specs.declared.Verdict.{Verdict}
 use Rattle.search.specs.Host.{Played, Listed, play, searchHost}
-use Rattle.search.specs.Search.{Searched, complete, refused, completeOr4, Attached, wire, Search, outcome, fromPlayed, searchOf}
-use Rattle.runs.specs.Range.{pick-if}
-use Rattle.line.specs.Prefix.{pick-of}
+use Rattle.search.specs.Search.{Searched, complete, refused, completeOr4, Attached, wire, Search, outcome, searchBy, searchOf}
 use Rattle.refusals.specs.Exactly.{Iff, by-else, by-then, by-neither}
 
 numbered : (r s : ℕ) → (r ≡ s → ⊥) → refused r ≡ refused s → ⊥
@@ -34,10 +33,10 @@ module _ (list : List ℕ) (l : Attached) where
   whole = play wire (searchHost (length list)) l .result .complete
 
   answer-is : searchOf list l .answer ≡ pick ranged (pick sized (completeOr4 whole) (refused 5)) (refused 8)
-  unfolding searchOf
+  unfolding searchOf verdictOf
   answer-is =
-      pick-of (λ (o : Search). o .answer) _ _ _
-      ∙ ap (λ (x : Searched). pick ranged x (refused 8)) (pick-of (λ (o : Search). o .answer) _ _ _)
+      let f : Verdict → Searched = λ (v : Verdict). searchBy v list l .answer in
+      pick-of f _ _ _ ∙ ap (λ (x : Searched). pick ranged x (refused 8)) (pick-of f _ _ _)
 
   answers : (s : ℕ) {B : Type 0} → Iff (pick ranged (pick sized (completeOr4 whole) (refused 5)) (refused 8) ≡ refused s) B → Iff (searchOf list l .answer ≡ refused s) B
   answers s i = ((λ p. i .0 (sym answer-is ∙ p)), (λ p. answer-is ∙ i .1 p))
@@ -65,8 +64,8 @@ module _ (list : List ℕ) (l : Attached) where
   plainly s r k p = ap (λ (x : Searched). outcome x 0 list 0 0 l) p
 
   pub refused-eventless : (r : ℕ) → (r ≡ 4 → ⊥) → searchOf list l .answer ≡ refused r → searchOf list l ≡ outcome (refused r) 0 list 0 0 l
-  unfolding searchOf
+  unfolding searchOf verdictOf
   refused-eventless =
-      pick-if Eventless _ _ _
-      (λ a. pick-if Eventless _ _ _ (λ b r k p. absurd (past-4 r (λ q. k (sym q)) p)) (λ b. plainly 5))
+      pick-if (λ (v : Verdict). Eventless (searchBy v list l)) _ _ _
+      (λ a. pick-if (λ (v : Verdict). Eventless (searchBy v list l)) _ _ _ (λ b r k p. absurd (past-4 r (λ q. k (sym q)) p)) (λ b. plainly 5))
       (λ a. plainly 8)

@@ -5,6 +5,7 @@ use lib.Dec.{eqb, ltb}
 use Rattle.base.specs.Pick.{pick}
 use Rattle.base.specs.Bits.{bitOf, same, both, filled}
 use Rattle.rom.specs.declared.RomResult.{RomResult}
+use Rattle.rom.specs.declared.Knows.{Knows}
 use Rattle.rom.specs.declared.RomNext.{RomNext}
 use Rattle.rom.specs.declared.RomNext.the-variants.{Wait, Step, Function}
 use Rattle.rom.specs.declared.RomStep.{RomStep}
@@ -14,9 +15,9 @@ use Rattle.rom.specs.declared.RomStep.the-variants.{Command, Read, Match
 abbrev pub rom : RomNext → Bool → RomResult
 rom next rc = record { next = next; rc = rc }
 
--- the ROM command b, once its eight bits are in
-unfoldable pub commandOf : Bool → ℕ → RomResult
-commandOf rc b =
+-- the ROM command b, once its eight bits are in, by what the chip knows
+unfoldable pub commandOf : Knows → Bool → ℕ → RomResult
+commandOf k rc b =
     -- "33h: RC = 0, send the 64 bits, go to the function level."
     pick (eqb b 0x33) (rom (Step (Read 0)) false)
     -- "55h: RC = 0, then take 64 bits."
@@ -25,16 +26,16 @@ commandOf rc b =
     (pick (eqb b 0xF0) (rom (Step (Search 0 0)) false)
     -- "CCh: RC = 0, function level."
     (pick (eqb b 0xCC) (rom Function false)
-    -- "A5h: function level if RC = 1, otherwise wait."
-    (pick (eqb b 0xA5) (pick rc (rom Function rc) (rom Wait rc))
+    -- "A5h: function level if RC = 1, otherwise wait.", of a chip that knows Resume
+    (pick (eqb b 0xA5) (pick (both (k .resume) rc) (rom Function rc) (rom Wait rc))
     -- "Any other, 3Ch and 69h too: wait, RC unchanged (here)."
     (rom Wait rc)))))
 
 -- "After a reset every chip takes 8 bits, least significant first."
-unfoldable pub commandBit : Bool → ℕ → ℕ → Bool → RomResult
-commandBit rc count bits v =
+unfoldable pub commandBit : Knows → Bool → ℕ → ℕ → Bool → RomResult
+commandBit k rc count bits v =
     pick (ltb count 7) (rom (Step (Command (count + 1) (filled 0x80 bits v))) rc)
-    (commandOf rc (filled 0x80 bits v))
+    (commandOf k rc (filled 0x80 bits v))
 
 -- a bit of the code was sent; after the 64th comes the function level
 unfoldable pub readBit : Bool → ℕ → RomResult
@@ -56,11 +57,11 @@ searchBit code rc place step v =
     (rom Wait rc))
 
 -- what a slot of the value v does at each step
-abbrev pub romTakes : ℕ → Bool → Bool → RomStep → RomResult
-romTakes code rc v (Command count bits) = commandBit rc count bits v
-romTakes code rc v (Read place) = readBit rc place
-romTakes code rc v (Match place) = matchBit code rc place v
-romTakes code rc v (Search place step) = searchBit code rc place step v
+abbrev pub romTakes : ℕ → Bool → Bool → Knows → RomStep → RomResult
+romTakes code rc v k (Command count bits) = commandBit k rc count bits v
+romTakes code rc v k (Read place) = readBit rc place
+romTakes code rc v k (Match place) = matchBit code rc place v
+romTakes code rc v k (Search place step) = searchBit code rc place step v
 
 -- the bit, its complement, and nothing while the chip takes one
 unfoldable pub searchSends : ℕ → ℕ → ℕ → Bool

@@ -27,10 +27,16 @@ pub struct RomResult {
     pub rc: bool,
 }
 
+// What a chip knows of the ROM commands that not every chip knows: Resume.
+pub struct Knows {
+    pub resume: bool,
+}
+
 // What a ROM command does, once its eight bits are in.
-pub fn command(rc: bool, b: u8) -> RomResult
-    ensures { λ r. ⌜ r ≡ commandOf rc b ⌝ }
+pub fn command(knows: Knows, rc: bool, b: u8) -> RomResult
+    ensures { λ r. ⌜ r ≡ commandOf knows rc b ⌝ }
 {
+    let resumes = base::are_both(knows.resume, rc);
     if b == 0x33 {
         return RomResult {
             next: RomNext::Step(RomStep::Read { place: 0 }),
@@ -56,7 +62,7 @@ pub fn command(rc: bool, b: u8) -> RomResult
         };
     }
     if b == 0xA5 {
-        if rc {
+        if resumes {
             return RomResult {
                 next: RomNext::Function,
                 rc: rc,
@@ -74,8 +80,8 @@ pub fn command(rc: bool, b: u8) -> RomResult
 }
 
 // A bit of the ROM command.
-pub fn command_bit(rc: bool, count: u8, bits: u8, v: bool) -> RomResult
-    ensures { λ r. ⌜ r ≡ commandBit rc count bits v ⌝ }
+pub fn command_bit(knows: Knows, rc: bool, count: u8, bits: u8, v: bool) -> RomResult
+    ensures { λ r. ⌜ r ≡ commandBit knows rc count bits v ⌝ }
 {
     let b = base::filled8(bits, v);
     if count < 7 {
@@ -87,7 +93,7 @@ pub fn command_bit(rc: bool, count: u8, bits: u8, v: bool) -> RomResult
             rc: rc,
         };
     }
-    command(rc, b)
+    command(knows, rc, b)
 }
 
 // A bit of the code was sent.
@@ -165,11 +171,11 @@ pub fn search_bit(code: u64, rc: bool, place: u8, step: u8, v: bool) -> RomResul
 }
 
 // What a slot of the value v does at a step.
-pub fn takes(code: u64, rc: bool, v: bool, s: RomStep) -> RomResult
-    ensures { λ r. ⌜ r ≡ romTakes code rc v s ⌝ }
+pub fn takes(code: u64, rc: bool, v: bool, knows: Knows, s: RomStep) -> RomResult
+    ensures { λ r. ⌜ r ≡ romTakes code rc v knows s ⌝ }
 {
     match s {
-        RomStep::Command { count, bits } => command_bit(rc, count, bits, v),
+        RomStep::Command { count, bits } => command_bit(knows, rc, count, bits, v),
         RomStep::Read { place } => read_bit(rc, place),
         RomStep::Match { place } => match_bit(code, rc, place, v),
         RomStep::Search { place, step } => search_bit(code, rc, place, step, v),

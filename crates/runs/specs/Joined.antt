@@ -10,7 +10,9 @@ use Rattle.line.specs.Layout.{chipsOf, imagesOf, padsOf, lent}
 use Rattle.line.specs.Event.{Answered}
 use Rattle.line.specs.declared.Event.{Event}
 use Rattle.search.specs.Host.{Host, done, ask, Played, played, more, resetsOf, slotsOf, play, searchHost}
-use Rattle.search.specs.Search.{Attached, saysOf, leavesOf, wire, fromPlayed, searchOf}
+use Rattle.line.specs.Refusals.{well-judged}
+use Rattle.line.specs.declared.Verdict.{Verdict}
+use Rattle.search.specs.Search.{Attached, saysOf, leavesOf, wire, fromPlayed, searchBy, searchOf}
 use Rattle.base.specs.Pick.{pick-true}
 use Rattle.runs.specs.Runs.{answerOf, afterOf, run, answers, lineWire}
 use Rattle.runs.specs.Standing.{Stands, lineFrom, withLine, line-length, put-back, says-is, leaves-is, stands-after, line-after, after-length, length-chips}
@@ -42,7 +44,9 @@ play-joined (ask e f) l s =
 pub search-joined : (list : List ℕ) (l : Attached) → Stands l
     → searchOf list l ≡ fromPlayed list (inTable l (play lineWire (searchHost (length list)) (lineFrom l)))
 unfolding searchOf
-search-joined list l s = (simp (s .range, s .sizes, pick-true)) ∙ ap (fromPlayed list) (play-joined (searchHost (length list)) l s)
+search-joined list l s =
+    ap (λ (v : Verdict). searchBy v list l) (well-judged (l .count) (l .lent .chips) (l .lent .images) (l .lent .pads) (s .range) (s .sizes))
+    ∙ ap (fromPlayed list) (play-joined (searchHost (length list)) l s)
 
 -- a history of the public event on a table with its buffers: what it leaves, and what it answers
 abbrev pub runOn : List Event → Attached → Attached

@@ -5,6 +5,7 @@ use mathlib.Core.Path.{_≡_, refl, _∙_, ap, sym}
 use lib.Dec.{eqb, leb}
 use lib.ListN.{length}
 use borrow.Author.Tests.{le-leb}
+use Rattle.base.specs.Pick.{pick-both, pick-if}
 use Rattle.base.specs.Bits.{both}
 use Rattle.base.specs.Both.{both-holds}
 use Rattle.rom.specs.Rom.{romTakes}
@@ -12,12 +13,18 @@ use Rattle.rom.specs.declared.RomNext.{RomNext}
 use Rattle.rom.specs.declared.RomNext.the-variants as next
 use Rattle.scratchpad.specs.Scratchpad.{memoryInRange, registersInRange}
 use Rattle.scratchpad.specs.declared.Registers.{Registers}
-use Rattle.ds28ec20.specs.Map.{lastAddress}
-use Rattle.ds28ec20.specs.Image.{sightOf}
+use Rattle.scratchpad.specs.Scratchpad.{memoryBegins}
+use Rattle.ds2413.specs.Switch.{switchBegins}
+use Rattle.memory.specs.declared.Seen.{Seen}
+use Rattle.runs.specs.Bounds.{sight-last, sight-end}
+use Rattle.chip.specs.Kinds.{hasMemory, hasSwitch, knowsOf}
+use Rattle.chip.specs.With.{withRc, withLevel}
+use Rattle.chip.specs.declared.ChipAfter.{ChipAfter}
 use Rattle.ds2413.specs.Switch.{switchInRange, phaseInRange, switchPowerOn}
 use Rattle.ds2413.specs.declared.Switch.{Switch}
-use Rattle.chip.specs.Chip.{Whole, chipWith, levelOf, romSlot, functionLevel, functionSlot, memoryStep, memorySlot, switchSlot, levelTakes, takesOf, levelReset, resetChip, resetOf, powerOnChip, powerOnOf, levelsChip, levelsOf}
-use Rattle.chip.specs.Range.{knownKind, levelInRange, inRange, imageSize, padSize}
+use Rattle.chip.specs.Chip.{Whole, chipMap, levelOf, levelSeen, romSlot, functionIn, functionSlot, memorySight, memorySlot, switchSlot, levelTakes, takesOf, levelReset, resetChip, resetOf, powerOnChip, powerOnOf, levelsChip, levelsOf}
+use Rattle.chip.specs.Range.{levelInRange, inRange}
+use Rattle.chip.specs.Kinds.{knownKind, imageSize, padSize}
 use Rattle.chip.specs.declared.Chip.{Chip}
 use Rattle.chip.specs.declared.Level.{Level}
 use Rattle.chip.specs.declared.Level.the-variants.{Waiting, Rom, FunctionCommand, Memory, Pio}
@@ -25,7 +32,7 @@ use Rattle.line.specs.Line.{actOf}
 use Rattle.line.specs.Sizes.{act-sized}
 use Rattle.line.specs.declared.Act.{Act}
 use Rattle.line.specs.declared.Act.the-variants.{Take, Reset, PowerOn}
-use Rattle.runs.specs.Range.{pick-if, pick-both, both-true′, more-below, Clear, clear-of, of-clear, NextInRange, rom-leads, function-in-range, memory-in-range, reset-clear, pio-function, switch-in-range}
+use Rattle.runs.specs.Range.{both-true′, more-below, Clear, clear-of, of-clear, NextInRange, rom-leads, function-in-range, memory-in-range, reset-clear, pio-function, switch-in-range}
 
 -- a record in range, part by part
 pub record InRange (c : Chip) : Type 0 where
@@ -53,45 +60,46 @@ next-level kind (next.Step s) h = h
 next-level kind next.Function h = refl
 
 -- the same chip at another level in range
-at-level : (c : Chip) (l : Level) (rc : Bool) → InRange c → levelInRange (c .kind) l ≡ true → InRange (chipWith c l rc (c .registers) (c .switch))
+at-level : (c : Chip) (l : Level) (rc : Bool) → InRange c → levelInRange (c .kind) l ≡ true → InRange (withLevel l (withRc rc c))
 at-level c l rc h k = record { known = h .known; clear = h .clear; pins = h .pins; place = k }
 
-function-in : (c : Chip) (b : ℕ) → levelInRange (c .kind) (functionLevel c b) ≡ true
-unfolding functionLevel
-function-in c b =
-    pick-if P _ _ _ (λ e. both-true′ _ _ e (function-in-range lastAddress b))
-    (λ e. pick-if P _ _ _ (λ f. both-true′ _ _ f (pio-function (c .switch) b)) (λ f. refl))
-  where
-    P : Level → Type 0
-    P l = levelInRange (c .kind) l ≡ true
+abbrev AfterInRange : ChipAfter → Type 0
+AfterInRange t = InRange (t .chip)
+
+function-in : (c : Chip) (b : ℕ) → InRange c → AfterInRange (functionIn c b)
+unfolding functionIn memoryBegins switchBegins
+function-in c b h =
+    pick-if AfterInRange _ _ _ (λ e. at-level c _ (c .rc) h (both-true′ _ _ e (function-in-range (chipMap c .last) b)))
+    (λ e. pick-if AfterInRange _ _ _ (λ f. at-level c _ (c .rc) h (both-true′ _ _ f (pio-function (c .switch) b))) (λ f. at-level c _ (c .rc) h refl))
 
 level-in : (w : Whole) (v : Bool) (l : Level) → InRange (w .chip) → levelInRange (w .chip .kind) l ≡ true → InRange (levelTakes w v l .chip)
-unfolding romSlot functionSlot memorySlot memoryStep switchSlot sightOf
+unfolding romSlot functionSlot memorySlot memorySight switchSlot
 level-in w v Waiting h k = h
-level-in w v (Rom s) h k = at-level (w .chip) _ _ h (next-level (w .chip .kind) (romTakes (w .chip .code) (w .chip .rc) v s .next) (rom-leads (w .chip .code) (w .chip .rc) v s k))
+level-in w v (Rom s) h k = at-level (w .chip) _ _ h (next-level (w .chip .kind) (romTakes (w .chip .code) (w .chip .rc) v (knowsOf (w .chip .kind)) s .next) (rom-leads (w .chip .code) (w .chip .rc) v (knowsOf (w .chip .kind)) s k))
 level-in w v (FunctionCommand count bits) h k =
-    pick-if InRange _ _ _ (λ e. at-level (w .chip) _ _ h (more-below count 7 e)) (λ e. at-level (w .chip) _ _ h (function-in (w .chip) _))
+    pick-if AfterInRange _ _ _ (λ e. at-level (w .chip) _ (w .chip .rc) h (more-below count 7 e)) (λ e. function-in (w .chip) _ h)
 level-in w v (Memory p) h k =
-    let q = both-holds (eqb (w .chip .kind) 1) (memoryInRange lastAddress p) k in
-    let m = memory-in-range lastAddress (sightOf (w .chip .registers) p (w .memory) (w .pad)) refl (w .chip .registers) v p (h .clear) (q .1) in
+    let q = both-holds (hasMemory (w .chip .kind)) (memoryInRange (chipMap (w .chip) .last) p) k in
+    let x = levelSeen w (Memory p) in
+    let m = memory-in-range (chipMap (w .chip) .last) (memorySight (w .chip) p x) (sight-last (w .chip) p x) (sight-end (w .chip) p x) (w .chip .registers) v p (h .clear) (q .1) in
     record { known = h .known; clear = m .0; pins = h .pins; place = both-true′ _ _ (q .0) (m .1) }
 level-in w v (Pio p) h k =
-    let q = both-holds (eqb (w .chip .kind) 2) (phaseInRange p) k in
+    let q = both-holds (hasSwitch (w .chip .kind)) (phaseInRange p) k in
     let m = switch-in-range (w .chip .switch) v p (h .pins) (q .1) in
     record { known = h .known; clear = h .clear; pins = m .0; place = both-true′ _ _ (q .0) (m .1) }
 
-level-clear : (r : Registers) (l : Level) → Clear (r .es) → Clear (levelReset r l .es)
-level-clear r Waiting h = h
-level-clear r (Rom s) h = h
-level-clear r (FunctionCommand count bits) h = h
-level-clear r (Memory p) h = reset-clear r p h
-level-clear r (Pio p) h = h
+level-clear : (c : Chip) (l : Level) → Clear (c .registers .es) → Clear (levelReset c l .es)
+level-clear c Waiting h = h
+level-clear c (Rom s) h = h
+level-clear c (FunctionCommand count bits) h = h
+level-clear c (Memory p) h = reset-clear (c .registers) (chipMap c .cutSetsPF) p h
+level-clear c (Pio p) h = h
 
 -- every act keeps the ranges
 pub act-in-range : (a : Act) (w : Whole) → InRange (w .chip) → InRange (actOf a w .chip)
 unfolding takesOf resetOf resetChip powerOnOf powerOnChip switchInRange
 act-in-range (Take v) w h = level-in w v (w .chip .level) h (h .place)
-act-in-range Reset w h = record { known = h .known; clear = level-clear (w .chip .registers) (w .chip .level) (h .clear); pins = h .pins; place = refl }
+act-in-range Reset w h = record { known = h .known; clear = level-clear (w .chip) (w .chip .level) (h .clear); pins = h .pins; place = refl }
 act-in-range PowerOn w h =
     record {
       known = h .known;
@@ -107,17 +115,24 @@ act-in-range PowerOn w h =
 pub levels-in-range : (l : ℕ) (w : Whole) → l ≤ 3 → InRange (w .chip) → InRange (levelsOf l w .chip)
 unfolding levelsOf levelsChip switchInRange
 levels-in-range l w k h =
-    record { known = h .known; clear = h .clear; pins = both-true′ _ _ (both-holds (leb (w .chip .switch .latches) 3) (leb (w .chip .switch .levels) 3) (h .pins) .0) (le-leb l 3 k); place = h .place }
+    record {
+      known = h .known;
+      clear = h .clear;
+      pins = pick-both (λ (s : Switch). switchInRange s ≡ true) _ _ _
+          (both-true′ _ _ (both-holds (leb (w .chip .switch .latches) 3) (leb (w .chip .switch .levels) 3) (h .pins) .0) (le-leb l 3 k)) (h .pins);
+      place = h .place;
+    }
 
 -- code and kind stay
 abbrev pub Named : Whole → Whole → Type 0
 Named w u = (u .chip .code ≡ w .chip .code) × (u .chip .kind ≡ w .chip .kind)
 
 level-named : (w : Whole) (v : Bool) (l : Level) → Named w (levelTakes w v l)
-unfolding romSlot functionSlot memorySlot switchSlot
+unfolding romSlot functionSlot functionIn memorySlot switchSlot
 level-named w v Waiting = (refl, refl)
 level-named w v (Rom s) = (refl, refl)
-level-named w v (FunctionCommand count bits) = pick-both (λ (c : Chip). (c .code ≡ w .chip .code) × (c .kind ≡ w .chip .kind)) _ _ _ (refl, refl) (refl, refl)
+level-named w v (FunctionCommand count bits) = pick-both (λ (t : ChipAfter). (t .chip .code ≡ w .chip .code) × (t .chip .kind ≡ w .chip .kind)) _ _ _ (refl, refl)
+    (pick-both (λ (t : ChipAfter). (t .chip .code ≡ w .chip .code) × (t .chip .kind ≡ w .chip .kind)) _ _ _ (refl, refl) (pick-both (λ (t : ChipAfter). (t .chip .code ≡ w .chip .code) × (t .chip .kind ≡ w .chip .kind)) _ _ _ (refl, refl) (refl, refl)))
 level-named w v (Memory p) = (refl, refl)
 level-named w v (Pio p) = (refl, refl)
 

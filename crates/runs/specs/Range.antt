@@ -6,9 +6,10 @@ use mathlib.Core.Bool.{Bool, true, false, not, true≢false}
 use mathlib.Core.Path.{_≡_, refl, _∙_, ap, sym}
 use lib.Dec.{eqb, ltb, leb}
 use borrow.Author.Tests.{ltb-true, eq-eqb, ne-eqb, lt-ltb, le-leb}
-use Rattle.base.specs.Pick.{pick}
+use Rattle.base.specs.Pick.{pick, pick-if, pick-both}
 use Rattle.base.specs.Bits.{bitOf, both}
 use Rattle.base.specs.Both.{both-holds}
+use Rattle.rom.specs.declared.Knows.{Knows}
 use Rattle.rom.specs.Rom.{commandOf, commandBit, readBit, matchBit, searchBit, romTakes, romInRange}
 use Rattle.rom.specs.declared.RomNext.{RomNext}
 use Rattle.rom.specs.declared.RomNext.the-variants as next
@@ -16,7 +17,7 @@ use Rattle.rom.specs.declared.RomStep.{RomStep}
 use Rattle.rom.specs.declared.RomStep.the-variants.{Command, Read, Match, Search}
 use Rattle.rom.specs.declared.RomResult.{RomResult}
 use Rattle.scratchpad.specs.Registers.{withE, withPF, withAA}
-use Rattle.scratchpad.specs.Scratchpad.{memoryFunction, addressIn, writeAddress, afterByte, byteIn, writeData, crcSent, padBegins, registerSent, padByteSent, padSent, copyAddress, authorized, copyEnd, readFrom, readAddress, memorySent, memoryTakes, memoryReset, cutOf, memoryInRange}
+use Rattle.scratchpad.specs.Scratchpad.{memoryFunction, addressIn, writeAddress, afterByte, byteIn, writeData, crcSent, padFrom, padBegins, registerSent, padByteSent, padSent, copyAddress, authorized, copyEnd, readFrom, readAddress, memorySent, memoryTakes, memoryReset, cutOf, addressCut, memoryInRange}
 use Rattle.scratchpad.specs.declared.Registers.{Registers}
 use Rattle.scratchpad.specs.declared.Sight.{Sight}
 use Rattle.scratchpad.specs.declared.MemoryStep.{MemoryStep}
@@ -27,15 +28,6 @@ use Rattle.ds2413.specs.declared.Switch.{Switch}
 use Rattle.ds2413.specs.declared.SwitchStep.{SwitchStep}
 use Rattle.ds2413.specs.declared.SwitchPhase.{SwitchPhase}
 use Rattle.ds2413.specs.declared.SwitchPhase.the-variants as pio
-
--- a choice has what both its ways have, each with what is known of the test
-pub pick-if {ℓ ℓ′} : {A : Type ℓ} (P : A → Type ℓ′) (t : Bool) (a b : A) → (t ≡ true → P a) → (t ≡ false → P b) → P (pick t a b)
-unfolding pick
-pick-if P true a b f g = f refl
-pick-if P false a b f g = g refl
-
-pub pick-both {ℓ ℓ′} : {A : Type ℓ} (P : A → Type ℓ′) (t : Bool) (a b : A) → P a → P b → P (pick t a b)
-pick-both P t a b p q = pick-if P t a b (λ e. p) (λ e. q)
 
 pub both-true′ : (a b : Bool) → a ≡ true → b ≡ true → both a b ≡ true
 unfolding both pick
@@ -57,24 +49,21 @@ NextInRange next.Function = Unit
 abbrev Leads : RomResult → Type 0
 Leads r = NextInRange (r .next)
 
-zero-in : (n : ℕ) → ltb 0 (suc n) ≡ true
-zero-in n = lt-ltb 0 (suc n) (omega arith)
-
-command-leads : (rc : Bool) (b : ℕ) → Leads (commandOf rc b)
+command-leads : (k : Knows) (rc : Bool) (b : ℕ) → Leads (commandOf k rc b)
 unfolding commandOf
-command-leads rc b =
+command-leads k rc b =
     pick-both Leads _ _ _ refl
     (pick-both Leads _ _ _ refl
     (pick-both Leads _ _ _ (both-true′ _ _ refl refl)
     (pick-both Leads _ _ _ tt
     (pick-both Leads _ _ _ (pick-both Leads _ _ _ tt tt) tt))))
 
-pub rom-leads : (code : ℕ) (rc v : Bool) (s : RomStep) → romInRange s ≡ true → NextInRange (romTakes code rc v s .next)
+pub rom-leads : (code : ℕ) (rc v : Bool) (k : Knows) (s : RomStep) → romInRange s ≡ true → NextInRange (romTakes code rc v k s .next)
 unfolding commandBit readBit matchBit searchBit
-rom-leads code rc v (Command count bits) h = pick-if Leads _ _ _ (λ e. more-below count 7 e) (λ e. command-leads rc _)
-rom-leads code rc v (Read place) h = pick-if Leads _ _ _ (λ e. more-below place 63 e) (λ e. tt)
-rom-leads code rc v (Match place) h = pick-both Leads _ _ _ (pick-if Leads _ _ _ (λ e. more-below place 63 e) (λ e. tt)) tt
-rom-leads code rc v (Search place step) h =
+rom-leads code rc v k (Command count bits) h = pick-if Leads _ _ _ (λ e. more-below count 7 e) (λ e. command-leads k rc _)
+rom-leads code rc v k (Read place) h = pick-if Leads _ _ _ (λ e. more-below place 63 e) (λ e. tt)
+rom-leads code rc v k (Match place) h = pick-both Leads _ _ _ (pick-if Leads _ _ _ (λ e. more-below place 63 e) (λ e. tt)) tt
+rom-leads code rc v k (Search place step) h =
     let p = both-holds (ltb place 64) (ltb step 3) h in
     pick-if Leads _ _ _ (λ e. both-true′ _ _ (p .0) (more-below step 2 e))
     (λ e. pick-both Leads _ _ _ (pick-if Leads _ _ _ (λ f. both-true′ _ _ (more-below place 63 f) refl) (λ f. tt)) tt)
@@ -156,24 +145,24 @@ module _ (last : ℕ) where
   unfolding authorized
   authorized-in r address end see h = pick-both StepInRange _ _ _ (clear-aa (r .es) h, refl) (h, refl)
 
-  module _ (see : Sight) (is-last : see .last ≡ last) where
+  module _ (see : Sight) (is-last : see .last ≡ last) (is-end : see .end < 32) where
     read-from : (address : ℕ) → PhaseInRange (readFrom address (see .last))
     unfolding readFrom
     read-from address = pick-if PhaseInRange _ _ _ (λ e. both-true′ _ _ (ap (leb address) (sym is-last) ∙ e) refl) (λ e. refl)
 
     pub memory-in-range : (r : Registers) (v : Bool) (p : MemoryPhase) → Clear (r .es) → memoryInRange last p ≡ true → StepInRange (memoryTakes r v see p)
-    unfolding writeAddress writeData crcSent registerSent padBegins padSent padByteSent copyAddress copyEnd readAddress memorySent
+    unfolding writeAddress writeData crcSent registerSent padBegins padFrom padSent padByteSent copyAddress copyEnd readAddress memorySent
     memory-in-range r v memory.Ones h k = (h, refl)
     memory-in-range r v (memory.WriteAddress count bits) h k = pick-if StepInRange _ _ _ (λ e. (h, more-below count 15 e)) (λ e. address-in _)
     memory-in-range r v (memory.WriteData offset count bits crc) h k =
         pick-if StepInRange _ _ _ (λ e. (h, both-true′ _ _ (both-holds (ltb offset 32) (ltb count 8) k .0) (more-below count 7 e))) (λ e. byte-in r offset _ crc see h)
     memory-in-range r v (memory.SendCrc place crc) h k = (h, pick-if PhaseInRange _ _ _ (λ e. more-below place 15 e) (λ e. refl))
     memory-in-range r v (memory.ReadRegisters place) h k =
-        (h, pick-if PhaseInRange _ _ _ (λ e. more-below place 23 e) (λ e. offset-in (r .t % 32) (mod-lt (r .t) (omega arith))))
+        (h, pick-if PhaseInRange _ _ _ (λ e. more-below place 23 e) (λ e. pick-if PhaseInRange _ _ _ (λ f. offset-in (r .t % 32) (mod-lt (r .t) (omega arith))) (λ f. refl)))
     memory-in-range r v (memory.ReadPad offset count crc) h k = (
       h,
       pick-if PhaseInRange _ _ _ (λ e. both-true′ _ _ (both-holds (ltb offset 32) (ltb count 8) k .0) (more-below count 7 e))
-          (λ e. pick-if PhaseInRange _ _ _ (λ f. offset-next offset f) (λ f. refl)),
+          (λ e. pick-if PhaseInRange _ _ _ (λ f. offset-in (offset + 1) (let g = ltb-true offset (see .end) f in omega arith)) (λ f. refl)),
     )
     memory-in-range r v (memory.CopyAddress count bits) h k = (h, pick-if PhaseInRange _ _ _ (λ e. more-below count 15 e) (λ e. refl))
     memory-in-range r v (memory.CopyEnd address count bits) h k = pick-if StepInRange _ _ _ (λ e. (h, more-below count 7 e)) (λ e. authorized-in r address _ see h)
@@ -187,19 +176,19 @@ module _ (last : ℕ) where
         )
 
 -- a reset leaves bit 6 of E/S 0
-pub reset-clear : (r : Registers) (p : MemoryPhase) → Clear (r .es) → Clear (memoryReset r p .es)
-unfolding cutOf
-reset-clear r memory.Ones h = h
-reset-clear r (memory.WriteAddress count bits) h = h
-reset-clear r (memory.WriteData offset count bits crc) h = pick-both (λ (k : Registers). Clear (k .es)) _ _ _ (clear-pf (r .es) h) h
-reset-clear r (memory.SendCrc place crc) h = h
-reset-clear r (memory.ReadRegisters place) h = h
-reset-clear r (memory.ReadPad offset count crc) h = h
-reset-clear r (memory.CopyAddress count bits) h = h
-reset-clear r (memory.CopyEnd address count bits) h = h
-reset-clear r (memory.Copied answer) h = h
-reset-clear r (memory.ReadAddress count bits) h = h
-reset-clear r (memory.ReadMemory address count) h = h
+pub reset-clear : (r : Registers) (cut : Bool) (p : MemoryPhase) → Clear (r .es) → Clear (memoryReset r cut p .es)
+unfolding cutOf addressCut
+reset-clear r cut memory.Ones h = h
+reset-clear r cut (memory.WriteAddress count bits) h = pick-both (λ (k : Registers). Clear (k .es)) _ _ _ (clear-pf (r .es) h) h
+reset-clear r cut (memory.WriteData offset count bits crc) h = pick-both (λ (k : Registers). Clear (k .es)) _ _ _ (clear-pf (r .es) h) h
+reset-clear r cut (memory.SendCrc place crc) h = h
+reset-clear r cut (memory.ReadRegisters place) h = h
+reset-clear r cut (memory.ReadPad offset count crc) h = h
+reset-clear r cut (memory.CopyAddress count bits) h = h
+reset-clear r cut (memory.CopyEnd address count bits) h = h
+reset-clear r cut (memory.Copied answer) h = h
+reset-clear r cut (memory.ReadAddress count bits) h = h
+reset-clear r cut (memory.ReadMemory address count) h = h
 
 -- a step of a DS2413 leaves its latches and levels two bits each and its phase in range
 abbrev SwitchStepInRange : SwitchStep → Type 0

@@ -8,11 +8,12 @@ use lib.Dec.{leb}
 use borrow.Author.Tests.{le-leb}
 use lib.ListN.{length, drop}
 use lib.Seq.{take-at}
-use Rattle.base.specs.Pick.{pick, pick-true}
+use Rattle.base.specs.Pick.{pick, pick-true, pick-if}
 use Rattle.base.specs.Bits.{both}
 use Rattle.ds2413.specs.Switch.{switchInRange}
 use Rattle.chip.specs.Chip.{setUpChip}
-use Rattle.chip.specs.Range.{knownKind, inRange}
+use Rattle.chip.specs.Range.{inRange}
+use Rattle.chip.specs.Kinds.{knownKind}
 use Rattle.chip.specs.declared.Chip.{Chip}
 use Rattle.line.specs.Layout.{capped}
 use Rattle.line.specs.Prefix.{capped-few}
@@ -23,7 +24,7 @@ use Rattle.records.specs.declared.Head.the-variants.{End, Short, Cut, Whole}
 use Rattle.card.specs.Card.{cutEntry, wholeEntry, entryOf, entryAt, Read, all, none, after, onward, readFrom, SetUp, fromRead, setUpOf}
 use Rattle.card.specs.declared.Entry.{Entry}
 use Rattle.card.specs.declared.Entry.the-variants as entry
-use Rattle.runs.specs.Range.{pick-if, both-true′}
+use Rattle.runs.specs.Range.{both-true′}
 use Rattle.runs.specs.Keeps.{range-in}
 
 -- a chip as set-up leaves it

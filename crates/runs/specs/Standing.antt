@@ -8,25 +8,30 @@ use mathlib.Core.List.{List, [], _∷_, _++_, map}
 use mathlib.Core.Path.{_≡_, refl, _∙_, ap, sym}
 use lib.Dec.{eqb, ltb, leb}
 use lib.ListN.{length, take, drop, getD, length-append, length-drop, take-append-drop}
-use lib.Seq.{length-take-le, take-at, drop-at, getD-take}
-use borrow.Author.Tests.{ltb-true, leb-true, le-leb, eq-eqb}
-use Rattle.base.specs.Pick.{pick, pick-true}
+use lib.Seq.{length-take-le, take-at, drop-at}
+use borrow.Author.Tests.{eqb-true, leb-true, le-leb, eq-eqb}
+use Rattle.base.specs.Pick.{pick, pick-true, pick-if}
 use Rattle.base.specs.Bits.{both}
 use Rattle.base.specs.Both.{both-holds}
+use Rattle.chip.specs.Kinds.{takesLevels}
 use Rattle.chip.specs.Chip.{Whole}
-use Rattle.chip.specs.Range.{inRange, imageSize, padSize}
+use Rattle.chip.specs.Range.{inRange}
+use Rattle.chip.specs.Kinds.{imageSize, padSize}
 use Rattle.chip.specs.declared.Chip.{Chip}
-use Rattle.line.specs.Line.{actOf, levelsAt, busBit, lineAfter, slotValue}
+use Rattle.line.specs.Line.{valueOf, actOf, levelsAt, afterBy}
 use Rattle.line.specs.Layout.{imagesSize, padsSize, split, chipsOf, imagesOf, padsOf, lent, lineOf, lentFrom}
-use Rattle.line.specs.Event.{bit, refused, noChip, allInRange, tableInRange, sizesFit, levelsFit, Outcome, happens, acceptedOf, eventOf}
-use Rattle.line.specs.Refusals.{chips-split, images-split, pads-split, fit, in-range-few}
-use Rattle.line.specs.Prefix.{pick-of, length-split, length-levels}
+use Rattle.line.specs.Event.{noChip, allInRange, tableInRange, sizesFit, verdictOf, askedBy, planIn, planBy, planOf, planOn, answerBy, doneOf, eventOf}
+use Rattle.line.specs.Refusals.{chips-split, images-split, pads-split, fit, in-range-few, well-judged, Comes, slot, reset, power-on, levels, refused, comes}
+use Rattle.line.specs.Prefix.{length-split, length-after}
 use Rattle.line.specs.declared.Event.{Event}
 use Rattle.line.specs.declared.Act.{Act}
+use Rattle.line.specs.declared.Plan.{Plan}
+use Rattle.line.specs.declared.Verdict.{Verdict}
+use Rattle.line.specs.declared.Plan.the-variants as plan
 use Rattle.line.specs.declared.Act.the-variants.{Take, Reset, PowerOn}
-use Rattle.search.specs.Search.{Attached, eventOn, saysOf, leavesOf, leftBy}
-use Rattle.runs.specs.Runs.{at, levelsTaken, answerOf, afterOf}
-use Rattle.runs.specs.Range.{pick-if, both-true′}
+use Rattle.search.specs.Search.{Attached, saysOf, leavesOf, leftBy}
+use Rattle.runs.specs.Runs.{at, answerOf, afterOf}
+use Rattle.runs.specs.Range.{both-true′}
 use Rattle.runs.specs.Keeps.{in-range, range-in, Good, act-good, levels-good}
 
 -- every chip of a line is good
@@ -58,55 +63,27 @@ levels-all i l [] k g = tt
 levels-all zero l (w ∷ L) k (g, h) = (levels-good l w k g, h)
 levels-all (suc i) l (w ∷ L) k (g, h) = (g, levels-all i l L k h)
 
-length-map′ : (f : Whole → Whole) (L : List Whole) → length (map f L) ≡ length L
-length-map′ f [] = refl
-length-map′ f (w ∷ L) = ap suc (length-map′ f L)
+-- the chips of a line, and of its table
+pub at-chip : (i : ℕ) (L : List Whole) → at i L .chip ≡ getD (chipsOf L) i noChip
+at-chip zero [] = refl
+at-chip (suc i) [] = refl
+at-chip zero (w ∷ L) = refl
+at-chip (suc i) (w ∷ L) = at-chip i L
 
--- event 4 that is taken has levels of two bits
-taken-levels : (e : Event) (L : List Whole) → levelsTaken e L ≡ true → e .number ≡ 4 → e .levels ≤ 3
-unfolding levelsTaken
-taken-levels e L h p =
-    let a = eqb (at (e .chip) L .chip .kind) 2 in
-    let k = sym (pick-true (eqb (e .number) 4) (pick (ltb (e .chip) (length L)) (both a (leb (e .levels) 3)) false) true (eq-eqb (e .number) 4 p)) ∙ h in
-    leb-true (e .levels) 3 (both-holds a (leb (e .levels) 3) (inner (ltb (e .chip) (length L)) (both a (leb (e .levels) 3)) k) .1)
-  where
-    inner : (s t : Bool) → pick s t false ≡ true → t ≡ true
-    inner s t q = pick-if (λ (b : Bool). b ≡ true → t ≡ true) s t false (λ u r. r) (λ u r. absurd (true≢false (sym r))) q
+comes-good : {cs : List Chip} {p q : Plan} → Comes cs p q → (L : List Whole) → AllGood L → AllGood (afterBy q L)
+comes-good (slot b) L g = map-good (Take (valueOf b L)) L g
+comes-good reset L g = map-good Reset L g
+comes-good power-on L g = map-good PowerOn L g
+comes-good (levels i l h k m) L g = levels-all i l L m g
+comes-good (refused i l r) L g = g
 
 after-good : (e : Event) (L : List Whole) → AllGood L → AllGood (afterOf e L)
-unfolding afterOf lineAfter
-after-good e L g =
-    pick-if AllGood _ _ _
-    (λ p. pick-if AllGood _ _ _
-    (λ q. pick-if AllGood _ _ _ (λ a. map-good (Take (slotValue e L)) L g)
-    (λ a. pick-if AllGood _ _ _ (λ b. map-good Reset L g)
-    (λ b. pick-if AllGood _ _ _ (λ c. map-good PowerOn L g)
-    (λ c. levels-all (e .chip) (e .levels) L (taken-levels e L q (four e p a b c)) g))))
-    (λ q. g))
-    (λ p. g)
-  where
-    four : (e : Event) → leb (e .number) 4 ≡ true → ltb (e .number) 2 ≡ false → eqb (e .number) 2 ≡ false → eqb (e .number) 3 ≡ false → e .number ≡ 4
-    four e p a b c = go (e .number) (leb-true (e .number) 4 p) a b c
-      where
-        go : (n : ℕ) → n ≤ 4 → ltb n 2 ≡ false → eqb n 2 ≡ false → eqb n 3 ≡ false → n ≡ 4
-        go zero h a b c = absurd (true≢false a)
-        go (suc zero) h a b c = absurd (true≢false a)
-        go (suc (suc zero)) h a b c = absurd (true≢false b)
-        go (suc (suc (suc zero))) h a b c = absurd (true≢false c)
-        go (suc (suc (suc (suc zero)))) h a b c = refl
-        go (suc (suc (suc (suc (suc n))))) h a b c = absurd (omega arith)
+unfolding afterOf
+after-good e L g = comes-good (comes (chipsOf L) e) L g
 
 pub after-length : (e : Event) (L : List Whole) → length (afterOf e L) ≡ length L
-unfolding afterOf lineAfter
-after-length e L =
-    pick-if P _ _ _
-    (λ p. pick-if P _ _ _
-    (λ q. pick-if P _ _ _ (λ a. length-map′ _ L) (λ a. pick-if P _ _ _ (λ b. length-map′ _ L) (λ b. pick-if P _ _ _ (λ c. length-map′ _ L) (λ c. length-levels _ _ L))))
-    (λ q. refl))
-    (λ p. refl)
-  where
-    P : List Whole → Type 0
-    P K = length K ≡ length L
+unfolding afterOf
+after-length e L = length-after (planOn e L) L
 
 -- the line of a table that stands well is good
 split-good : (cs : List Chip) (ms ss : List ℕ) → allInRange cs ≡ true → length ms ≡ imagesSize cs → length ss ≡ padsSize cs → AllGood (split cs ms ss)
@@ -128,17 +105,6 @@ all-in-range : (n : ℕ) (cs : List Chip) → tableInRange n cs ≡ true → all
 unfolding tableInRange
 all-in-range n cs h = in-line (leb n 16) (allInRange (take n cs)) h
 
-at-split : (i : ℕ) (cs : List Chip) (ms ss : List ℕ) → i < length cs → at i (split cs ms ss) .chip ≡ getD cs i noChip
-at-split i [] ms ss h = absurd (not-suc-le-zero h)
-at-split zero (c ∷ cs) ms ss h = refl
-at-split (suc i) (c ∷ cs) ms ss h = at-split i cs _ _ (le-of-suc-le-suc h)
-
--- a choice, by what its first way comes to where the test holds
-pick-ways {ℓ} : {A : Type ℓ} (t : Bool) (a a′ b : A) → (t ≡ true → a ≡ a′) → pick t a b ≡ pick t a′ b
-unfolding pick
-pick-ways true a a′ b f = f refl
-pick-ways false a a′ b f = refl
-
 module _ (l : Attached) (s : Stands l) where
   first : length (take (l .count) (l .lent .chips)) ≡ l .count
   first = length-take-le (l .count) (l .lent .chips) (s .places)
@@ -158,40 +124,36 @@ module _ (l : Attached) (s : Stands l) where
       let a = ap (λ (k : List Chip). k ++ drop (l .count) (l .lent .chips)) (chips-split t (l .lent .images) (l .lent .pads)) ∙ take-append-drop (l .count) (l .lent .chips) in
       λ j. record { count = l .count; lent = lent (a j) (images-split t (l .lent .images) (l .lent .pads) (f .images) j) (pads-split t (l .lent .images) (l .lent .pads) (f .pads) j) }
 
-  levels-same : (e : Event) → levelsFit e (l .count) (l .lent .chips) ≡ levelsTaken e (lineFrom l)
-  unfolding levelsFit levelsTaken
-  levels-same e =
-      pick-ways (eqb (e .number) 4) _ _ true
-      (λ p. pick-ways (ltb (e .chip) (l .count)) _ _ false
-      (λ q. let i = ltb-true (e .chip) (l .count) q in
-      ap (λ (c : Chip). both (eqb (c .kind) 2) (leb (e .levels) 3))
-      (sym (at-split (e .chip) (take (l .count) (l .lent .chips)) (l .lent .images) (l .lent .pads) (rw first i) ∙ getD-take (l .count) (l .lent .chips) (e .chip) noChip i)))
-      ∙ ap (λ (k : ℕ). pick (ltb (e .chip) k) (both (eqb (at (e .chip) (lineFrom l) .chip .kind) 2) (leb (e .levels) 3)) false) (sym line-length))
+  plan-same : (e : Event) → planOf (l .count) (l .lent .chips) e (l .lent .images) (l .lent .pads) ≡ planOn e (lineFrom l)
+  unfolding planOf
+  plan-same e =
+      ap (λ (v : Verdict). planBy v (planIn (take (l .count) (l .lent .chips)) e)) (well-judged (l .count) (l .lent .chips) (l .lent .images) (l .lent .pads) (s .range) (s .sizes))
+      ∙ ap (λ (cs : List Chip). planIn cs e) (sym (chips-split (take (l .count) (l .lent .chips)) (l .lent .images) (l .lent .pads)))
 
-  accepted : (e : Event) → eventOn e l ≡ acceptedOf (l .count) (l .lent .chips) e (l .lent .images) (l .lent .pads)
-  unfolding eventOf
-  accepted e = simp (s .range, s .sizes, pick-true)
+  done-answer : (p : Plan) → doneOf p (l .count) (l .lent .chips) (l .lent .images) (l .lent .pads) .answer ≡ answerBy p (lineFrom l)
+  done-answer (plan.Refused r) = refl
+  done-answer (plan.Slot b) = refl
+  done-answer plan.Reset = refl
+  done-answer plan.PowerOn = refl
+  done-answer (plan.Levels i x) = refl
+
+  done-leaves : (p : Plan) → leftBy (doneOf p (l .count) (l .lent .chips) (l .lent .images) (l .lent .pads)) ≡ withLine l (afterBy p (lineFrom l))
+  done-leaves (plan.Refused r) = sym put-back
+  done-leaves (plan.Slot b) = refl
+  done-leaves plan.Reset = refl
+  done-leaves plan.PowerOn = refl
+  done-leaves (plan.Levels i x) = refl
 
   -- the public event answers what happens on the line of whole chips ..
   pub says-is : (e : Event) → saysOf e l ≡ answerOf e (lineFrom l)
-  unfolding saysOf acceptedOf happens answerOf
-  says-is e =
-      ap (λ (o : Outcome). o .answer) (accepted e)
-      ∙ pick-of (λ (o : Outcome). o .answer) _ _ _
-      ∙ pick-ways (leb (e .number) 4) _ _ (refused 6)
-      (λ p. pick-of (λ (o : Outcome). o .answer) _ _ _
-      ∙ ap (λ (b : Bool). pick b (bit (busBit e (lineFrom l))) (refused 7)) (levels-same e))
+  unfolding saysOf eventOf answerOf
+  says-is e = done-answer (planOf (l .count) (l .lent .chips) e (l .lent .images) (l .lent .pads)) ∙ ap (λ (p : Plan). answerBy p (lineFrom l)) (plan-same e)
 
   -- .. and leaves it in the table and the buffers
   pub leaves-is : (e : Event) → leavesOf e l ≡ withLine l (afterOf e (lineFrom l))
-  unfolding leavesOf acceptedOf happens afterOf
+  unfolding leavesOf eventOf afterOf
   leaves-is e =
-      ap leftBy (accepted e)
-      ∙ pick-of leftBy _ _ _
-      ∙ pick-ways (leb (e .number) 4) _ _ l (λ p. pick-of leftBy _ _ _ ∙ ap (λ (b : Bool). pick b (withLine l (lineAfter e (lineFrom l))) l) (levels-same e))
-      ∙ sym (pick-of (withLine l) _ _ _
-      ∙ pick-ways (leb (e .number) 4) _ _ (withLine l (lineFrom l)) (λ p. pick-of (withLine l) _ _ _ ∙ ap (λ (k : Attached). pick (levelsTaken e (lineFrom l)) (withLine l (lineAfter e (lineFrom l))) k) put-back)
-      ∙ ap (λ (k : Attached). pick (leb (e .number) 4) (pick (levelsTaken e (lineFrom l)) (withLine l (lineAfter e (lineFrom l))) l) k) put-back)
+      done-leaves (planOf (l .count) (l .lent .chips) e (l .lent .images) (l .lent .pads)) ∙ ap (λ (p : Plan). withLine l (afterBy p (lineFrom l))) (plan-same e)
 
 -- what a good line asks for
 pub length-chips : (L : List Whole) → length (chipsOf L) ≡ length L

@@ -1,3 +1,4 @@
 pub mod Registers
+pub mod Map
 pub mod Scratchpad
 pub mod Phase

@@ -1,31 +1,26 @@
 -- Laws: a dispatch over the phases, taken at the phase that a match found.
 use Prim.Native.Nat.{ℕ}
 use mathlib.Core.Bool.{Bool}
-use mathlib.Core.Path.{_≡_, _∙_, ap, sym}
-use Rattle.scratchpad.specs.Scratchpad.{memoryTakes, memorySends, memoryReset, memoryInRange, addressAtHand, offsetAtHand}
+use mathlib.Core.Path.{_≡_}
+use Rattle.base.specs.Along.{along}
+use Rattle.scratchpad.specs.Scratchpad.{memoryTakes, memorySends, memoryReset, memoryInRange, handOf}
 use Rattle.scratchpad.specs.declared.Registers.{Registers}
 use Rattle.scratchpad.specs.declared.Sight.{Sight}
 use Rattle.scratchpad.specs.declared.MemoryStep.{MemoryStep}
+use Rattle.scratchpad.specs.declared.Hand.{Hand}
 use Rattle.scratchpad.specs.declared.MemoryPhase.{MemoryPhase}
 
-module _ (q p : MemoryPhase) (e : q ≡ p) where
-  abbrev along {ℓ} : {A : Type ℓ} (f : MemoryPhase → A) (r : A) → r ≡ f p → r ≡ f q
-  along f r h = h ∙ ap f (sym e)
-
 pub takes-at : (r : Registers) (v : Bool) (see : Sight) (q p : MemoryPhase) (s : MemoryStep) → q ≡ p → s ≡ memoryTakes r v see p → s ≡ memoryTakes r v see q
-takes-at r v see q p s e = along q p e (λ (k : MemoryPhase). memoryTakes r v see k) s
+takes-at r v see q p s = along (λ (k : MemoryPhase). memoryTakes r v see k) q p s
 
 pub sends-at : (r : Registers) (see : Sight) (q p : MemoryPhase) (s : Bool) → q ≡ p → s ≡ memorySends r see p → s ≡ memorySends r see q
-sends-at r see q p s e = along q p e (λ (k : MemoryPhase). memorySends r see k) s
+sends-at r see q p s = along (λ (k : MemoryPhase). memorySends r see k) q p s
 
-pub reset-at : (r : Registers) (q p : MemoryPhase) (s : Registers) → q ≡ p → s ≡ memoryReset r p → s ≡ memoryReset r q
-reset-at r q p s e = along q p e (λ (k : MemoryPhase). memoryReset r k) s
+pub reset-at : (r : Registers) (cut : Bool) (q p : MemoryPhase) (s : Registers) → q ≡ p → s ≡ memoryReset r cut p → s ≡ memoryReset r cut q
+reset-at r cut q p s = along (λ (k : MemoryPhase). memoryReset r cut k) q p s
 
 pub in-range-at : (last : ℕ) (q p : MemoryPhase) (s : Bool) → q ≡ p → s ≡ memoryInRange last p → s ≡ memoryInRange last q
-in-range-at last q p s e = along q p e (λ (k : MemoryPhase). memoryInRange last k) s
+in-range-at last q p s = along (λ (k : MemoryPhase). memoryInRange last k) q p s
 
-pub address-at : (t : ℕ) (q p : MemoryPhase) (s : ℕ) → q ≡ p → s ≡ addressAtHand t p → s ≡ addressAtHand t q
-address-at t q p s e = along q p e (λ (k : MemoryPhase). addressAtHand t k) s
-
-pub offset-at : (q p : MemoryPhase) (s : ℕ) → q ≡ p → s ≡ offsetAtHand p → s ≡ offsetAtHand q
-offset-at q p s e = along q p e (λ (k : MemoryPhase). offsetAtHand k) s
+pub hand-at : (t : ℕ) (q p : MemoryPhase) (s : Hand) → q ≡ p → s ≡ handOf t p → s ≡ handOf t q
+hand-at t q p s = along (λ (k : MemoryPhase). handOf t k) q p s

@@ -1,6 +1,7 @@
 -- Document 01, "DS28EC20": the registers T and E/S, and the rule of a byte.
 use Prim.Native.Nat.{ℕ, _+_, _*_, _/_, _%_}
-use mathlib.Core.Bool.{Bool}
+use mathlib.Core.Bool.{Bool, true}
+use lib.Dec.{eqb}
 use lib.Bits.{bitAnd}
 use Rattle.base.specs.Pick.{pick}
 use Rattle.base.specs.Bits.{bitOf}
@@ -33,6 +34,10 @@ targetOf bits = bits
 -- "Power on: T 0000h, E/S 20h"
 abbrev pub powerOnRegisters : Registers
 powerOnRegisters = registers 0x0000 0x20
+
+-- "A mark is 55h or AAh."
+unfoldable pub mark : ℕ → Bool
+mark b = pick (eqb b 0x55) true (eqb b 0xAA)
 
 -- "the rule of a byte: for a held address the memory byte; for one that only falls, the AND of both; otherwise the byte sent."
 unfoldable pub ruleOfByte : Bool → Bool → ℕ → ℕ → ℕ

@@ -12,6 +12,8 @@ use Rattle.scratchpad.specs.declared.Sight.{Sight}
 use Rattle.scratchpad.specs.declared.MemoryStep.{MemoryStep}
 use Rattle.scratchpad.specs.declared.Deed.{Deed}
 use Rattle.scratchpad.specs.declared.Deed.the-variants.{Nothing, Put, Copy}
+use Rattle.scratchpad.specs.declared.Hand.{Hand}
+use Rattle.scratchpad.specs.declared.Hand.the-variants as hand
 use Rattle.scratchpad.specs.declared.MemoryPhase.{MemoryPhase}
 use Rattle.scratchpad.specs.declared.MemoryPhase.the-variants.{Ones, WriteAddress, WriteData, SendCrc, ReadRegisters, ReadPad, CopyAddress, CopyEnd, Copied, ReadAddress, ReadMemory}
 
@@ -27,6 +29,10 @@ memoryFunction b =
     (pick (eqb b 0x55) (CopyAddress 0 0)
     (pick (eqb b 0xF0) (ReadAddress 0 0)
     Ones)))
+
+-- where the function command b leaves the part at its eighth bit, and what it does there
+unfoldable pub memoryBegins : Registers → ℕ → MemoryStep
+memoryBegins r b = step r (memoryFunction b) Nothing
 
 -- the CRC-16 of a command and the two bytes of T
 unfoldable pub crcOfAddress : ℕ → ℕ → ℕ
@@ -63,23 +69,27 @@ writeData r offset count bits crc v see =
 unfoldable pub crcSent : ℕ → ℕ → MemoryPhase
 crcSent place crc = pick (ltb place 15) (SendCrc (place + 1) crc) Ones
 
+-- AAh: the scratchpad from an offset on comes next, as far as it is sent; then "the CRC-16 of the command and all that, then ones"
+unfoldable pub padFrom : ℕ → ℕ → ℕ → MemoryPhase
+padFrom offset crc end = pick (leb offset end) (ReadPad offset 0 crc) (SendCrc 0 crc)
+
 -- AAh: the registers were sent, and "the scratchpad from T mod 32 to 31" comes next
-unfoldable pub padBegins : Registers → MemoryPhase
-padBegins r = ReadPad (r .t % 32) 0 (crcByte poly16 (crcOfAddress 0xAA (r .t)) (r .es))
+unfoldable pub padBegins : Registers → Sight → MemoryPhase
+padBegins r see = padFrom (r .t % 32) (crcByte poly16 (crcOfAddress 0xAA (r .t)) (r .es)) (see .end)
 
 -- AAh, a bit of "TA1, TA2, E/S" was sent
-unfoldable pub registerSent : Registers → ℕ → MemoryPhase
-registerSent r place = pick (ltb place 23) (ReadRegisters (place + 1)) (padBegins r)
+unfoldable pub registerSent : Registers → ℕ → Sight → MemoryPhase
+registerSent r place see = pick (ltb place 23) (ReadRegisters (place + 1)) (padBegins r see)
 
--- AAh, a byte of the scratchpad was sent; after the last, "the CRC-16 of the command and all that, then ones"
-unfoldable pub padByteSent : ℕ → ℕ → MemoryPhase
-padByteSent offset crc = pick (ltb offset 31) (ReadPad (offset + 1) 0 crc) (SendCrc 0 crc)
+-- AAh, a byte of the scratchpad was sent
+unfoldable pub padByteSent : ℕ → ℕ → ℕ → MemoryPhase
+padByteSent offset crc end = pick (ltb offset end) (ReadPad (offset + 1) 0 crc) (SendCrc 0 crc)
 
 -- AAh, a bit of the scratchpad was sent
 unfoldable pub padSent : ℕ → ℕ → ℕ → Sight → MemoryPhase
 padSent offset count crc see =
     pick (ltb count 7) (ReadPad offset (count + 1) crc)
-    (padByteSent offset (crcByte poly16 crc (see .pad)))
+    (padByteSent offset (crcByte poly16 crc (see .pad)) (see .end))
 
 -- 55h, a bit of the first two bytes
 unfoldable pub copyAddress : ℕ → ℕ → Bool → MemoryPhase
@@ -127,7 +137,7 @@ memoryTakes r v see Ones = step r Ones Nothing
 memoryTakes r v see (WriteAddress count bits) = writeAddress r count bits v
 memoryTakes r v see (WriteData offset count bits crc) = writeData r offset count bits crc v see
 memoryTakes r v see (SendCrc place crc) = step r (crcSent place crc) Nothing
-memoryTakes r v see (ReadRegisters place) = step r (registerSent r place) Nothing
+memoryTakes r v see (ReadRegisters place) = step r (registerSent r place see) Nothing
 memoryTakes r v see (ReadPad offset count crc) = step r (padSent offset count crc see) Nothing
 memoryTakes r v see (CopyAddress count bits) = step r (copyAddress count bits v) Nothing
 memoryTakes r v see (CopyEnd address count bits) = copyEnd r address count bits v see
@@ -153,19 +163,23 @@ memorySends r see (ReadMemory address count) = bitOf (see .memory) count
 unfoldable pub cutOf : Registers → ℕ → Registers
 cutOf r count = pick (ltb 0 count) (registers (r .t) (withPF (r .es))) r
 
+-- a reset inside the address of a write, where that counts as a cut
+unfoldable pub addressCut : Registers → Bool → Registers
+addressCut r cut = pick cut (registers (r .t) (withPF (r .es))) r
+
 -- what a reset does to the registers at each phase
-abbrev pub memoryReset : Registers → MemoryPhase → Registers
-memoryReset r Ones = r
-memoryReset r (WriteAddress count bits) = r
-memoryReset r (WriteData offset count bits crc) = cutOf r count
-memoryReset r (SendCrc place crc) = r
-memoryReset r (ReadRegisters place) = r
-memoryReset r (ReadPad offset count crc) = r
-memoryReset r (CopyAddress count bits) = r
-memoryReset r (CopyEnd address count bits) = r
-memoryReset r (Copied answer) = r
-memoryReset r (ReadAddress count bits) = r
-memoryReset r (ReadMemory address count) = r
+abbrev pub memoryReset : Registers → Bool → MemoryPhase → Registers
+memoryReset r cut Ones = r
+memoryReset r cut (WriteAddress count bits) = addressCut r cut
+memoryReset r cut (WriteData offset count bits crc) = cutOf r count
+memoryReset r cut (SendCrc place crc) = r
+memoryReset r cut (ReadRegisters place) = r
+memoryReset r cut (ReadPad offset count crc) = r
+memoryReset r cut (CopyAddress count bits) = r
+memoryReset r cut (CopyEnd address count bits) = r
+memoryReset r cut (Copied answer) = r
+memoryReset r cut (ReadAddress count bits) = r
+memoryReset r cut (ReadMemory address count) = r
 
 -- "every bit count and place inside its step"; last is the last address that Read Memory reads
 abbrev pub memoryInRange : ℕ → MemoryPhase → Bool
@@ -185,33 +199,28 @@ memoryInRange last (ReadMemory address count) = both (leb address last) (ltb cou
 unfoldable pub registersInRange : Registers → Bool
 registersInRange r = not (bitOf (r .es) 6)
 
--- the address in memory that a phase has at hand: a data byte's own, or the one that is read
+-- the address of an offset in T's page
 unfoldable pub inPage : ℕ → ℕ → ℕ
 inPage t offset = t / 32 * 32 + offset
 
-abbrev pub addressAtHand : ℕ → MemoryPhase → ℕ
-addressAtHand t Ones = t
-addressAtHand t (WriteAddress count bits) = t
-addressAtHand t (WriteData offset count bits crc) = inPage t offset
-addressAtHand t (SendCrc place crc) = t
-addressAtHand t (ReadRegisters place) = t
-addressAtHand t (ReadPad offset count crc) = t
-addressAtHand t (CopyAddress count bits) = t
-addressAtHand t (CopyEnd address count bits) = t
-addressAtHand t (Copied answer) = t
-addressAtHand t (ReadAddress count bits) = t
-addressAtHand t (ReadMemory address count) = address
+-- what a slot goes by at a data byte: at its last bit, the memory byte that it is judged by
+unfoldable pub byteAtHand : ℕ → ℕ → ℕ → Hand
+byteAtHand t offset count = pick (ltb count 7) hand.Nothing (hand.Byte (inPage t offset))
 
--- the offset in the scratchpad that a phase has at hand
-abbrev pub offsetAtHand : MemoryPhase → ℕ
-offsetAtHand Ones = 0
-offsetAtHand (WriteAddress count bits) = 0
-offsetAtHand (WriteData offset count bits crc) = offset
-offsetAtHand (SendCrc place crc) = 0
-offsetAtHand (ReadRegisters place) = 0
-offsetAtHand (ReadPad offset count crc) = offset
-offsetAtHand (CopyAddress count bits) = 0
-offsetAtHand (CopyEnd address count bits) = 0
-offsetAtHand (Copied answer) = 0
-offsetAtHand (ReadAddress count bits) = 0
-offsetAtHand (ReadMemory address count) = 0
+-- what a slot goes by at the third byte of Copy: at its last bit, T's page
+unfoldable pub pageAtHand : ℕ → ℕ → Hand
+pageAtHand t count = pick (ltb count 7) hand.Nothing (hand.Page (inPage t 0))
+
+-- what a slot goes by at each phase, beside the registers
+abbrev pub handOf : ℕ → MemoryPhase → Hand
+handOf t Ones = hand.Nothing
+handOf t (WriteAddress count bits) = hand.Nothing
+handOf t (WriteData offset count bits crc) = byteAtHand t offset count
+handOf t (SendCrc place crc) = hand.Nothing
+handOf t (ReadRegisters place) = hand.Nothing
+handOf t (ReadPad offset count crc) = hand.Pad offset
+handOf t (CopyAddress count bits) = hand.Nothing
+handOf t (CopyEnd address count bits) = pageAtHand t count
+handOf t (Copied answer) = hand.Nothing
+handOf t (ReadAddress count bits) = hand.Nothing
+handOf t (ReadMemory address count) = hand.Memory address

@@ -6,8 +6,8 @@ mod read;
 mod write;
 
 ghost use mathlib.Core.Path.{_≡_};
-ghost use Rattle.scratchpad.specs.Scratchpad.{step, memoryFunction, memoryTakes, memorySends, memoryReset, memoryInRange, registersInRange, inPage, addressAtHand, offsetAtHand};
-ghost use Rattle.scratchpad.specs.Registers.{powerOnRegisters, ruleOfByte};
+ghost use Rattle.scratchpad.specs.Scratchpad.{step, memoryFunction, memoryBegins, memoryTakes, memorySends, memoryReset, memoryInRange, registersInRange, inPage, byteAtHand, pageAtHand, handOf};
+ghost use Rattle.scratchpad.specs.Registers.{powerOnRegisters, mark, ruleOfByte};
 
 // The registers: T, and E/S with E in bits 0 to 4, PF bit 5 and AA bit 7.
 pub struct Registers {
@@ -74,7 +74,8 @@ pub enum MemoryPhase {
 }
 
 // What a slot sees: the memory byte at hand and whether it is held or only falls, whether T's page is closed to
-// copying, the scratchpad byte at hand, and the last address that Read Memory reads.
+// copying, the scratchpad byte at hand, the last address that Read Memory reads, and the last offset that Read
+// Scratchpad sends.
 pub struct Sight {
     pub memory: u8,
     pub held: bool,
@@ -82,6 +83,17 @@ pub struct Sight {
     pub closed: bool,
     pub pad: u8,
     pub last: u16,
+    pub end: u8,
+}
+
+// What a slot goes by, beside the registers: nothing for a bit that only counts or fills; the memory byte at an
+// address, with its control byte; a page; a byte of the scratchpad; or a memory byte that is sent.
+pub enum Hand {
+    Nothing,
+    Byte { address: usize },
+    Page { start: usize },
+    Pad { offset: usize },
+    Memory { address: usize },
 }
 
 // What a slot does to memory and scratchpad: nothing, a byte put into the scratchpad, or a copy carried out,
@@ -104,6 +116,16 @@ pub fn power_on() -> Registers
     ensures { λ r. ⌜ r ≡ powerOnRegisters ⌝ }
 {
     Registers { t: 0, es: 0x20 }
+}
+
+// 55h or AAh.
+pub fn is_mark(b: u8) -> bool
+    ensures { λ r. ⌜ r ≡ mark b ⌝ }
+{
+    if b == 0x55 {
+        return true;
+    }
+    b == 0xAA
 }
 
 // The rule of a byte.
@@ -149,6 +171,14 @@ pub fn goes_on(r: Registers, p: MemoryPhase) -> MemoryStep
     }
 }
 
+// Where a function command leaves the part at its eighth bit, and its deed.
+pub fn begins(r: Registers, b: u8) -> MemoryStep
+    ensures { λ s. ⌜ s ≡ memoryBegins r b ⌝ }
+{
+    let p = function(b);
+    goes_on(r, p)
+}
+
 // What a slot of the value v does at a phase.
 pub fn takes(r: Registers, v: bool, see: Sight, p: MemoryPhase) -> MemoryStep
     ensures { λ s. ⌜ s ≡ memoryTakes r v see p ⌝ }
@@ -163,7 +193,7 @@ pub fn takes(r: Registers, v: bool, see: Sight, p: MemoryPhase) -> MemoryStep
             crc,
         } => write::write_data(r, offset, count, bits, crc, v, see),
         MemoryPhase::SendCrc { place, crc } => goes_on(r, write::crc_sent(place, crc)),
-        MemoryPhase::ReadRegisters { place } => goes_on(r, read::register_sent(r, place)),
+        MemoryPhase::ReadRegisters { place } => goes_on(r, read::register_sent(r, place, see)),
         MemoryPhase::ReadPad { offset, count, crc } => goes_on(
             r,
             read::pad_sent(offset, count, crc, see),
@@ -218,13 +248,13 @@ pub fn sends(r: Registers, see: Sight, p: MemoryPhase) -> bool
     }
 }
 
-// What a reset does to the registers.
-pub fn reset(r: Registers, p: MemoryPhase) -> Registers
-    ensures { λ s. ⌜ s ≡ memoryReset r p ⌝ }
+// What a reset does to the registers; cut tells whether a cut address sets PF.
+pub fn reset(r: Registers, cut: bool, p: MemoryPhase) -> Registers
+    ensures { λ s. ⌜ s ≡ memoryReset r cut p ⌝ }
 {
     match p {
         MemoryPhase::Ones => r,
-        MemoryPhase::WriteAddress { count: _, bits: _ } => r,
+        MemoryPhase::WriteAddress { count: _, bits: _ } => write::address_cut(r, cut),
         MemoryPhase::WriteData {
             offset: _,
             count,
@@ -299,69 +329,60 @@ pub fn in_page(t: u16, offset: u8) -> usize
     (t as usize) / 32 * 32 + (offset as usize)
 }
 
-// The address in memory that a phase has at hand.
-pub fn address_at_hand(t: u16, p: MemoryPhase) -> usize
-    ensures { λ r. ⌜ r ≡ addressAtHand t p ⌝ }
+// What a slot goes by at a data byte.
+pub fn byte_at_hand(t: u16, offset: u8, count: u8) -> Hand
+    ensures { λ r. ⌜ r ≡ byteAtHand t offset count ⌝ }
 {
-    match p {
-        MemoryPhase::Ones => t as usize,
-        MemoryPhase::WriteAddress { count: _, bits: _ } => t as usize,
-        MemoryPhase::WriteData {
-            offset,
-            count: _,
-            bits: _,
-            crc: _,
-        } => in_page(t, offset),
-        MemoryPhase::SendCrc { place: _, crc: _ } => t as usize,
-        MemoryPhase::ReadRegisters { place: _ } => t as usize,
-        MemoryPhase::ReadPad {
-            offset: _,
-            count: _,
-            crc: _,
-        } => t as usize,
-        MemoryPhase::CopyAddress { count: _, bits: _ } => t as usize,
-        MemoryPhase::CopyEnd {
-            address: _,
-            count: _,
-            bits: _,
-        } => t as usize,
-        MemoryPhase::Copied { answer: _ } => t as usize,
-        MemoryPhase::ReadAddress { count: _, bits: _ } => t as usize,
-        MemoryPhase::ReadMemory { address, count: _ } => address as usize,
+    let address = in_page(t, offset);
+    if count < 7 {
+        return Hand::Nothing;
     }
+    Hand::Byte { address: address }
 }
 
-// The offset in the scratchpad that a phase has at hand.
-pub fn offset_at_hand(p: MemoryPhase) -> usize
-    ensures { λ r. ⌜ r ≡ offsetAtHand p ⌝ }
+// What a slot goes by at the third byte of Copy.
+pub fn page_at_hand(t: u16, count: u8) -> Hand
+    ensures { λ r. ⌜ r ≡ pageAtHand t count ⌝ }
+{
+    let start = in_page(t, 0);
+    if count < 7 {
+        return Hand::Nothing;
+    }
+    Hand::Page { start: start }
+}
+
+// What a slot goes by at a phase, beside the registers.
+pub fn at_hand(t: u16, p: MemoryPhase) -> Hand
+    ensures { λ r. ⌜ r ≡ handOf t p ⌝ }
 {
     match p {
-        MemoryPhase::Ones => 0,
-        MemoryPhase::WriteAddress { count: _, bits: _ } => 0,
+        MemoryPhase::Ones => Hand::Nothing,
+        MemoryPhase::WriteAddress { count: _, bits: _ } => Hand::Nothing,
         MemoryPhase::WriteData {
             offset,
-            count: _,
+            count,
             bits: _,
             crc: _,
-        } => offset as usize,
-        MemoryPhase::SendCrc { place: _, crc: _ } => 0,
-        MemoryPhase::ReadRegisters { place: _ } => 0,
+        } => byte_at_hand(t, offset, count),
+        MemoryPhase::SendCrc { place: _, crc: _ } => Hand::Nothing,
+        MemoryPhase::ReadRegisters { place: _ } => Hand::Nothing,
         MemoryPhase::ReadPad {
             offset,
             count: _,
             crc: _,
-        } => offset as usize,
-        MemoryPhase::CopyAddress { count: _, bits: _ } => 0,
+        } => Hand::Pad {
+            offset: offset as usize,
+        },
+        MemoryPhase::CopyAddress { count: _, bits: _ } => Hand::Nothing,
         MemoryPhase::CopyEnd {
             address: _,
-            count: _,
+            count,
             bits: _,
-        } => 0,
-        MemoryPhase::Copied { answer: _ } => 0,
-        MemoryPhase::ReadAddress { count: _, bits: _ } => 0,
-        MemoryPhase::ReadMemory {
-            address: _,
-            count: _,
-        } => 0,
+        } => page_at_hand(t, count),
+        MemoryPhase::Copied { answer: _ } => Hand::Nothing,
+        MemoryPhase::ReadAddress { count: _, bits: _ } => Hand::Nothing,
+        MemoryPhase::ReadMemory { address, count: _ } => Hand::Memory {
+            address: address as usize,
+        },
     }
 }

@@ -6,7 +6,7 @@ use crate::write;
 ghost use mathlib.Core.Path.{_≡_};
 ghost use Prim.Native.Nat.{_+_, _*_};
 ghost use Rattle.base.specs.Bits.{bitOf};
-ghost use Rattle.scratchpad.specs.Scratchpad.{padBegins, registerSent, padByteSent, padSent, readFrom, readAddress, memorySent};
+ghost use Rattle.scratchpad.specs.Scratchpad.{padFrom, padBegins, registerSent, padByteSent, padSent, readFrom, readAddress, memorySent};
 
 // A bit of TA1, TA2 and E/S.
 pub fn register_bit(r: Registers, place: u8) -> bool
@@ -15,35 +15,45 @@ pub fn register_bit(r: Registers, place: u8) -> bool
     base::bit_of((r.t as u64) + 65536 * (r.es as u64), place)
 }
 
+// The scratchpad from an offset on, as far as it is sent.
+pub fn pad_from(offset: u8, crc: u16, end: u8) -> MemoryPhase
+    ensures { λ s. ⌜ s ≡ padFrom offset crc end ⌝ }
+{
+    if offset <= end {
+        return MemoryPhase::ReadPad {
+            offset: offset,
+            count: 0,
+            crc: crc,
+        };
+    }
+    MemoryPhase::SendCrc { place: 0, crc: crc }
+}
+
 // The registers were sent, and the scratchpad comes next.
-pub fn pad_begins(r: Registers) -> MemoryPhase
-    ensures { λ s. ⌜ s ≡ padBegins r ⌝ }
+pub fn pad_begins(r: Registers, see: Sight) -> MemoryPhase
+    ensures { λ s. ⌜ s ≡ padBegins r see ⌝ }
 {
     let t = r.t;
     let first = write::crc_of_address(0xAA, t);
     let crc = crc::byte16(first, r.es);
-    MemoryPhase::ReadPad {
-        offset: (t % 32) as u8,
-        count: 0,
-        crc: crc,
-    }
+    pad_from((t % 32) as u8, crc, see.end)
 }
 
 // A bit of TA1, TA2 and E/S was sent.
-pub fn register_sent(r: Registers, place: u8) -> MemoryPhase
-    ensures { λ s. ⌜ s ≡ registerSent r place ⌝ }
+pub fn register_sent(r: Registers, place: u8, see: Sight) -> MemoryPhase
+    ensures { λ s. ⌜ s ≡ registerSent r place see ⌝ }
 {
     if place < 23 {
         return MemoryPhase::ReadRegisters { place: place + 1 };
     }
-    pad_begins(r)
+    pad_begins(r, see)
 }
 
 // A byte of the scratchpad was sent.
-pub fn pad_byte_sent(offset: u8, crc: u16) -> MemoryPhase
-    ensures { λ r. ⌜ r ≡ padByteSent offset crc ⌝ }
+pub fn pad_byte_sent(offset: u8, crc: u16, end: u8) -> MemoryPhase
+    ensures { λ r. ⌜ r ≡ padByteSent offset crc end ⌝ }
 {
-    if offset < 31 {
+    if offset < end {
         return MemoryPhase::ReadPad {
             offset: offset + 1,
             count: 0,
@@ -65,7 +75,7 @@ pub fn pad_sent(offset: u8, count: u8, crc: u16, see: Sight) -> MemoryPhase
         };
     }
     let sum = crc::byte16(crc, see.pad);
-    pad_byte_sent(offset, sum)
+    pad_byte_sent(offset, sum, see.end)
 }
 
 // Reading begins at an address, if it can be read.

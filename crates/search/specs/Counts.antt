@@ -4,7 +4,8 @@ use native.Mathlib.Nat.{add-assoc, zero-add}
 use mathlib.Core.Bool.{Bool, true, false}
 use mathlib.Core.Path.{_≡_, refl, sym, _∙_, ap}
 use Rattle.base.specs.Pick.{pick}
-use Rattle.search.specs.Host.{Host, done, ask, bind, Wire, Played, played, more, resetsOf, slotsOf, slotEvent, play}
+use Rattle.line.specs.Events.{slotEvent}
+use Rattle.search.specs.Host.{Host, done, ask, bind, Wire, Played, played, more, resetsOf, slotsOf, play}
 
 pub more-more : {A L : Type 0} (r s r′ s′ : ℕ) (p : Played A L) → more r s (more r′ s′ p) ≡ more (r + r′) (s + s′) p
 more-more r s r′ s′ p = λ i. played (p .result) (p .line) (sym (add-assoc r r′ (p .resets)) i) (sym (add-assoc s s′ (p .slots)) i)

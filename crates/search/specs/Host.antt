@@ -3,10 +3,11 @@
 use Prim.Native.Nat.{ℕ, zero, suc, _+_, _-_, _%_, _^_}
 use mathlib.Core.Bool.{Bool, true, false}
 use mathlib.Core.List.{List, [], _∷_, _++_}
-use lib.Dec.{eqb, ltb}
+use lib.Dec.{eqb, ltb, leb}
 use Rattle.base.specs.Pick.{pick}
 use Rattle.base.specs.Bits.{bitOf, both}
 use Rattle.line.specs.Event.{Answered, bit, refused}
+use Rattle.line.specs.Events.{slotEvent, resetEvent}
 use Rattle.line.specs.Layout.{capped}
 use Rattle.line.specs.declared.Event.{Event}
 
@@ -57,17 +58,6 @@ abbrev pub heard : Answered → Bool
 heard (bit b) = b
 heard (refused n) = true
 
--- an event that names no chip, by its number
-abbrev pub eventNumber : ℕ → Event
-eventNumber n = record { number = n; chip = 0; levels = 0 }
-
--- the host's events
-abbrev pub slotEvent : Bool → Event
-slotEvent b = eventNumber (pick b 1 0)
-
-abbrev pub resetEvent : Event
-resetEvent = eventNumber 2
-
 -- how a pass ended: the path that was taken; one more than the last place where both bits were read as 0 and 0 was taken, or 0;
 -- and whether a chip answered at every place
 pub record End : Type 0 where
@@ -113,6 +103,10 @@ write (suc n) i byte = ask (slotEvent (bitOf byte i)) λ x. write n (i + 1) byte
 -- the path below a parting, and a 1 there: what the next pass takes where the codes part
 unfoldable pub upTo : ℕ → ℕ → ℕ
 upTo place path = path % 2 ^ place + 2 ^ place
+
+-- what the next pass wants by the last parting, one more than its place; 0 where there is none, or no place of a code
+unfoldable pub wanted : ℕ → ℕ → ℕ
+wanted last path = pick (eqb last 0) 0 (pick (leb last 64) (upTo (last - 1) path) 0)
 
 -- the codes listed, and whether there are no more
 pub record Listed : Type 0 where

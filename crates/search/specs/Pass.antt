@@ -1,14 +1,16 @@
 -- Laws: the loop of a pass and the loop of a byte play their hosts.
-use Prim.Native.Nat.{ℕ, zero, suc, _+_, _-_, _*_, _%_, _<_, _≤_, _^_}
+use Prim.Native.Nat.{ℕ, suc, _+_, _-_, _*_, _%_, _<_, _≤_, _^_}
 use native.Mathlib.Omega.{arith}
 use native.Mathlib.Nat.{one-mul, two-pow-succ, mod-lt}
 use native.Mathlib.Numerals.{add-one}
 use lib.Pow.{shl-exact, pow-mono, pow-pos}
 use mathlib.Core.Bool.{Bool, true, false}
 use mathlib.Core.Path.{_≡_, refl, sym, _∙_, ap}
+use borrow.Author.Tests.{ne-eqb, le-leb}
 use Rattle.base.specs.Pick.{pick, pick-true, pick-false}
 use Rattle.base.specs.Bits.{bitOf, both}
-use Rattle.search.specs.Host.{Host, ask, done, Played, played, End, end, more, resetsOf, slotsOf, slotEvent, heard, play, pass, write, turn, mark, put, upTo}
+use Rattle.line.specs.Events.{slotEvent}
+use Rattle.search.specs.Host.{Played, played, End, end, more, resetsOf, slotsOf, heard, play, pass, write, turn, mark, put, upTo, wanted}
 use Rattle.search.specs.Counts.{more-more, more-none, one-slot}
 use Rattle.search.specs.Search.{Attached, saysOf, leavesOf, wire}
 
@@ -19,10 +21,10 @@ abbrev pub playedWrite : Attached → ℕ → Played (Unit {0}) Attached
 playedWrite l n = played tt l 0 n
 
 -- what a host hears of a slot that it puts on the line
-abbrev pub hears : Bool → Attached → Bool
+abbrev hears : Bool → Attached → Bool
 hears b l = heard (saysOf (slotEvent b) l)
 
-abbrev pub slotLeaves : Bool → Attached → Attached
+abbrev slotLeaves : Bool → Attached → Attached
 slotLeaves b l = leavesOf (slotEvent b) l
 
 pow-next : (k : ℕ) → 2 ^ (k + 1) ≡ 2 ^ k + 2 ^ k
@@ -151,6 +153,10 @@ pub up-fits : (last path : ℕ) → 0 < last → last ≤ 64 → path % (1 * 2 ^
 up-fits last path h l =
     let m : 2 ^ (last - 1 + 1) ≤ 2 ^ 64 = pow-mono {i = last - 1 + 1} {j = 64} (omega arith) in
     rw (up-code last path h l) (omega (arith, up-lt (last - 1) path, pow-next (last - 1)))
+
+pub wanted-up : (last path : ℕ) → (last ≡ 0 → ⊥) → last ≤ 64 → wanted last path ≡ upTo (last - 1) path
+unfolding wanted
+wanted-up last path h l = pick-false _ _ _ (ne-eqb last 0 h) ∙ pick-true _ _ _ (le-leb last 64 l)
 
 pub pow-some : (last : ℕ) → 0 < last → last ≤ 64 → 0 < 1 * 2 ^ (last - 1) % 18446744073709551616
 pow-some last h l = rw (shl-one (last - 1) (omega arith)) (pow-pos (last - 1))

@@ -1,34 +1,33 @@
 -- Laws: the loop of the passes plays the host of the search.
-use Prim.Native.Nat.{ℕ, zero, suc, _+_, _-_, _*_, _<_, _≤_, _^_}
+use Prim.Native.Nat.{ℕ, zero, suc, _+_, _-_, _*_, _<_, _≤_}
 use native.Mathlib.Omega.{arith}
 use mathlib.Core.Bool.{Bool, true, false}
 use mathlib.Core.List.{List, [], _∷_, _++_}
 use mathlib.Core.Path.{_≡_, refl, sym, _∙_, ap}
 use lib.ListN.{length, take, drop, set, length-set, take-append-drop}
 use lib.Seq.{take-suc-set, drop-set-lt, drop-drop, length-take-le}
-use lib.Dec.{eqb, ltb}
-use borrow.Author.Tests.{eq-eqb, ne-eqb, lt-ltb, le-ltb}
+use lib.Dec.{eqb}
+use borrow.Author.Tests.{eq-eqb, ne-eqb}
 use native.Mathlib.Nat.{zero-add, add-zero}
 use native.Mathlib.Numerals.{add-one}
 use Rattle.base.specs.Pick.{pick, pick-true, pick-false}
 use Rattle.chip.specs.declared.Chip.{Chip}
-use Rattle.line.specs.Event.{standingOf}
-use Rattle.line.specs.Refusals.{stands-fine, stands-size, stands-range}
-use Rattle.line.specs.declared.Standing.{Standing}
-use Rattle.line.specs.declared.Standing.the-variants as standing
-use Rattle.search.specs.Host.{Host, ask, done, bind, Played, played, Listed, listed, End, end, more, resetEvent, heard, play, pass, write, passes, goOn, upTo, searchHost}
+use Rattle.line.specs.Event.{verdictOf}
+use Rattle.line.specs.Events.{resetEvent}
+use Rattle.line.specs.declared.Verdict.{Verdict}
+use Rattle.search.specs.Host.{Host, bind, Played, played, Listed, listed, End, end, more, heard, play, pass, write, passes, goOn, upTo, searchHost}
 use Rattle.search.specs.Counts.{more-more, more-none, andThen, play-bind}
-use Rattle.search.specs.Search.{Searched, complete, refused, completeOr4, Attached, attached, saysOf, leavesOf, wire, Search, outcome, fromPlayed, searchOf}
+use Rattle.search.specs.Search.{Searched, completeOr4, Attached, attached, saysOf, leavesOf, wire, Search, outcome, fromPlayed, searchBy, searchOf}
 use Rattle.search.specs.Pass.{playedPass, playedWrite}
 
 abbrev pub playedList : Attached → List ℕ → Bool → ℕ → ℕ → Played Listed Attached
 playedList l out b r s = played (listed out b) l r s
 
 -- what a host hears of a reset, and the line that it leaves
-abbrev pub hearsReset : Attached → Bool
+abbrev hearsReset : Attached → Bool
 hearsReset l = heard (saysOf resetEvent l)
 
-abbrev pub resetLeaves : Attached → Attached
+abbrev resetLeaves : Attached → Attached
 resetLeaves l = leavesOf resetEvent l
 
 -- where the loop of the passes stands after n codes
@@ -154,16 +153,8 @@ found-list n list list₀ l b r s a h e f =
     = ap (λ (i : ℕ). take n list ++ drop i list₀) k ∙ ap (λ (i : List ℕ). take n list ++ i) (sym e) ∙ take-append-drop n list in
     λ j. outcome (f j) (sym k j) (sym m j) r s l
 
--- a search, by how the table stands
-module _ (n : ℕ) (cs : List Chip) (ms ss : List ℕ) (q : Standing) (h : q ≡ standingOf n cs ms ss) (list : List ℕ) where
-  pub search-range : q ≡ standing.OutOfRange → outcome (refused 8) 0 list 0 0 (attached n cs ms ss) ≡ searchOf list (attached n cs ms ss)
-  unfolding searchOf
-  search-range f = simp (stands-range n cs ms ss q h f, pick-false)
-
-  pub search-size : q ≡ standing.WrongSize → outcome (refused 5) 0 list 0 0 (attached n cs ms ss) ≡ searchOf list (attached n cs ms ss)
-  unfolding searchOf
-  search-size f = let b = stands-size n cs ms ss q h f in simp (b .0, b .1, pick-true, pick-false)
-
-  pub search-fine : q ≡ standing.Fine → fromPlayed list (play wire (searchHost (length list)) (attached n cs ms ss)) ≡ searchOf list (attached n cs ms ss)
-  unfolding searchOf
-  search-fine f = let b = stands-fine n cs ms ss q h f in simp (b .0, b .1, pick-true)
+-- a search, taken at what the table was judged to
+pub search-at : (n : ℕ) (cs : List Chip) (ms ss list : List ℕ) (q p : Verdict) (r : Search) → q ≡ verdictOf n cs ms ss → q ≡ p
+    → r ≡ searchBy p list (attached n cs ms ss) → r ≡ searchOf list (attached n cs ms ss)
+unfolding searchOf
+search-at n cs ms ss list q p r h e k = k ∙ ap (λ (v : Verdict). searchBy v list (attached n cs ms ss)) (sym e ∙ h)

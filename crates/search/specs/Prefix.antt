@@ -1,17 +1,17 @@
 -- Laws: a search on a table goes by the places of its line alone, and leaves the places past them.
 use Prim.Native.Nat.{ℕ, _≤_}
 use native.Mathlib.Omega.{arith}
-use mathlib.Core.Bool.{Bool, true, false}
 use mathlib.Core.List.{List, _++_}
-use mathlib.Core.Path.{_≡_, refl, _∙_, ap, sym}
+use mathlib.Core.Path.{_≡_, refl, _∙_, ap}
 use lib.ListN.{length}
-use Rattle.base.specs.Pick.{pick}
 use Rattle.chip.specs.declared.Chip.{Chip}
-use Rattle.line.specs.Event.{Outcome, tableInRange, sizesFit}
-use Rattle.line.specs.Prefix.{pick-of, range-rest, sizes-rest, event-rest, event-holds}
+use Rattle.line.specs.Event.{Outcome, verdictOf}
+use Rattle.line.specs.Prefix.{verdict-rest, event-rest, event-holds}
 use Rattle.line.specs.declared.Event.{Event}
-use Rattle.search.specs.Host.{Host, done, ask, Played, played, more, resetsOf, slotsOf, play, searchHost}
-use Rattle.search.specs.Search.{refused, Attached, attached, leftBy, saysOf, leavesOf, wire, Search, outcome, fromPlayed, searchOf}
+use Rattle.line.specs.declared.Verdict.{Verdict}
+use Rattle.line.specs.declared.Verdict.the-variants as verdict
+use Rattle.search.specs.Host.{Host, done, ask, Played, Listed, played, more, resetsOf, slotsOf, play, searchHost}
+use Rattle.search.specs.Search.{Attached, attached, leftBy, saysOf, leavesOf, wire, Search, outcome, fromPlayed, searchBy, searchOf}
 
 -- the same table with the places Z after its own, and what was played or searched on it
 abbrev pub attachedRest : List Chip → Attached → Attached
@@ -44,13 +44,12 @@ module _ (n m : ℕ) (few : n ≤ m) where
 
   -- every search keeps the number of chips and of places
   pub search-has : (list : List ℕ) (l : Attached) → Has n m l → Has n m (searchOf list l .line)
-  unfolding searchOf pick
-  search-has list l s = go (tableInRange (l .count) (l .lent .chips)) (sizesFit (l .count) (l .lent .chips) (l .lent .images) (l .lent .pads))
+  unfolding searchOf
+  search-has list l s = go (verdictOf (l .count) (l .lent .chips) (l .lent .images) (l .lent .pads))
     where
-      go : (a b : Bool) → Has n m (pick a (pick b (fromPlayed list (play wire (searchHost (length list)) l)) (outcome (refused 5) 0 list 0 0 l)) (outcome (refused 8) 0 list 0 0 l) .line)
-      go true true = play-has (searchHost (length list)) l s
-      go true false = s
-      go false b = s
+      go : (v : Verdict) → Has n m (searchBy v list l .line)
+      go verdict.Well = play-has (searchHost (length list)) l s
+      go (verdict.Refused r) = s
 
   module _ (Z : List Chip) where
     event-on-rest : (e : Event) (l : Attached) → Has n m l → (saysOf e (attachedRest Z l) ≡ saysOf e l) × (leavesOf e (attachedRest Z l) ≡ attachedRest Z (leavesOf e l))
@@ -75,16 +74,9 @@ module _ (n m : ℕ) (few : n ≤ m) where
     search-rest list l s =
         let c = s .chips in
         let p = s .places in
-        let w : l .count ≤ length (l .lent .chips) = omega arith in
-        let in-range = tableInRange (l .count) (l .lent .chips) in
-        let fits = sizesFit (l .count) (l .lent .chips) (l .lent .images) (l .lent .pads) in
-        let found = fromPlayed list (play wire (searchHost (length list)) l) in
-        let no5 = outcome (refused 5) 0 list 0 0 l in
-        let no8 = outcome (refused 8) 0 list 0 0 l in
-        (λ j. pick (range-rest (l .count) (l .lent .chips) Z w j)
-        (pick (sizes-rest (l .count) (l .lent .chips) Z w (l .lent .images) (l .lent .pads) j)
-        (fromPlayed list (play-rest (searchHost (length list)) l s j))
-        (searchRest Z no5))
-        (searchRest Z no8))
-        ∙ ap (λ (k : Search). pick in-range k (searchRest Z no8)) (sym (pick-of (λ (k : Search). searchRest Z k) fits found no5))
-        ∙ sym (pick-of (λ (k : Search). searchRest Z k) in-range (pick fits found no5) no8)
+        ap (λ (v : Verdict). searchBy v list (attachedRest Z l)) (verdict-rest (l .count) (l .lent .chips) Z (omega arith) (l .lent .images) (l .lent .pads))
+        ∙ go (verdictOf (l .count) (l .lent .chips) (l .lent .images) (l .lent .pads))
+      where
+        go : (v : Verdict) → searchBy v list (attachedRest Z l) ≡ searchRest Z (searchBy v list l)
+        go verdict.Well = ap (λ (x : Played Listed Attached). fromPlayed list x) (play-rest (searchHost (length list)) l s)
+        go (verdict.Refused r) = refl

@@ -6,11 +6,13 @@ use lib.ListN.{length, drop}
 use Rattle.base.specs.Pick.{pick}
 use Rattle.chip.specs.declared.Chip.{Chip}
 use Rattle.line.specs.Layout.{Lent, lent}
-use Rattle.line.specs.Event.{Answered, Outcome, eventOf, tableInRange, sizesFit}
+use Rattle.line.specs.Event.{Answered, Outcome, numberOf, verdictOf, eventOf}
 use Rattle.line.specs.declared.Event.{Event}
+use Rattle.line.specs.declared.Verdict.{Verdict}
+use Rattle.line.specs.declared.Verdict.the-variants as verdict
 use Rattle.search.specs.Host.{Wire, Played, Listed, play, searchHost}
 use Rattle.search.specs.declared.SearchAnswer.{SearchAnswer}
-use Rattle.search.specs.declared.SearchAnswer.the-variants.{Complete, TooFewPlaces, WrongSize, OutOfRange}
+use Rattle.search.specs.declared.SearchAnswer.the-variants.{Complete, TooFewPlaces, Refused}
 
 -- what a search answers: that the list is complete, or document 01's refusal number
 pub data Searched : Type 0 where
@@ -20,8 +22,7 @@ pub data Searched : Type 0 where
 abbrev pub searched : SearchAnswer → Searched
 searched Complete = complete
 searched TooFewPlaces = refused 4
-searched WrongSize = refused 5
-searched OutOfRange = refused 8
+searched (Refused r) = refused (numberOf r)
 
 -- a table of chips with its buffers, as events find and leave it
 pub record Attached : Type 0 where
@@ -31,7 +32,7 @@ pub record Attached : Type 0 where
 abbrev pub attached : ℕ → List Chip → List ℕ → List ℕ → Attached
 attached n cs ms ss = record { count = n; lent = lent cs ms ss }
 
-abbrev pub eventOn : Event → Attached → Outcome
+abbrev eventOn : Event → Attached → Outcome
 eventOn e l = eventOf (l .count) (l .lent .chips) e (l .lent .images) (l .lent .pads)
 
 -- what an outcome leaves
@@ -72,11 +73,10 @@ fromPlayed list p =
     outcome (completeOr4 (p .result .complete)) (length (p .result .codes))
     (p .result .codes ++ drop (length (p .result .codes)) list) (p .resets) (p .slots) (p .line)
 
--- "Search: 8, 5 (both without an event, counts 0), then 4."
+-- "Search: 8, 5 (both without an event, counts 0), then 4.": by what the table is judged to
+abbrev pub searchBy : Verdict → List ℕ → Attached → Search
+searchBy verdict.Well list l = fromPlayed list (play wire (searchHost (length list)) l)
+searchBy (verdict.Refused r) list l = outcome (refused (numberOf r)) 0 list 0 0 l
+
 unfoldable pub searchOf : List ℕ → Attached → Search
-searchOf list l =
-    pick (tableInRange (l .count) (l .lent .chips))
-    (pick (sizesFit (l .count) (l .lent .chips) (l .lent .images) (l .lent .pads))
-    (fromPlayed list (play wire (searchHost (length list)) l))
-    (outcome (refused 5) 0 list 0 0 l))
-    (outcome (refused 8) 0 list 0 0 l)
+searchOf list l = searchBy (verdictOf (l .count) (l .lent .chips) (l .lent .images) (l .lent .pads)) list l

@@ -4,10 +4,10 @@ use line::Answer;
 use line::Event;
 use line::Table;
 ghost use mathlib.Core.Path.{_≡_};
-ghost use Prim.Native.Nat.{_≤_, _<_, _^_, _-_};
-ghost use Rattle.base.specs.Pick.{pick};
+ghost use Prim.Native.Nat.{_≤_, _<_, _^_};
 ghost use Rattle.line.specs.Event.{answered};
-ghost use Rattle.search.specs.Host.{play, pass, write, turn, mark, put, upTo, heard, eventNumber, slotEvent, resetEvent};
+ghost use Rattle.line.specs.Events.{slotEvent, resetEvent};
+ghost use Rattle.search.specs.Host.{play, pass, write, turn, mark, put, wanted, heard};
 ghost use Rattle.search.specs.Search.{attached, saysOf, leavesOf, wire};
 ghost use Rattle.search.specs.Pass.{playedPass, playedWrite};
 
@@ -32,30 +32,15 @@ pub fn bit_heard(a: Answer) -> bool
 {
     match a {
         Answer::Bit(b) => b,
-        Answer::OutOfRange => true,
-        Answer::WrongSize => true,
-        Answer::NoSuchEvent => true,
-        Answer::NoSuchLevels => true,
+        Answer::Refused(_) => true,
     }
 }
 
-// The number of the event of a slot.
-fn slot_number(b: bool) -> u32
-    ensures { λ r. ⌜ r ≡ pick b 1 0 ⌝ }
+// An event put on the line.
+fn put_event(t: Table, e: Event, ms: &mut [u8], ss: &mut [u8]) -> Heard
+    ensures { λ r. ⌜ (r .value ≡ heard (saysOf e (attached (t .n) (t .chips) (now (ms .entry)) (now (ss .entry)))))
+        × (attached (r .table .n) (r .table .chips) (now (ms .exit)) (now (ss .exit)) ≡ leavesOf e (attached (t .n) (t .chips) (now (ms .entry)) (now (ss .entry)))) ⌝ }
 {
-    if b { 1 } else { 0 }
-}
-
-// An event that names no chip.
-fn put_event(t: Table, number: u32, ms: &mut [u8], ss: &mut [u8]) -> Heard
-    ensures { λ r. ⌜ (r .value ≡ heard (saysOf (eventNumber number) (attached (t .n) (t .chips) (now (ms .entry)) (now (ss .entry)))))
-        × (attached (r .table .n) (r .table .chips) (now (ms .exit)) (now (ss .exit)) ≡ leavesOf (eventNumber number) (attached (t .n) (t .chips) (now (ms .entry)) (now (ss .entry)))) ⌝ }
-{
-    let e = Event {
-        number: number,
-        chip: 0,
-        levels: 0,
-    };
     let h = line::take_event(t, e, ms, ss);
     let answer = h.answer;
     let table = h.table;
@@ -71,8 +56,8 @@ pub fn slot(t: Table, b: bool, ms: &mut [u8], ss: &mut [u8]) -> Heard
     ensures { λ r. ⌜ (r .value ≡ heard (saysOf (slotEvent b) (attached (t .n) (t .chips) (now (ms .entry)) (now (ss .entry)))))
         × (attached (r .table .n) (r .table .chips) (now (ms .exit)) (now (ss .exit)) ≡ leavesOf (slotEvent b) (attached (t .n) (t .chips) (now (ms .entry)) (now (ss .entry)))) ⌝ }
 {
-    let number = slot_number(b);
-    put_event(t, number, ms, ss)
+    let e = line::events::slot(b);
+    put_event(t, e, ms, ss)
 }
 
 // A reset.
@@ -80,7 +65,8 @@ pub fn reset(t: Table, ms: &mut [u8], ss: &mut [u8]) -> Heard
     ensures { λ r. ⌜ (r .value ≡ heard (saysOf resetEvent (attached (t .n) (t .chips) (now (ms .entry)) (now (ss .entry)))))
         × (attached (r .table .n) (r .table .chips) (now (ms .exit)) (now (ss .exit)) ≡ leavesOf resetEvent (attached (t .n) (t .chips) (now (ms .entry)) (now (ss .entry)))) ⌝ }
 {
-    put_event(t, 2, ms, ss)
+    let e = line::events::reset();
+    put_event(t, e, ms, ss)
 }
 
 // The bit to write after a bit and its complement were read.
@@ -182,11 +168,17 @@ pub fn write_byte(t: Table, byte: u8, ms: &mut [u8], ss: &mut [u8]) -> Table
     table
 }
 
-// What the next pass takes where the codes part: the path below the last parting, and a 1 there.
-pub fn up_to(last: u8, path: u64) -> u64
-    requires { ⌜ (0 < last) × (last ≤ 64) ⌝ }
-    ensures { λ r. ⌜ r ≡ upTo (last - 1) path ⌝ }
+// What the next pass wants by the last parting, one more than its place: the path below it, and a 1 there; 0 where there
+// is none, or no place of a code.
+pub fn wants(last: u8, path: u64) -> u64
+    ensures { λ r. ⌜ r ≡ wanted last path ⌝ }
 {
-    let m: u64 = 1 << ((last - 1) as u64);
-    path % m + m
+    if last == 0 {
+        return 0;
+    }
+    if last <= 64 {
+        let one: u64 = 1 << ((last - 1) as u64);
+        return path % one + one;
+    }
+    0
 }

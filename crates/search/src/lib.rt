@@ -2,8 +2,10 @@
 mod host;
 
 pub use host::bit_heard;
-use line::Standing;
+pub use host::wants;
+use line::Refusal;
 use line::Table;
+use line::Verdict;
 ghost use mathlib.Core.Path.{_≡_};
 ghost use Prim.Native.Nat.{_≤_};
 ghost use lib.ListN.{length, take, drop};
@@ -23,10 +25,8 @@ pub enum SearchAnswer {
     Complete,
     // refusal 4
     TooFewPlaces,
-    // refusal 5
-    WrongSize,
-    // refusal 8
-    OutOfRange,
+    // refusals 8 and 5
+    Refused(Refusal),
 }
 
 // What a search answers, how many codes it listed, what it put on the line, and the table that it leaves.
@@ -108,7 +108,7 @@ fn seek(t: Table, list: &mut [u64], places: usize, ms: &mut [u8], ss: &mut [u8])
                     table: after,
                 };
             }
-            want = host::up_to(e.last, e.path);
+            want = host::wants(e.last, e.path);
             table = after;
         } else {
             return Sought {
@@ -169,16 +169,9 @@ pub fn search_line(t: Table, list: &mut [u64], ms: &mut [u8], ss: &mut [u8]) -> 
 {
     let stands = line::how_stands(t, ms, ss);
     match stands {
-        Standing::Fine => find(t, list, ms, ss),
-        Standing::WrongSize => Found {
-            answer: SearchAnswer::WrongSize,
-            listed: 0,
-            resets: Resets(0),
-            slots: Slots(0),
-            table: t,
-        },
-        Standing::OutOfRange => Found {
-            answer: SearchAnswer::OutOfRange,
+        Verdict::Well => find(t, list, ms, ss),
+        Verdict::Refused(r) => Found {
+            answer: SearchAnswer::Refused(r),
             listed: 0,
             resets: Resets(0),
             slots: Slots(0),

@@ -3,10 +3,13 @@
 use card::CardAnswer;
 use crc::CodeCheck;
 use libc::STDOUT_FILENO;
+use line::IMAGES_MOST;
+use line::PADS_MOST;
 use line::Table;
 ghost use mathlib.Core.Path.{_≡_};
 ghost use lib.ListN.{length, replicate};
 ghost use Rattle.chip.specs.Chip.{setUpChip};
+ghost use Rattle.line.specs.Layout.{imagesMost, padsMost};
 ghost use Rattle.card.specs.Card.{carded};
 ghost use Rattle.terminal.specs.Words.{isRefused, wordOf};
 
@@ -62,17 +65,17 @@ pub fn word(check: CodeCheck) -> [u8; 2]
 }
 
 // Room for the images of 16 chips, all FFh.
-pub fn image_room() -> [u8; 41984]
-    ensures { λ r. ⌜ r ≡ replicate 41984 0xFF ⌝ }
-    ensures { λ r. ⌜ 41984 ≡ length r ⌝ }
+pub fn image_room() -> [u8; IMAGES_MOST]
+    ensures { λ r. ⌜ r ≡ replicate imagesMost 0xFF ⌝ }
+    ensures { λ r. ⌜ imagesMost ≡ length r ⌝ }
 {
-    [0xFF; 41984]
+    [0xFF; IMAGES_MOST]
 }
 
 // Room for the scratchpads of 16 chips.
-pub fn pad_room() -> [u8; 512]
-    ensures { λ r. ⌜ r ≡ replicate 512 0xFF ⌝ }
-    ensures { λ r. ⌜ 512 ≡ length r ⌝ }
+pub fn pad_room() -> [u8; PADS_MOST]
+    ensures { λ r. ⌜ r ≡ replicate padsMost 0xFF ⌝ }
+    ensures { λ r. ⌜ padsMost ≡ length r ⌝ }
 {
-    [0xFF; 512]
+    [0xFF; PADS_MOST]
 }

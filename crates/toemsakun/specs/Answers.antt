@@ -1,11 +1,16 @@
 -- Laws: the answers of the plain forms as numbers, taken at what a match found.
-use Prim.Native.Nat.{ℕ, _<_}
-use mathlib.Core.Path.{_≡_, _∙_, ap, sym}
-use lib.IntN.{ℤ, pos}
+use Prim.Native.Nat.{ℕ, zero, suc, _-_, _<_}
+use native.Mathlib.Omega.{arith}
+use mathlib.Core.Bool.{true}
+use mathlib.Core.Path.{_≡_, refl, _∙_, sym, subst}
+use lib.Dec.{ltb}
+use borrow.Author.Tests.{lt-ltb}
+use lib.IntN.{ℤ, pos, negℤ, _-ℤ_}
 use lib.Signed.{mag}
 use mir.Syntax.{w32}
-use mir.Val.{toZ, ofZ}
-use mir.Facts.{toZ-ofZ}
+use mir.Val.{toZ, ofZ, SFits}
+use mir.Facts.{toZ-ofZ, toZ-pos}
+use Rattle.base.specs.Along.{along}
 use Rattle.line.specs.Event.{answered}
 use Rattle.line.specs.declared.Answer.{Answer}
 use Rattle.card.specs.Card.{Carded, chips, refused, carded}
@@ -24,16 +29,37 @@ cardOffset (chips m) = 0
 cardOffset (refused r at) = at
 
 pub event-at : (q p : Answer) (r : ℤ) → q ≡ p → r ≡ answerNumber (answered p) → r ≡ answerNumber (answered q)
-event-at q p r e h = h ∙ ap (λ (k : Answer). answerNumber (answered k)) (sym e)
+event-at = along (λ (k : Answer). answerNumber (answered k))
 
 pub search-at : (n : ℕ) (q p : SearchAnswer) (r : ℤ) → q ≡ p → r ≡ searchNumber n (searched p) → r ≡ searchNumber n (searched q)
-search-at n q p r e h = h ∙ ap (λ (k : SearchAnswer). searchNumber n (searched k)) (sym e)
+search-at n = along (λ (k : SearchAnswer). searchNumber n (searched k))
 
 pub card-at : (n : ℕ) (q p : CardAnswer) (r : ℤ) → q ≡ p → r ≡ cardNumber n (carded p) → r ≡ cardNumber n (carded q)
-card-at n q p r e h = h ∙ ap (λ (k : CardAnswer). cardNumber n (carded k)) (sym e)
+card-at n = along (λ (k : CardAnswer). cardNumber n (carded k))
 
 pub offset-at : (q p : CardAnswer) (r : ℕ) → q ≡ p → r ≡ cardOffset (carded p) → r ≡ cardOffset (carded q)
-offset-at q p r e h = h ∙ ap (λ (k : CardAnswer). cardOffset (carded k)) (sym e)
+offset-at = along (λ (k : CardAnswer). cardOffset (carded k))
+
+-- a small number, taken from 0
+minus-is : (n : ℕ) → n < 256 → toZ w32 0 -ℤ toZ w32 n ≡ minus n
+minus-is n h = (λ j. toZ-pos w32 {n = 0} (omega arith) j -ℤ toZ-pos w32 {n = n} (omega arith) j) ∙ go n
+  where
+    go : (k : ℕ) → pos 0 -ℤ pos k ≡ minus k
+    go zero = refl
+    go (suc k) =
+        let e : ltb 0 (suc k) ≡ true = lt-ltb 0 (suc k) (omega arith) in
+        let f : suc k - suc 0 ≡ k = omega arith in
+        rw (e, f)
+
+pub minus-fits : (n : ℕ) → n < 256 → SFits w32 (toZ w32 0 -ℤ toZ w32 n)
+minus-fits n h = subst (λ (z : ℤ). SFits w32 z) (sym (minus-is n h)) (record { sfits = go n h })
+  where
+    go : (k : ℕ) → k < 256 → mag (minus k) < 2147483648
+    go zero h = omega arith
+    go (suc k) h = omega arith
+
+pub minus-back : (n : ℕ) → n < 256 → toZ w32 (ofZ w32 (toZ w32 0 -ℤ toZ w32 n)) ≡ minus n
+minus-back n h = toZ-ofZ {w = w32} {z = toZ w32 0 -ℤ toZ w32 n} (minus-fits n h) ∙ minus-is n h
 
 -- a number that is handed on stays as it is
 pub passed : (z : ℤ) → mag z < 2147483648 → toZ w32 (ofZ w32 z) ≡ z

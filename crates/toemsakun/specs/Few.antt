@@ -8,15 +8,18 @@ use lib.Dec.{eqb}
 use lib.ListN.{length, length-append}
 use Rattle.base.specs.Pick.{pick}
 use Rattle.chip.specs.declared.Chip.{Chip}
-use Rattle.line.specs.Event.{tableInRange, sizesFit}
+use Rattle.line.specs.Event.{verdictOf}
+use Rattle.line.specs.declared.Verdict.{Verdict}
+use Rattle.line.specs.declared.Verdict.the-variants as verdict
 use Rattle.line.specs.Layout.{capped}
 use Rattle.card.specs.Card.{Read, all, none, after, onward, readFrom, entryAt}
 use Rattle.card.specs.declared.Entry.{Entry}
 use Rattle.card.specs.declared.Entry.the-variants as entry
 use Rattle.line.specs.Prefix.{capped-few}
-use Rattle.search.specs.Host.{Host, done, bind, Played, Listed, listed, End, write, pass, heard, play, passes, goOn, searchHost, upTo, resetEvent}
+use Rattle.line.specs.Events.{resetEvent}
+use Rattle.search.specs.Host.{Host, done, bind, Played, Listed, listed, End, write, pass, heard, play, passes, goOn, searchHost, upTo}
 use Rattle.search.specs.Counts.{play-bind}
-use Rattle.search.specs.Search.{Attached, saysOf, leavesOf, wire, searchOf, fromPlayed, outcome, refused}
+use Rattle.search.specs.Search.{Attached, saysOf, leavesOf, wire, searchBy, searchOf}
 
 -- what was read holds at most m chips
 abbrev pub AtMost : ℕ → Read → Type 0
@@ -83,10 +86,9 @@ module _ (m : ℕ) where
 
 -- a search lists at most 16 codes
 pub search-few : (list : List ℕ) (l : Attached) → searchOf list l .number ≤ 16
-unfolding searchOf pick
-search-few list l = go (tableInRange (l .count) (l .lent .chips)) (sizesFit (l .count) (l .lent .chips) (l .lent .images) (l .lent .pads))
+unfolding searchOf
+search-few list l = go (verdictOf (l .count) (l .lent .chips) (l .lent .images) (l .lent .pads))
   where
-    go : (a b : Bool) → pick a (pick b (fromPlayed list (play wire (searchHost (length list)) l)) (outcome (refused 5) 0 list 0 0 l)) (outcome (refused 8) 0 list 0 0 l) .number ≤ 16
-    go true true = passes-few 16 (capped (length list)) 0 [] l (omega (arith, capped-few (length list) .0))
-    go true false = omega arith
-    go false b = omega arith
+    go : (v : Verdict) → searchBy v list l .number ≤ 16
+    go verdict.Well = passes-few 16 (capped (length list)) 0 [] l (omega (arith, capped-few (length list) .0))
+    go (verdict.Refused r) = omega arith

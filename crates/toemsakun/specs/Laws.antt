@@ -13,13 +13,16 @@ use Rattle.base.specs.Pick.{pick, pick-true, pick-false}
 use Rattle.chip.specs.Chip.{setUpChip}
 use Rattle.chip.specs.declared.Chip.{Chip}
 use Rattle.line.specs.Layout.{capped, imagesAsked, padsAsked}
-use Rattle.line.specs.Event.{tableInRange}
+use Rattle.line.specs.Event.{tableInRange, verdictOf}
+use Rattle.line.specs.declared.Refusal.the-variants.{OutOfRange}
+use Rattle.line.specs.declared.Verdict.{Verdict}
+use Rattle.line.specs.declared.Verdict.the-variants as verdict
 use Rattle.line.specs.Prefix.{images-rest, pads-rest}
 use Rattle.line.specs.declared.Table.{Table}
 use Rattle.card.specs.Card.{Carded, chips, Read, all, none, readFrom, SetUp, setUp, fromRead, setUpOf}
-use Rattle.search.specs.Search.{Searched, refused as refusedBy, Attached, attached, Search, outcome as found, searchOf}
+use Rattle.search.specs.Search.{Searched, refused as refusedBy, Attached, attached, Search, outcome as found, searchBy, searchOf}
 use Rattle.search.specs.Prefix.{Has, search-rest, search-has}
-use Rattle.packed.specs.Packed.{packedTable, unpackedTable, isTable, tableFrom, putTable}
+use Rattle.packed.specs.Packed.{recordSize, packedTable, unpackedTable, isTable, tableFrom, putTable}
 use Rattle.packed.specs.Laws.{table-is, table-length, from-length}
 use Rattle.packed.specs.Filling.{putting-many}
 use Rattle.toemsakun.specs.Library.{minus, imagesBytes, padsBytes, cardLeft, cardFrom, cardBytes, SearchLeft, searchLeft, searchNumber, packedSearch, searchBytes}
@@ -32,9 +35,13 @@ many-range : (n : ℕ) (cs : List Chip) → 16 < n → tableInRange n cs ≡ fal
 unfolding tableInRange
 many-range n cs h = pick-false (leb n 16) _ _ (lt-leb n 16 h)
 
+many-verdict : (n : ℕ) (cs : List Chip) (ms ss : List ℕ) → 16 < n → verdictOf n cs ms ss ≡ verdict.Refused OutOfRange
+unfolding verdictOf
+many-verdict n cs ms ss h = pick-false (tableInRange n cs) _ _ (many-range n cs h)
+
 many-search : (list : List ℕ) (n : ℕ) (cs : List Chip) (ms ss : List ℕ) → 16 < n → searchOf list (attached n cs ms ss) ≡ found (refusedBy 8) 0 list 0 0 (attached n cs ms ss)
 unfolding searchOf
-many-search list n cs ms ss h = pick-false (tableInRange n cs) _ _ (many-range n cs h)
+many-search list n cs ms ss h = ap (λ (v : Verdict). searchBy v list (attached n cs ms ss)) (many-verdict n cs ms ss h)
 
 many-images : (n : ℕ) (cs : List Chip) → 16 < n → imagesAsked n cs ≡ 0
 unfolding imagesAsked
@@ -45,12 +52,12 @@ unfolding padsAsked
 many-pads n cs h = pick-false (leb n 16) _ _ (lt-leb n 16 h)
 
 -- a table whose records are all the bytes, put back
-put-all : (n : ℕ) (cs Z : List Chip) (bs : List ℕ) → length cs ≡ n → n ≤ 16 → length bs ≡ n * 24 → putTable n (cs ++ Z) bs ≡ packedTable cs
+put-all : (n : ℕ) (cs Z : List Chip) (bs : List ℕ) → length cs ≡ n → n ≤ 16 → length bs ≡ n * recordSize → putTable n (cs ++ Z) bs ≡ packedTable cs
 unfolding putTable
 put-all n cs Z bs l few k =
     pick-true (leb n 16) _ _ (le-leb n 16 few)
-    ∙ pick-true (leb (n * 24) (length bs)) _ _ (le-leb (n * 24) (length bs) (omega arith))
-    ∙ (λ j. packedTable (take-at cs Z n l j) ++ drop-of-length-le bs {i = n * 24} (omega arith) j)
+    ∙ pick-true (leb (n * recordSize) (length bs)) _ _ (le-leb (n * recordSize) (length bs) (omega arith))
+    ∙ (λ j. packedTable (take-at cs Z n l j) ++ drop-of-length-le bs {i = n * recordSize} (omega arith) j)
     ∙ append-nil (packedTable cs)
 
 -- a table that was filled by chips or stayed: what F gives of it
@@ -69,9 +76,9 @@ noTable = record { n = 17; chips = replicate 16 (setUpChip 0 0) }
 
 -- bytes that were unpacked, into a table that is refused where they are none
 module _ (bs : List ℕ) (u : Table) (u-is : u ≡ tableFrom bs noTable) where
-  table-chips : length (unpackedTable bs) ≡ length bs / 24
+  table-chips : length (unpackedTable bs) ≡ length bs / recordSize
   unfolding unpackedTable
-  table-chips = from-length (length bs / 24) bs
+  table-chips = from-length (length bs / recordSize) bs
 
   -- what F gives of the table is what G gives of the chips that the bytes stand for, or x where they are no table
   by-table : {A : Type 0} (F : ℕ → List Chip → A) (G : List Chip → A) (x : A)
@@ -83,10 +90,10 @@ module _ (bs : List ℕ) (u : Table) (u-is : u ≡ tableFrom bs noTable) where
   by-table F G x f g h =
       let k = table-chips in
       ap (λ (v : Table). F (v .n) (v .chips)) u-is
-      ∙ by-cases F G x (leb (length bs / 24) 16) (isTable bs) (unpackedTable bs) noTable
-      (λ p q. f (drop (length (unpackedTable bs)) (noTable .chips)) q (let m = leb-true (length bs / 24) 16 p in omega arith))
+      ∙ by-cases F G x (leb (length bs / recordSize) 16) (isTable bs) (unpackedTable bs) noTable
+      (λ p q. f (drop (length (unpackedTable bs)) (noTable .chips)) q (let m = leb-true (length bs / recordSize) 16 p in omega arith))
       (g (noTable .n) (noTable .chips) (omega arith))
-      (λ p q. h q (let m = leb-false (length bs / 24) 16 p in omega arith))
+      (λ p q. h q (let m = leb-false (length bs / recordSize) 16 p in omega arith))
 
   pub images-found : imagesAsked (u .n) (u .chips) ≡ imagesBytes bs
   unfolding imagesBytes
@@ -105,7 +112,7 @@ module _ (bs : List ℕ) (u : Table) (u-is : u ≡ tableFrom bs noTable) where
       (λ q l. many-pads (length (unpackedTable bs)) (unpackedTable bs) l)
 
   -- all the bytes of a table
-  all-bytes : isTable bs ≡ true → length bs ≡ length (unpackedTable bs) * 24
+  all-bytes : isTable bs ≡ true → length bs ≡ length (unpackedTable bs) * recordSize
   all-bytes q = let k = table-length (unpackedTable bs) in let e = ap (λ (l : List ℕ). length l) (table-is bs q) in omega arith
 
   -- what a search leaves, put back over the bytes
@@ -146,38 +153,38 @@ listed-few s list l h = let e : s .number ≡ searchOf list l .number = ap (λ (
 
 -- set-up over bytes, in a table without chips
 module _ (bs card : List ℕ) (t : Table) (no-chips : t .n ≡ 0) where
-  put-read : (r : Read) → AtMost (capped (length bs / 24)) r
+  put-read : (r : Read) → AtMost (capped (length bs / recordSize)) r
       → (let s = fromRead (t .n) (t .chips) r in cardLeft (cardNumber (s .count) (s .answer)) (putTable (s .count) (s .table) bs) (cardOffset (s .answer))) ≡ cardFrom bs r
   unfolding putTable
   put-read (all cs) few =
-      let k = capped-few (length bs / 24) in
+      let k = capped-few (length bs / recordSize) in
       ap (λ (b : List ℕ). cardLeft (pos (length cs)) b 0)
       (pick-true (leb (length cs) 16) _ _ (le-leb (length cs) 16 (omega arith))
-      ∙ pick-true (leb (length cs * 24) (length bs)) _ _ (le-leb (length cs * 24) (length bs) (omega arith))
-      ∙ ap (λ (l : List Chip). packedTable l ++ drop (length cs * 24) bs) (take-at cs (drop (length cs) (t .chips)) (length cs) refl))
+      ∙ pick-true (leb (length cs * recordSize) (length bs)) _ _ (le-leb (length cs * recordSize) (length bs) (omega arith))
+      ∙ ap (λ (l : List Chip). packedTable l ++ drop (length cs * recordSize) bs) (take-at cs (drop (length cs) (t .chips)) (length cs) refl))
   put-read (none r at) few =
       ap (λ (b : List ℕ). cardLeft (minus r) b at)
       (ap (λ (n : ℕ). putTable n (t .chips) bs) no-chips
       ∙ pick-true (leb 0 16) _ _ (le-leb 0 16 (omega arith))
-      ∙ pick-true (leb (0 * 24) (length bs)) _ _ (le-leb (0 * 24) (length bs) (omega arith)))
+      ∙ pick-true (leb (0 * recordSize) (length bs)) _ _ (le-leb (0 * recordSize) (length bs) (omega arith)))
 
-  read-count : (r : Read) → AtMost (capped (length bs / 24)) r → fromRead (t .n) (t .chips) r .count ≤ 16
-  read-count (all cs) few = let k = capped-few (length bs / 24) in omega arith
+  read-count : (r : Read) → AtMost (capped (length bs / recordSize)) r → fromRead (t .n) (t .chips) r .count ≤ 16
+  read-count (all cs) few = let k = capped-few (length bs / recordSize) in omega arith
   read-count (none r at) few = omega arith
 
   -- the count that set-up leaves is at most 16
-  pub card-few : (a : Carded) (n : ℕ) (cs : List Chip) → setUp a n cs ≡ setUpOf (length bs / 24) card (t .n) (t .chips) → n ≤ 16
+  pub card-few : (a : Carded) (n : ℕ) (cs : List Chip) → setUp a n cs ≡ setUpOf (length bs / recordSize) card (t .n) (t .chips) → n ≤ 16
   unfolding setUpOf
   card-few a n cs h =
-      let k = read-count (readFrom (capped (length bs / 24)) card 0) (read-few (capped (length bs / 24)) card 0) in
-      let e : n ≡ setUpOf (length bs / 24) card (t .n) (t .chips) .count = ap (λ (s : SetUp). s .count) h in
+      let k = read-count (readFrom (capped (length bs / recordSize)) card 0) (read-few (capped (length bs / recordSize)) card 0) in
+      let e : n ≡ setUpOf (length bs / recordSize) card (t .n) (t .chips) .count = ap (λ (s : SetUp). s .count) h in
       omega arith
 
   -- set-up in the table, its answer as a number, and its table put over the bytes
-  pub card-done : (a : Carded) (n : ℕ) (cs : List Chip) (x : List ℕ) (o : ℕ) (z : ℤ) → setUp a n cs ≡ setUpOf (length bs / 24) card (t .n) (t .chips)
+  pub card-done : (a : Carded) (n : ℕ) (cs : List Chip) (x : List ℕ) (o : ℕ) (z : ℤ) → setUp a n cs ≡ setUpOf (length bs / recordSize) card (t .n) (t .chips)
       → x ≡ putTable n cs bs → o ≡ cardOffset a → z ≡ cardNumber n a → cardLeft z x o ≡ cardBytes card bs
   unfolding setUpOf cardBytes
   card-done a n cs x o z h p q w =
       (λ j. cardLeft (w j) (p j) (q j))
       ∙ ap (λ (s : SetUp). cardLeft (cardNumber (s .count) (s .answer)) (putTable (s .count) (s .table) bs) (cardOffset (s .answer))) h
-      ∙ put-read (readFrom (capped (length bs / 24)) card 0) (read-few (capped (length bs / 24)) card 0)
+      ∙ put-read (readFrom (capped (length bs / recordSize)) card 0) (read-few (capped (length bs / recordSize)) card 0)

@@ -4,4 +4,3 @@ pub mod Few
 pub mod Laws
 pub mod Judging
 pub mod Acting
-pub mod Happening

@@ -11,7 +11,7 @@ use Rattle.line.specs.declared.Event.{Event}
 use Rattle.card.specs.Card.{Read, all, none, readFrom}
 use Rattle.search.specs.Search.{Searched, complete, refused as refusedBy, attached, Search, searchOf}
 use Rattle.packed.specs.Step.{flag}
-use Rattle.packed.specs.Packed.{packedTable, unpackedTable, isTable}
+use Rattle.packed.specs.Packed.{recordSize, packedTable, unpackedTable, isTable}
 
 -- "A result below 0 is minus one of these numbers; 0 or more is the answer."
 abbrev pub minus : ℕ → ℤ
@@ -19,7 +19,7 @@ minus r = negℤ (pos r)
 
 -- "The bytes of a table of so many chips; more than TK_MOST_CHIPS count as TK_MOST_CHIPS."
 unfoldable pub tableSize : ℕ → ℕ
-tableSize chips = capped chips * 24
+tableSize chips = capped chips * recordSize
 
 -- "The bytes of images, and of scratchpads, to lend with a table; 0 where it has over 16 records, or bytes that are no records."
 unfoldable pub imagesBytes : List ℕ → ℕ
@@ -40,16 +40,12 @@ cardLeft a t o = record { answer = a; table = t; offset = o }
 -- "The first n records are then chips as after power on, the rest of the table is as it was, and *offset is 0."; "Refused by 1,
 -- 2 or 3: the table is as it was, and *offset is where the record at fault begins in the card."
 abbrev pub cardFrom : List ℕ → Read → CardLeft
-cardFrom bs (all cs) = cardLeft (pos (length cs)) (packedTable cs ++ drop (length cs * 24) bs) 0
+cardFrom bs (all cs) = cardLeft (pos (length cs)) (packedTable cs ++ drop (length cs * recordSize) bs) 0
 cardFrom bs (none r at) = cardLeft (minus r) bs at
 
 -- "As many chips fit as the table has room for whole records; what stands in the table is not read."
 unfoldable pub cardBytes : List ℕ → List ℕ → CardLeft
-cardBytes card bs = cardFrom bs (readFrom (capped (length bs / 24)) card 0)
-
--- an event by its number, with the chip and the levels that TK_LEVELS names
-abbrev pub eventWith : ℕ → ℕ → ℕ → Event
-eventWith number chip levels = record { number = number; chip = chip; levels = levels }
+cardBytes card bs = cardFrom bs (readFrom (capped (length bs / recordSize)) card 0)
 
 -- an event: the answer, and what is left of the table, the images and the scratchpads
 pub record EventLeft : Type 0 where

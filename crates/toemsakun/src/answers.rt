@@ -1,15 +1,16 @@
 // The answers of the plain forms as numbers: 0 or more, or minus a refusal number.
 use card::CardAnswer;
 use line::Answer;
+use line::Refusal;
 use search::SearchAnswer;
 ghost use mathlib.Core.Path.{_≡_};
 ghost use Prim.Native.Nat.{_≤_};
 ghost use lib.IntN.{pos};
 ghost use Rattle.packed.specs.Step.{flag};
-ghost use Rattle.line.specs.Event.{answered};
+ghost use Rattle.line.specs.Event.{numberOf, answered};
 ghost use Rattle.card.specs.Card.{carded};
 ghost use Rattle.search.specs.Search.{searched};
-ghost use Rattle.toemsakun.specs.Library.{answerNumber, searchNumber};
+ghost use Rattle.toemsakun.specs.Library.{minus, answerNumber, searchNumber};
 ghost use Rattle.toemsakun.specs.Answers.{cardNumber, cardOffset};
 
 // A bus bit.
@@ -30,16 +31,21 @@ fn of_count(n: usize) -> i32
     n as i32
 }
 
+// Minus the number of a refusal.
+fn of_refusal(r: Refusal) -> i32
+    ensures { λ z. ⌜ z ≡ minus (numberOf r) ⌝ }
+{
+    let number = line::number_of(r);
+    -(number as i32)
+}
+
 // What an event answers.
 pub fn of_event(answer: Answer) -> i32
     ensures { λ r. ⌜ r ≡ answerNumber (answered answer) ⌝ }
 {
     match answer {
         Answer::Bit(b) => of_bit(b),
-        Answer::OutOfRange => -8,
-        Answer::WrongSize => -5,
-        Answer::NoSuchEvent => -6,
-        Answer::NoSuchLevels => -7,
+        Answer::Refused(r) => of_refusal(r),
     }
 }
 
@@ -51,8 +57,7 @@ pub fn of_search(answer: SearchAnswer, n: usize) -> i32
     match answer {
         SearchAnswer::Complete => of_count(n),
         SearchAnswer::TooFewPlaces => -4,
-        SearchAnswer::WrongSize => -5,
-        SearchAnswer::OutOfRange => -8,
+        SearchAnswer::Refused(r) => of_refusal(r),
     }
 }
 

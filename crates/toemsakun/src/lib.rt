@@ -4,20 +4,23 @@ mod event;
 mod loops;
 
 use line::Event;
+use line::Survey;
 use line::Table;
+use packed::RECORD_SIZE;
 ghost use mathlib.Core.Path.{_≡_};
+ghost use Prim.Native.Nat.{_≤_};
 ghost use lib.ListN.{replicate};
 ghost use Rattle.chip.specs.Chip.{setUpChip};
+ghost use Rattle.line.specs.Layout.{imagesMost, padsMost};
+ghost use Rattle.line.specs.Events.{eventWith};
 ghost use Rattle.packed.specs.Packed.{tableFrom};
 ghost use Rattle.toemsakun.specs.Laws.{noTable};
-ghost use Rattle.toemsakun.specs.Library.{tableSize, imagesBytes, padsBytes, cardLeft, cardBytes, eventWith, eventLeft, eventBytes, searchLeft, searchBytes};
+ghost use Rattle.toemsakun.specs.Library.{tableSize, imagesBytes, padsBytes, cardLeft, cardBytes, eventLeft, eventBytes, searchLeft, searchBytes};
 
-// What the records of a table come to: whether they are records, whether they are in range, and the sizes that they ask.
+// What the records of a table come to: whether they are records, and a look over them.
 pub struct Judged {
     pub ok: bool,
-    pub range: bool,
-    pub images: usize,
-    pub pads: usize,
+    pub survey: Survey,
 }
 
 // A table for chips to be put in, with n for their number.
@@ -45,13 +48,14 @@ pub extern "C" fn tk_table_size(chips: usize) -> usize
     ensures { λ r. ⌜ r ≡ tableSize chips ⌝ }
 {
     let n = line::used_places(chips);
-    n * 24
+    n * RECORD_SIZE
 }
 
 // The bytes of images to lend with a table.
 #[no_mangle]
 pub extern "C" fn tk_images_size(table: &[u8]) -> usize
     ensures { λ r. ⌜ r ≡ imagesBytes (now (table .entry)) ⌝ }
+    ensures most { λ r. ⌜ r ≤ imagesMost ⌝ }
 {
     let t = unpack(table);
     line::images_asked(t)
@@ -61,6 +65,7 @@ pub extern "C" fn tk_images_size(table: &[u8]) -> usize
 #[no_mangle]
 pub extern "C" fn tk_pads_size(table: &[u8]) -> usize
     ensures { λ r. ⌜ r ≡ padsBytes (now (table .entry)) ⌝ }
+    ensures most { λ r. ⌜ r ≤ padsMost ⌝ }
 {
     let t = unpack(table);
     line::pads_asked(t)
@@ -72,7 +77,7 @@ pub extern "C" fn tk_card(card: &[u8], table: &mut [u8], offset: &mut usize) -> 
     ensures { λ r. ⌜ cardLeft r (now (table .exit)) (now (offset .exit)) ≡ cardBytes (now (card .entry)) (now (table .entry)) ⌝ }
 {
     let none = blank(0);
-    let up = card::set_up(card, table.len() / 24, none);
+    let up = card::set_up(card, table.len() / RECORD_SIZE, none);
     let answer = up.answer;
     let t = up.table;
     packed::put_table(table, t);
@@ -93,11 +98,7 @@ pub extern "C" fn tk_event(
     ensures { λ r. ⌜ eventLeft r (now (table .exit)) (now (images .exit)) (now (pads .exit))
         ≡ eventBytes (now (table .entry)) (eventWith event chip levels) (now (images .entry)) (now (pads .entry)) ⌝ }
 {
-    let e = Event {
-        number: event,
-        chip: chip,
-        levels: levels,
-    };
+    let e = line::events::numbered(event, chip, levels);
     let answer = event::take_event(table, e, images, pads);
     answers::of_event(answer)
 }

@@ -5,6 +5,7 @@ use libc::STDERR_FILENO;
 use libc::STDIN_FILENO;
 use libc::STDOUT_FILENO;
 use line::Answer;
+use line::Refusal;
 ghost use Prim.Native.Nat.{_<_};
 use line::Event;
 use line::Table;
@@ -42,11 +43,7 @@ fn hex_digit(b: u8) -> u32 {
 
 // An event that names no chip, by its number.
 fn plain(number: u32) -> Given {
-    Given::Whole(Event {
-        number: number,
-        chip: 0,
-        levels: 0,
-    })
+    Given::Whole(line::events::numbered(number, 0, 0))
 }
 
 // The first character of an event; one that is no event has the number 5.
@@ -68,22 +65,21 @@ fn read_char(pending: Pending, b: u8) -> Given {
     match pending {
         Pending::Nothing => first(b),
         Pending::Chip => Given::Awaited(Pending::Levels(hex_digit(b))),
-        Pending::Levels(i) => Given::Whole(Event {
-            number: 4,
-            chip: i,
-            levels: hex_digit(b),
-        }),
+        Pending::Levels(i) => Given::Whole(line::events::outside_levels(i, hex_digit(b))),
     }
+}
+
+// The letter of a refusal: A for 1, and so on.
+fn refusal_letter(r: Refusal) -> u8 {
+    let number = line::number_of(r);
+    if number < 27 { b'@' + number } else { b'?' }
 }
 
 // The character of an answer.
 fn letter(answer: Answer) -> u8 {
     match answer {
         Answer::Bit(b) => { if b { b'1' } else { b'0' } }
-        Answer::OutOfRange => b'H',
-        Answer::WrongSize => b'E',
-        Answer::NoSuchEvent => b'F',
-        Answer::NoSuchLevels => b'G',
+        Answer::Refused(r) => refusal_letter(r),
     }
 }
 
@@ -213,12 +209,7 @@ fn serve(t: Table, input: &mut [u8], out: &mut [u8], images: &mut [u8], pads: &m
 
 // Powers the line on, and answers events.
 fn start(t: Table, images: &mut [u8], pads: &mut [u8]) {
-    let on = Event {
-        number: 3,
-        chip: 0,
-        levels: 0,
-    };
-    let powered = line::take_event(t, on, images, pads);
+    let powered = line::take_event(t, line::events::power_on(), images, pads);
     let table = powered.table;
     let mut input = io::large_buffer();
     let mut out = io::large_buffer();

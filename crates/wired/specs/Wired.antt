@@ -15,16 +15,17 @@ use Rattle.rom.specs.declared.RomStep.the-variants.{Command, Read, Match, Searc
 use Rattle.scratchpad.specs.Scratchpad.{crcSent, registerSent, padSent, memorySent}
 use Rattle.scratchpad.specs.declared.MemoryPhase.{MemoryPhase}
 use Rattle.scratchpad.specs.declared.MemoryPhase.the-variants as memory
-use Rattle.ds28ec20.specs.Image.{sightOf, closedIn, heldIn, fallsIn}
 use Rattle.ds2413.specs.Switch.{statusSent, confirmed, shown}
 use Rattle.ds2413.specs.declared.SwitchPhase.{SwitchPhase}
 use Rattle.ds2413.specs.declared.SwitchPhase.the-variants as pio
-use Rattle.chip.specs.Chip.{Whole, whole, chipWith, romSlot, memoryStep, memorySlot, switchSlot, levelTakes, takesOf, sendsOf, setUpChip}
+use Rattle.chip.specs.With.{withLevel}
+use Rattle.chip.specs.Chip.{Whole, whole, romSlot, memorySlot, switchSlot, levelTakes, takesOf, sendsOf, setUpChip}
 use Rattle.chip.specs.declared.Level.{Level}
 use Rattle.chip.specs.declared.Level.the-variants.{Waiting, Rom, FunctionCommand, Memory, Pio}
-use Rattle.line.specs.Line.{valueOf, busBit, lineAfter}
-use Rattle.search.specs.Host.{slotEvent}
-use Rattle.runs.specs.Runs.{at, levelsTaken, answerOf, afterOf, run}
+use Rattle.line.specs.Line.{valueOf}
+use Rattle.line.specs.Event.{askedBy, planEvent, levelsFit}
+use Rattle.line.specs.Events.{slotEvent}
+use Rattle.runs.specs.Runs.{at, afterOf, run}
 use Rattle.runs.specs.Range.{both-true′}
 
 -- every chip of a line sends 1
@@ -70,7 +71,7 @@ Sending (Pio (pio.Confirm count)) = Unit
 Sending (Pio (pio.Show count sample)) = Unit
 
 level-moves : (w : Whole) (l : Level) → Sending l → levelTakes w true l ≡ levelTakes w false l
-unfolding romSlot searchBit memorySlot memoryStep switchSlot pick
+unfolding romSlot searchBit memorySlot switchSlot pick
 level-moves w (Rom (Read place)) h = refl
 level-moves w (Rom (Search place step)) h = rw h
 level-moves w (Memory memory.Ones) h = refl
@@ -91,12 +92,12 @@ moves-on w h = level-moves w (w .chip .level) h
 
 -- a DS28EC20 that sends a 0 after a copy, and another that takes a ROM command
 abbrev sender : Whole
-sender = whole (chipWith (setUpChip 1 1) (Memory (memory.Copied false)) false (setUpChip 1 1 .registers) (setUpChip 1 1 .switch)) (replicate 2624 0xFF) (replicate 32 0xFF)
+sender = whole (withLevel (Memory (memory.Copied false)) (setUpChip 1 1)) (replicate 2624 0xFF) (replicate 32 0xFF)
 
 abbrev receiver : Whole
-receiver = whole (chipWith (setUpChip 2 1) (Rom (Command 0 0)) false (setUpChip 2 1 .registers) (setUpChip 2 1 .switch)) (replicate 2624 0xFF) (replicate 32 0xFF)
+receiver = whole (withLevel (Rom (Command 0 0)) (setUpChip 2 1)) (replicate 2624 0xFF) (replicate 32 0xFF)
 
 -- "A receiving chip takes the slot's value, not the host's bit.": the host writes 1, the sender pulls it to 0, and the receiver has taken a 0
 pub receiver-takes-value : at 1 (run (slotEvent true ∷ []) (sender ∷ receiver ∷ [])) .chip .level ≡ Rom (Command 1 0)
-unfolding afterOf levelsTaken lineAfter sendsOf takesOf romSlot commandBit filled both pick setUpChip
+unfolding afterOf planEvent levelsFit askedBy sendsOf takesOf romSlot commandBit filled both pick setUpChip
 receiver-takes-value = refl

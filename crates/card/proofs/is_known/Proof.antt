@@ -1,4 +1,4 @@
-use Rattle.chip.specs.Range.{knownKind}
+use Rattle.chip.specs.Kinds.{knownKind}
 use Rattle.base.specs.Rules.{cases}
 use Rattle.card.proofs.is_known.Statement.{statement}
 use Rattle.card.proofs.is_known.Tie as tie

@@ -1,86 +1,33 @@
-use Rattle.chip.specs.Level.{sends-at}
-use Rattle.chip.specs.Chip.{sendsOf}
-use Rattle.base.specs.Rules.{cases}
+use denote.Ref.{now}
+use Rattle.chip.specs.Level.{sends-is}
 use borrow.Author.Needs.{needs}
 use Rattle.chip.proofs.sends.Statement.{statement}
 use Rattle.chip.proofs.sends.Tie as tie
 use Rattle.chip.proofs.sends.Reads as reads
 use Rattle.chip.proofs.sends.Lts as lts
-use Rattle.chip.proofs.parts.memory_sends.Reads as memory-sends-reads
-use Rattle.ds2413.proofs.sends.Reads as sends-reads
-use Rattle.rom.proofs.sends.Reads as sends-reads′
+use Rattle.chip.proofs.looks.Reads as looks-reads
+use Rattle.chip.proofs.sends_by.Reads as sends-by-reads
+use Rattle.memory.proofs.flat.fetch.Reads as fetch-reads
 
--- src/lib.rt:57:27
-enum-told : tie.Need-enum-told
-enum-told c = search needs
+-- src/lib.rt:107:9
+looks-requires : tie.Need-looks-requires
+looks-requires c κs = search needs
 
--- src/lib.rt:58:20
-enum-known-level : tie.Need-enum-known-level
-enum-known-level c = search needs
+-- src/lib.rt:108:9
+fetch-requires : tie.Need-fetch-requires
+fetch-requires c κs = search needs
 
--- src/lib.rt:58:29
-sends-requires : tie.Need-sends-requires
-sends-requires c κs = search needs
+-- src/lib.rt:109:5
+sends-by-requires : tie.Need-sends-by-requires
+sends-by-requires c κs = search needs
 
--- src/lib.rt:59:57
-enum-told-2 : tie.Need-enum-told-2
-enum-told-2 c = search needs
-
--- src/lib.rt:60:23
-enum-known-level-2 : tie.Need-enum-known-level-2
-enum-known-level-2 c = search needs
-
--- src/lib.rt:60:33
-memory-sends-requires : tie.Need-memory-sends-requires
-memory-sends-requires c κs = search needs
-
--- src/lib.rt:61:20
-enum-known-level-3 : tie.Need-enum-known-level-3
-enum-known-level-3 c = search needs
-
--- src/lib.rt:61:30
-sends-requires-2 : tie.Need-sends-requires-2
-sends-requires-2 c κs = search needs
-
--- src/lib.rt:52:1
+-- src/lib.rt:104:1
 returns : tie.Need-returns
-unfolding sendsOf
-returns c = search (cases, sends-at)
-
--- src/lib.rt:52:1
-returns-2 : tie.Need-returns-2
-unfolding sendsOf
-returns-2 c = search (cases, sends-at, c .sends .ensures)
-
--- src/lib.rt:52:1
-returns-3 : tie.Need-returns-3
-unfolding sendsOf
-returns-3 c = search (cases, sends-at)
-
--- src/lib.rt:52:1
-returns-4 : tie.Need-returns-4
-unfolding sendsOf
-returns-4 c = search (cases, sends-at, c .memory-sends .ensures)
-
--- src/lib.rt:52:1
-returns-5 : tie.Need-returns-5
-unfolding sendsOf
-returns-5 c = search (cases, sends-at, c .sends2 .ensures)
+returns c =
+    let a = c .before .before .before .before .before .args in
+    let k = c .before .before .looks in
+    let x = c .before .fetch in
+    sends-is (a .c) (now (a .m)) (now (a .s)) (k .result) (x .result) (c .sends-by .result) (k .ensures) (x .ensures) (c .sends-by .ensures)
 
 pub sends-spec : {M : Type 1} → statement M
-sends-spec =
-    tie.close
-    (tie.spec
-    enum-told
-    enum-known-level
-    sends-requires
-    enum-told-2
-    enum-known-level-2
-    memory-sends-requires
-    enum-known-level-3
-    sends-requires-2
-    returns
-    returns-2
-    returns-3
-    returns-4
-    returns-5)
+sends-spec = tie.close (tie.spec looks-requires fetch-requires sends-by-requires returns)

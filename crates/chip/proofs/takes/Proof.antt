@@ -1,102 +1,63 @@
-use Rattle.chip.specs.Level.{takes-at}
-use Rattle.chip.specs.Chip.{takesOf}
-use Rattle.base.specs.Rules.{cases}
+use denote.Ref.{now}
+use Rattle.chip.specs.Level.{takes-is}
 use borrow.Author.Needs.{needs}
 use Rattle.chip.proofs.takes.Statement.{statement}
 use Rattle.chip.proofs.takes.Tie as tie
 use Rattle.chip.proofs.takes.Reads as reads
 use Rattle.chip.proofs.takes.Lts as lts
-use Rattle.chip.proofs.parts.function_slot.Reads as function-slot-reads
-use Rattle.chip.proofs.parts.memory_slot.Reads as memory-slot-reads
-use Rattle.chip.proofs.parts.rom_slot.Reads as rom-slot-reads
-use Rattle.chip.proofs.parts.switch_slot.Reads as switch-slot-reads
+use Rattle.chip.proofs.kinds.part_of.Reads as part-of-reads
+use Rattle.chip.proofs.looks.Reads as looks-reads
+use Rattle.chip.proofs.takes_by.Reads as takes-by-reads
+use Rattle.memory.proofs.flat.carry_out.Reads as carry-out-reads
+use Rattle.memory.proofs.flat.fetch.Reads as fetch-reads
 
--- src/lib.rt:43:27
-enum-told : tie.Need-enum-told
-enum-told c = search needs
+-- src/lib.rt:93:9
+looks-requires : tie.Need-looks-requires
+looks-requires c κs = search needs
 
--- src/lib.rt:44:20
-enum-known-level : tie.Need-enum-known-level
-enum-known-level c = search needs
+-- src/lib.rt:94:9
+fetch-requires : tie.Need-fetch-requires
+fetch-requires c κs = search needs
 
--- src/lib.rt:44:29
-rom-slot-requires : tie.Need-rom-slot-requires
-rom-slot-requires c κs = search needs
+-- src/lib.rt:95:9
+takes-by-requires : tie.Need-takes-by-requires
+takes-by-requires c κs = search needs
 
--- src/lib.rt:45:34
-enum-known-level-2 : tie.Need-enum-known-level-2
-enum-known-level-2 c = search needs
+-- src/lib.rt:98:9
+part-of-requires : tie.Need-part-of-requires
+part-of-requires c κs = search needs
 
--- src/lib.rt:45:51
-function-slot-requires : tie.Need-function-slot-requires
-function-slot-requires c κs = search needs
+-- src/lib.rt:99:5
+carry-out-requires : tie.Need-carry-out-requires
+carry-out-requires c κs = search needs
 
--- src/lib.rt:46:23
-enum-known-level-3 : tie.Need-enum-known-level-3
-enum-known-level-3 c = search needs
-
--- src/lib.rt:46:33
-memory-slot-requires : tie.Need-memory-slot-requires
-memory-slot-requires c κs = search needs
-
--- src/lib.rt:47:20
-enum-known-level-4 : tie.Need-enum-known-level-4
-enum-known-level-4 c = search needs
-
--- src/lib.rt:47:30
-switch-slot-requires : tie.Need-switch-slot-requires
-switch-slot-requires c κs = search needs
-
--- src/lib.rt:38:1
-returns : tie.Need-returns
-unfolding takesOf
-returns c = search (cases, takes-at)
-
--- src/lib.rt:38:1
-returns-2 : tie.Need-returns-2
-unfolding takesOf
-returns-2 c = search (cases, takes-at, c .rom-slot .ensures)
-
--- src/lib.rt:38:1
-returns-3 : tie.Need-returns-3
-unfolding takesOf
-returns-3 c = search (cases, takes-at, c .function-slot .ensures)
-
--- src/lib.rt:38:1
+-- src/lib.rt:90:1
 same-length : tie.Need-same-length
 same-length c = search needs
 
--- src/lib.rt:38:1
+-- src/lib.rt:90:1
 same-length-2 : tie.Need-same-length-2
 same-length-2 c = search needs
 
--- src/lib.rt:38:1
-returns-4 : tie.Need-returns-4
-unfolding takesOf
-returns-4 c = search (cases, takes-at, ← c .before .before .before .before .memory-slot .ensures)
-
--- src/lib.rt:38:1
-returns-5 : tie.Need-returns-5
-unfolding takesOf
-returns-5 c = search (cases, takes-at, c .switch-slot .ensures)
+-- src/lib.rt:90:1
+returns : tie.Need-returns
+returns c =
+    let a = c .before .before .before .before .before .before .before .before .before .before .before .before .before .before .before .before .args in
+    let k = c .before .before .before .before .before .before .before .before .before .before .before .before .before .looks in
+    let x = c .before .before .before .before .before .before .before .before .before .before .fetch in
+    let t = c .before .before .before .before .before .before .before .before .before .takes-by in
+    let p = c .before .before .before .before .before .before .before .part-of in
+    takes-is (a .c) (a .v) (now (a .m)) (now (a .s)) _ _ (k .result) (x .result) (t .result) (p .result) (k .ensures) (x .ensures) (t .ensures) (p .ensures) (c .before .before .before .before .carry-out .ensures)
 
 pub takes-spec : {M : Type 1} → statement M
 takes-spec =
     tie.close
     (tie.spec
-    enum-told
-    enum-known-level
-    rom-slot-requires
-    enum-known-level-2
-    function-slot-requires
-    enum-known-level-3
-    memory-slot-requires
-    enum-known-level-4
-    switch-slot-requires
-    returns
-    returns-2
-    returns-3
+    looks-requires
+    fetch-requires
+    takes-by-requires
+    part-of-requires
+    carry-out-requires
     same-length
     same-length-2
-    returns-4
-    returns-5)
+    returns)

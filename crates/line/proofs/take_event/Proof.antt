@@ -1,85 +1,60 @@
-use Rattle.line.specs.Refusals.{stands-fit, event-range, event-size, event-accepted}
-use mathlib.Core.Path.{_∙_}
+use Rattle.line.specs.Carried.{event-walked, table-few, table-surveyed}
+use Rattle.line.specs.Layout.{capped}
+use mathlib.Core.Path.{_≡_}
 use denote.Ref.{now}
+use lib.ListN.{length, length-map}
 use borrow.Author.Needs.{needs}
 use Rattle.line.proofs.take_event.Statement.{statement}
 use Rattle.line.proofs.take_event.Tie as tie
 use Rattle.line.proofs.take_event.Reads as reads
 use Rattle.line.proofs.take_event.Lts as lts
-use Rattle.line.proofs.accept.Reads as accept-reads
-use Rattle.line.proofs.how_stands.Reads as how-stands-reads
+use Rattle.line.proofs.loops.all_turn.Reads as all-turn-reads
+use Rattle.line.proofs.loops.line_value.Reads as line-value-reads
+use Rattle.line.proofs.loops.survey_table.Reads as survey-table-reads
+use Rattle.line.proofs.carrier.answer_of.Reads as answer-of-reads
+use Rattle.line.proofs.carrier.plan_of.Reads as plan-of-reads
 
--- src/lib.rt:181:9
-how-stands-requires : tie.Need-how-stands-requires
-how-stands-requires c κs = search needs
+-- src/lib.rt:124:9
+survey-table-requires : tie.Need-survey-table-requires
+survey-table-requires c κs = search needs
 
--- src/lib.rt:183:40
-enum-told : tie.Need-enum-told
-enum-told c = search needs
+-- src/lib.rt:125:9
+plan-of-requires : tie.Need-plan-of-requires
+plan-of-requires c κs = search needs
 
--- src/lib.rt:183:27
-accept-requires : tie.Need-accept-requires
-accept-requires c κs = let a = c .before .before .before .before .before .before .before .before .before .args in let q = c .before .before .before .before .how-stands in stands-fit (a .t .n) (a .t .chips) (now (a .ms)) (now (a .ss)) (q .result) (q .ensures) (search needs)
+-- src/lib.rt:126:9
+line-value-requires : tie.Need-line-value-requires
+line-value-requires c κs = search needs
 
--- src/lib.rt:185:21
-enum-told-2 : tie.Need-enum-told-2
-enum-told-2 c = search needs
+-- src/lib.rt:127:9
+all-turn-requires : tie.Need-all-turn-requires
+all-turn-requires c κs = search needs
 
--- src/lib.rt:189:21
-enum-told-3 : tie.Need-enum-told-3
-enum-told-3 c = search needs
+-- src/lib.rt:128:9
+answer-of-requires : tie.Need-answer-of-requires
+answer-of-requires c κs = search needs
 
--- src/lib.rt:177:1
+-- src/lib.rt:120:1
 same-length : tie.Need-same-length
 same-length c = search needs
 
--- src/lib.rt:177:1
+-- src/lib.rt:120:1
 same-length-2 : tie.Need-same-length-2
 same-length-2 c = search needs
 
--- src/lib.rt:177:1
+-- src/lib.rt:120:1
 returns : tie.Need-returns
-returns c = let a = c .before .before .before .before .before .before .before .before .before .before .before .before .before .before .args in let q = c .before .before .before .before .before .before .before .before .before .how-stands in c .before .before .before .before .accept .ensures ∙ event-accepted (a .t .n) (a .t .chips) (now (a .ms)) (now (a .ss)) (q .result) (q .ensures) (a .e) (search needs)
-
--- src/lib.rt:177:1
-same-length-3 : tie.Need-same-length-3
-same-length-3 c = search needs
-
--- src/lib.rt:177:1
-same-length-4 : tie.Need-same-length-4
-same-length-4 c = search needs
-
--- src/lib.rt:177:1
-returns-2 : tie.Need-returns-2
-returns-2 c = let a = c .before .before .before .before .before .before .before .args in let q = c .before .before .how-stands in event-size (a .t .n) (a .t .chips) (now (a .ms)) (now (a .ss)) (q .result) (q .ensures) (a .e) (search needs)
-
--- src/lib.rt:177:1
-same-length-5 : tie.Need-same-length-5
-same-length-5 c = search needs
-
--- src/lib.rt:177:1
-same-length-6 : tie.Need-same-length-6
-same-length-6 c = search needs
-
--- src/lib.rt:177:1
-returns-3 : tie.Need-returns-3
-returns-3 c = let a = c .before .before .before .before .before .before .before .args in let q = c .before .before .how-stands in event-range (a .t .n) (a .t .chips) (now (a .ms)) (now (a .ss)) (q .result) (q .ensures) (a .e) (search needs)
+returns c = let s = c .before .before .before .before .before .before .before .before .before .before .before .before .before .before .before in let a = s .args in let g = s .good .0 .1 .1 .1 .0 .1 .0 in let full : length (a .t .chips) ≡ 16 = simp length-map at (g .1) in let l = c .before .before .before .before .before .before .before .before .before .before .before .before .survey-table in let t = c .before .before .before .before .before .all-turn in event-walked (a .t .n) (capped (a .t .n)) (a .t .chips) (now (a .ms)) (now (a .ss)) (table-few (a .t .n) (a .t .chips) full) (a .e) (l .result) _ _ _ _ _ (table-surveyed (a .t .n) (a .t .chips) full (a .e .chip) (l .result) (l .ensures)) (c .before .before .before .before .before .before .before .before .before .before .before .plan-of .ensures) (c .before .before .before .before .before .before .before .before .line-value .ensures) (t .ensures .0) (c .answer-of .ensures) (t .ensures .1)
 
 pub take-event-spec : {M : Type 1} → statement M
 take-event-spec =
     tie.close
     (tie.spec
-    how-stands-requires
-    enum-told
-    accept-requires
-    enum-told-2
-    enum-told-3
+    survey-table-requires
+    plan-of-requires
+    line-value-requires
+    all-turn-requires
+    answer-of-requires
     same-length
     same-length-2
-    returns
-    same-length-3
-    same-length-4
-    returns-2
-    same-length-5
-    same-length-6
-    returns-3)
+    returns)

@@ -1,3 +1,4 @@
+use Rattle.search.specs.Pass.{wanted-up}
 use borrow.Author.Needs.{needs}
 use Rattle.search.specs.Passes.{Seeking, seeking-start, seek-absent, seek-none, seek-up, seek-last, seek-full, seek-again, seek-stays}
 use Rattle.search.specs.Search.{attached}
@@ -12,7 +13,7 @@ use Rattle.search.proofs.seek.Reads as reads
 use Rattle.search.proofs.seek.Lts as lts
 use Rattle.search.proofs.host.one_pass.Reads as one-pass-reads
 use Rattle.search.proofs.host.reset.Reads as reset-reads
-use Rattle.search.proofs.host.up_to.Reads as up-to-reads
+use Rattle.search.proofs.host.wants.Reads as wants-reads
 use Rattle.search.proofs.host.write_byte.Reads as write-byte-reads
 
 abbrev Inv-loop : tie.InvT-loop
@@ -134,8 +135,8 @@ returns-4 : tie.Need-returns-4 Inv-loop μ-loop
 returns-4 c = let s = c .before .before .before .before .before .before .before .before .before .before .before .before .before .before .before .before .before .before .before .before .before .before .before .before .before .before .before .before .before .before .before .loop in let g = s .inv .0 in let p = c .before .before .before .before .before .before .before .before .before .before .before .before .before .before .before .before .before .before .before .before .before .before .before .before .before .before .before .before .reset in let u = c .before .before .before .before .before .before .before .before .before .before .before .before .before .before .before .before .before .before .write-byte in let e = c .before .before .before .before .before .before .before .before .before .before .before .one-pass in (seek-full _ _ _ _ _ _ _ (s .list) (s .want) (s .n) (s .resets) (s .slots) (p .result .value) (e .result .path) (e .result .last) (e .result .slots .0) (e .result .whole) g (p .ensures .0) (p .ensures .1) (c .before .before .before .before .before .before .before .before .before .before .before .before .before .before .before .before .before .before .before .before .before .before .if1 .left) (c .before .before .before .before .before .before .before .before .before .before .before .before .before .before .before .before .before .before .before .before .before .if2 .left) (u .ensures) (e .ensures .0) (c .before .before .before .if3 .taken) (c .before .if4 .left) (c .if5 .taken), (seek-stays _ _ _ _ _ _ _ (s .list) (s .want) (s .n) (s .resets) (s .slots) (p .result .value) (e .result .path) (e .result .last) (e .result .slots .0) (e .result .whole) g (p .ensures .0) (p .ensures .1) (c .before .before .before .before .before .before .before .before .before .before .before .before .before .before .before .before .before .before .before .before .before .before .if1 .left) (c .before .before .before .before .before .before .before .before .before .before .before .before .before .before .before .before .before .before .before .before .before .if2 .left) (u .ensures) (e .ensures .0) (c .before .before .before .if3 .taken), simp length-set (omega (arith, g .room, c .before .before .before .before .before .before .before .before .before .before .before .before .before .before .before .before .before .before .before .before .before .if2 .left))))
 
 -- src/lib.rt:110:13
-up-to-requires : tie.Need-up-to-requires Inv-loop μ-loop
-up-to-requires c κs = let s = c .before .before .before .before .before .before .before .before .before .before .before .before .before .before .before .before .before .before .before .before .before .before .before .before .before .before .before .before .before .before .before .loop in let g = s .inv .0 in let p = c .before .before .before .before .before .before .before .before .before .before .before .before .before .before .before .before .before .before .before .before .before .before .before .before .before .before .before .before .reset in let u = c .before .before .before .before .before .before .before .before .before .before .before .before .before .before .before .before .before .before .write-byte in let e = c .before .before .before .before .before .before .before .before .before .before .before .one-pass in (omega (arith, c .before .if4 .left), e .ensures .1 .0)
+wants-requires : tie.Need-wants-requires Inv-loop μ-loop
+wants-requires c κs = search needs
 
 -- src/lib.rt:62:5
 loop-less : tie.Need-loop-less Inv-loop μ-loop
@@ -143,7 +144,7 @@ loop-less c = let s = c .before .before .before .before .before .before .before 
 
 -- src/lib.rt:62:5
 loop-again : tie.Need-loop-again Inv-loop μ-loop
-loop-again c = let s = c .before .before .before .before .before .before .before .before .before .before .before .before .before .before .before .before .before .before .before .before .before .before .before .before .before .before .before .before .before .before .before .before .loop in let g = s .inv .0 in let p = c .before .before .before .before .before .before .before .before .before .before .before .before .before .before .before .before .before .before .before .before .before .before .before .before .before .before .before .before .before .reset in let u = c .before .before .before .before .before .before .before .before .before .before .before .before .before .before .before .before .before .before .before .write-byte in let e = c .before .before .before .before .before .before .before .before .before .before .before .before .one-pass in (seek-again _ _ _ _ _ _ _ (s .list) (s .want) (s .n) (s .resets) (s .slots) (p .result .value) (e .result .path) (e .result .last) (e .result .slots .0) (e .result .whole) g (p .ensures .0) (p .ensures .1) (c .before .before .before .before .before .before .before .before .before .before .before .before .before .before .before .before .before .before .before .before .before .before .before .if1 .left) (c .before .before .before .before .before .before .before .before .before .before .before .before .before .before .before .before .before .before .before .before .before .before .if2 .left) (u .ensures) (e .ensures .0) (c .before .before .before .before .if3 .taken) (c .up-to .result) (c .before .before .if4 .left) (c .before .if5 .left) (c .up-to .ensures) (e .ensures .1 .1), e .kept .1 .1 .0 ∙ u .kept .1 .1 .0 ∙ p .kept .1 .0 ∙ s .inv .1, e .kept .1 .1 .1 .0 ∙ u .kept .1 .1 .1 .0 ∙ p .kept .1 .1 .0 ∙ s .inv .2)
+loop-again c = let s = c .before .before .before .before .before .before .before .before .before .before .before .before .before .before .before .before .before .before .before .before .before .before .before .before .before .before .before .before .before .before .before .before .loop in let g = s .inv .0 in let p = c .before .before .before .before .before .before .before .before .before .before .before .before .before .before .before .before .before .before .before .before .before .before .before .before .before .before .before .before .before .reset in let u = c .before .before .before .before .before .before .before .before .before .before .before .before .before .before .before .before .before .before .before .write-byte in let e = c .before .before .before .before .before .before .before .before .before .before .before .before .one-pass in (seek-again _ _ _ _ _ _ _ (s .list) (s .want) (s .n) (s .resets) (s .slots) (p .result .value) (e .result .path) (e .result .last) (e .result .slots .0) (e .result .whole) g (p .ensures .0) (p .ensures .1) (c .before .before .before .before .before .before .before .before .before .before .before .before .before .before .before .before .before .before .before .before .before .before .before .if1 .left) (c .before .before .before .before .before .before .before .before .before .before .before .before .before .before .before .before .before .before .before .before .before .before .if2 .left) (u .ensures) (e .ensures .0) (c .before .before .before .before .if3 .taken) (c .wants .result) (c .before .before .if4 .left) (c .before .if5 .left) (c .wants .ensures ∙ wanted-up _ _ (c .before .before .if4 .left) (e .ensures .1 .0)) (e .ensures .1 .1), e .kept .1 .1 .0 ∙ u .kept .1 .1 .0 ∙ p .kept .1 .0 ∙ s .inv .1, e .kept .1 .1 .1 .0 ∙ u .kept .1 .1 .1 .0 ∙ p .kept .1 .1 .0 ∙ s .inv .2)
 
 -- src/lib.rt:113:13
 same-length-13 : tie.Need-same-length-13 Inv-loop μ-loop
@@ -195,7 +196,7 @@ seek-spec =
     same-length-11
     same-length-12
     returns-4
-    up-to-requires
+    wants-requires
     loop-less
     loop-again
     same-length-13

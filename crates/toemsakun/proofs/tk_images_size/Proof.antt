@@ -18,7 +18,7 @@ images-asked-requires c κs = search needs
 
 -- src/lib.rt:42:1
 returns : tie.Need-returns
-returns c = let t = c .before .unpack in c .images-asked .ensures .0 ∙ images-found _ (t .result) (t .ensures)
+returns c = let t = c .before .unpack in (c .images-asked .ensures .0 ∙ images-found _ (t .result) (t .ensures), c .images-asked .ensures .1)
 
 pub tk-images-size-spec : {M : Type 1} → statement M
 tk-images-size-spec = tie.close (tie.spec unpack-requires images-asked-requires returns)

@@ -18,7 +18,7 @@ pads-asked-requires c κs = search needs
 
 -- src/lib.rt:51:1
 returns : tie.Need-returns
-returns c = let t = c .before .unpack in c .pads-asked .ensures .0 ∙ pads-found _ (t .result) (t .ensures)
+returns c = let t = c .before .unpack in (c .pads-asked .ensures .0 ∙ pads-found _ (t .result) (t .ensures), c .pads-asked .ensures .1)
 
 pub tk-pads-size-spec : {M : Type 1} → statement M
 tk-pads-size-spec = tie.close (tie.spec unpack-requires pads-asked-requires returns)

@@ -1,4 +1,5 @@
 use Rattle.toemsakun.specs.Library.{tableSize}
+use Rattle.packed.specs.Packed.{recordSize}
 use Prim.Native.Nat.{ℕ, _*_}
 use mathlib.Core.Path.{ap}
 use borrow.Author.Needs.{needs}
@@ -19,7 +20,7 @@ mul-result c = search needs
 -- src/lib.rt:23:1
 returns : tie.Need-returns
 unfolding tableSize
-returns c = ap (λ (n : ℕ). n * 24) (c .used-places .ensures .0)
+returns c = ap (λ (n : ℕ). n * recordSize) (c .used-places .ensures .0)
 
 pub tk-table-size-spec : {M : Type 1} → statement M
 tk-table-size-spec = tie.close (tie.spec used-places-requires mul-result returns)

@@ -83,9 +83,6 @@ fn fields() -> Vec<Damage> {
             record[LATCHES] = from(rng, 4)
         }),
         in_record("levels over 3", |rng, record| record[LEVELS] = from(rng, 4)),
-        in_record("byte 21", |rng, record| record[UNUSED] = from(rng, 1)),
-        in_record("byte 22", |rng, record| record[UNUSED + 1] = from(rng, 1)),
-        in_record("byte 23", |rng, record| record[UNUSED + 2] = from(rng, 1)),
         in_record("step 6 to 15", |rng, record| {
             record[STEP] = rng.between(6, 15) as u8
         }),
@@ -94,6 +91,17 @@ fn fields() -> Vec<Damage> {
         }),
         in_record("step over 36", |rng, record| record[STEP] = from(rng, 37)),
     ]
+}
+
+/// Faults of the bytes after the fields: each of them other than 0.
+fn unused() -> Vec<Damage> {
+    (UNUSED..RECORD)
+        .map(|at| {
+            in_record(&format!("byte {at}"), move |rng, record| {
+                record[at] = from(rng, 1)
+            })
+        })
+        .collect()
 }
 
 /// Faults of what one step needs: the other kind, and each field one over its most or more.
@@ -140,7 +148,8 @@ fn of_step(step: u8) -> Vec<Damage> {
 /// Every damage.
 pub fn damages() -> Vec<Damage> {
     let steps = STEPS.into_iter().flat_map(of_step);
-    lengths().into_iter().chain(fields()).chain(steps).collect()
+    let whole = lengths().into_iter().chain(fields()).chain(unused());
+    whole.chain(steps).collect()
 }
 
 impl Damage {

@@ -25,7 +25,7 @@ impl Tester {
             1 << 32,
             (1 << 32) + 1,
             1 << 60,
-            u64::MAX / 24 + 1,
+            u64::MAX / RECORD as u64 + 1,
             u64::MAX,
         ];
         for chips in (0..20).chain(large) {

@@ -7,7 +7,7 @@ use super::crc::crc16;
 use super::memory::LAST;
 
 /// Bytes of a record.
-pub const RECORD: usize = 24;
+pub const RECORD: usize = 32;
 
 /// The fields of a record.
 pub const KIND: usize = 8;
@@ -79,7 +79,7 @@ pub fn is_record(record: &[u8]) -> bool {
     let uses = [shape.a, shape.b, shape.c].map(|most| most > 0);
     record[RC] <= 1
         && (record[STEP] != 24 || record[A] <= 1)
-        && record[UNUSED..] == [0, 0, 0]
+        && record[UNUSED..].iter().all(|byte| *byte == 0)
         && (shape.w > 0 || word(record, W) == 0)
         && uses
             .iter()

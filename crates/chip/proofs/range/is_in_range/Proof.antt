@@ -5,7 +5,7 @@ use Rattle.chip.proofs.range.is_in_range.Tie as tie
 use Rattle.chip.proofs.range.is_in_range.Reads as reads
 use Rattle.chip.proofs.range.is_in_range.Lts as lts
 use Rattle.base.proofs.are_both.Reads as are-both-reads
-use Rattle.chip.proofs.range.is_known.Reads as is-known-reads
+use Rattle.chip.proofs.kinds.is_known.Reads as is-known-reads
 use Rattle.chip.proofs.range.level_in_range.Reads as level-in-range-reads
 use Rattle.ds2413.proofs.in_range.Reads as in-range-reads
 use Rattle.scratchpad.proofs.registers_in_range.Reads as registers-in-range-reads

@@ -1,11 +1,11 @@
-use Rattle.base.specs.Rules.{cases}
 use Rattle.lent.specs.Seek.{plan-ask-at}
+use Rattle.base.specs.Rules.{cases}
 use borrow.Author.Needs.{needs}
 use Rattle.lent.proofs.seeking.plan_ask.Statement.{statement}
 use Rattle.lent.proofs.seeking.plan_ask.Tie as tie
 use Rattle.lent.proofs.seeking.plan_ask.Reads as reads
 use Rattle.lent.proofs.seeking.plan_ask.Lts as lts
-use Rattle.turns.proofs.plan_of.Reads as plan-of-reads
+use Rattle.line.proofs.carrier.plan_of.Reads as plan-of-reads
 
 -- src/seeking.rt:39:39
 enum-told : tie.Need-enum-told

@@ -40,11 +40,11 @@ use denote.Triple.Table.{entered, cited}
 use denote.Triple.Walked.{says, Stays, stay-slice, walkOf, goes-slice, Walks, ends-at, walked, walk-meets}
 use denote.Triple.Clauses.{ensured, Lasts, lasts}
 use Rattle.chip.specs.declared.Chip.{Chip}
-use Rattle.turns.specs.declared.Look.{Look}
 use Rattle.machine.specs.declared.Machine.{Machine}
-use Rattle.line.specs.declared.Standing.{Standing}
+use Rattle.line.specs.declared.Survey.{Survey}
 use Rattle.machine.specs.declared.Told.{Told}
-use Rattle.turns.specs.Walk.{firstLook, lookedOver, standsBy}
+use Rattle.line.specs.declared.Verdict.{Verdict}
+use Rattle.line.specs.Carrier.{surveyed, verdictBy}
 use Rattle.lent.specs.Seek.{turnsFor, tellsBy}
 use Rattle.machine.specs.Run.{ran, run as machineRun}
 use Rattle.machine.specs.Machine.{beginOf, tale}
@@ -53,22 +53,22 @@ use Rattle.search.specs.Search.{searched, outcome as found, searchOf}
 use Rattle.lent.specs.Found.{searches}
 use Rattle.lent.proofs.Again.{LentAgain, lends-at, back-at, LentShared, lends-shared, shared-back}
 use Rattle.chip.proofs.Chip as Chip-row
-use Rattle.turns.proofs.Look as Look-row
-use Rattle.turns.proofs.Look.Laws as Look-laws
 use Rattle.machine.proofs.Machine as Machine-row
 use Rattle.machine.proofs.Machine.Laws as Machine-laws
-use Rattle.line.proofs.Standing as Standing-row
-use Rattle.line.proofs.Standing.Laws as Standing-laws
+use Rattle.line.proofs.Survey as Survey-row
+use Rattle.line.proofs.Survey.Laws as Survey-laws
 use Rattle.machine.proofs.Told as Told-row
 use Rattle.machine.proofs.Told.Laws as Told-laws
-use Rattle.lent.proofs.look_over as lent-look-over′
-use Rattle.lent.proofs.look_over.Symbol as lent-look-over-def
-use Rattle.lent.proofs.look_over.Symbol.{name as #lent-look-over}
-use Rattle.lent.proofs.look_over.Met as lent-look-over-thm
-use Rattle.turns.proofs.stands_by as turns-stands-by′
-use Rattle.turns.proofs.stands_by.Symbol as turns-stands-by-def
-use Rattle.turns.proofs.stands_by.Symbol.{name as #turns-stands-by}
-use Rattle.turns.proofs.stands_by.Met as turns-stands-by-thm
+use Rattle.line.proofs.Verdict as Verdict-row
+use Rattle.line.proofs.Verdict.Laws as Verdict-laws
+use Rattle.lent.proofs.survey_table as lent-survey-table′
+use Rattle.lent.proofs.survey_table.Symbol as lent-survey-table-def
+use Rattle.lent.proofs.survey_table.Symbol.{name as #lent-survey-table}
+use Rattle.lent.proofs.survey_table.Met as lent-survey-table-thm
+use Rattle.line.proofs.carrier.verdict_by as line-carrier-verdict-by′
+use Rattle.line.proofs.carrier.verdict_by.Symbol as line-carrier-verdict-by-def
+use Rattle.line.proofs.carrier.verdict_by.Symbol.{name as #line-carrier-verdict-by}
+use Rattle.line.proofs.carrier.verdict_by.Met as line-carrier-verdict-by-thm
 use Rattle.lent.proofs.seeking.turns_for as lent-seeking-turns-for′
 use Rattle.lent.proofs.seeking.turns_for.Symbol as lent-seeking-turns-for-def
 use Rattle.lent.proofs.seeking.turns_for.Symbol.{name as #lent-seeking-turns-for}
@@ -94,11 +94,11 @@ use Rattle.lent.proofs.seeking.search_line.Code.Mir as mir
 abbrev stayed : Stays (f.ended .signature .params) (f.ended .kept)
 stayed = (stay-slice (0 ∷ []) tt (plain (λ _. Chip-row.the-row)), (stay-slice (1 ∷ []) tt (plain (λ _. u64)), (stay-slice (2 ∷ []) tt (plain (λ _. u8)), (stay-slice (3 ∷ []) tt (plain (λ _. u8)), tt))))
 
-abbrev lent-look-over-says : {M : Type 1} (𝓤 : URA M) (H : Heap 𝓤) (A : Atoms 𝓤) (at-mem : Memory → SProp 𝓤) (run : Routine → Fun 𝓤) → Contract 𝓤
-lent-look-over-says 𝓤 H A at-mem run = tripleOf 𝓤 H A lent-look-over′.signature (lent-look-over′.spec 𝓤 H A at-mem run)
+abbrev lent-survey-table-says : {M : Type 1} (𝓤 : URA M) (H : Heap 𝓤) (A : Atoms 𝓤) (at-mem : Memory → SProp 𝓤) (run : Routine → Fun 𝓤) → Contract 𝓤
+lent-survey-table-says 𝓤 H A at-mem run = tripleOf 𝓤 H A lent-survey-table′.signature (lent-survey-table′.spec 𝓤 H A at-mem run)
 
-abbrev turns-stands-by-says : {M : Type 1} (𝓤 : URA M) (H : Heap 𝓤) (A : Atoms 𝓤) (at-mem : Memory → SProp 𝓤) (run : Routine → Fun 𝓤) → Contract 𝓤
-turns-stands-by-says 𝓤 H A at-mem run = tripleOf 𝓤 H A turns-stands-by′.signature (turns-stands-by′.spec 𝓤 H A at-mem run)
+abbrev line-carrier-verdict-by-says : {M : Type 1} (𝓤 : URA M) (H : Heap 𝓤) (A : Atoms 𝓤) (at-mem : Memory → SProp 𝓤) (run : Routine → Fun 𝓤) → Contract 𝓤
+line-carrier-verdict-by-says 𝓤 H A at-mem run = tripleOf 𝓤 H A line-carrier-verdict-by′.signature (line-carrier-verdict-by′.spec 𝓤 H A at-mem run)
 
 abbrev lent-seeking-turns-for-says : {M : Type 1} (𝓤 : URA M) (H : Heap 𝓤) (A : Atoms 𝓤) (at-mem : Memory → SProp 𝓤) (run : Routine → Fun 𝓤) → Contract 𝓤
 lent-seeking-turns-for-says 𝓤 H A at-mem run = tripleOf 𝓤 H A lent-seeking-turns-for′.signature (lent-seeking-turns-for′.spec 𝓤 H A at-mem run)
@@ -120,12 +120,12 @@ module _ {M : Type 1} (𝓤 : URA M) (H : Heap 𝓤) (A : Atoms 𝓤) (W : Given
   exits r r-is table′ table-len list′ list-len ms′ ms-len ss′ ss-len e =
       qed W (‵ (MutSlice (named 0) κ-table Chip-row.the-row .own (record { ptr = (table-b, table-o); name = table-γ; now = table′ }) ((sliceVal (table-b, table-o) (length table)) ∷ [])) ∷ ‵ (flft κ-table q-table) ∷ ‵ (MutSlice (named 1) κ-list u64 .own (record { ptr = (list-b, list-o); name = list-γ; now = list′ }) ((sliceVal (list-b, list-o) (length list)) ∷ [])) ∷ ‵ (flft κ-list q-list) ∷ ‵ (MutSlice (named 2) κ-ms u8 .own (record { ptr = (ms-b, ms-o); name = ms-γ; now = ms′ }) ((sliceVal (ms-b, ms-o) (length ms)) ∷ [])) ∷ ‵ (flft κ-ms q-ms) ∷ ‵ (MutSlice (named 3) κ-ss u8 .own (record { ptr = (ss-b, ss-o); name = ss-γ; now = ss′ }) ((sliceVal (ss-b, ss-o) (length ss)) ∷ [])) ∷ ‵ (flft κ-ss q-ss) ∷ []) ∵ suffices ! _ (ends-at 𝓤 H A f.ended stayed (f.clauses 𝓤 H A at-mem run) W (((κ-table, (κ-list, (κ-ms, (κ-ss, tt)))), (q-table, (q-list, (q-ms, (q-ss, tt)))), tt, ((record { ptr = (table-b, table-o); name = table-γ; now = table }), ((record { ptr = (list-b, list-o); name = list-γ; now = list }), ((record { ptr = (ms-b, ms-o); name = ms-γ; now = ms }), ((record { ptr = (ss-b, ss-o); name = ss-γ; now = ss }), tt)))), ((sliceVal (table-b, table-o) (length table)) ∷ [], ((sliceVal (list-b, list-o) (length list)) ∷ [], ((sliceVal (ms-b, ms-o) (length ms)) ∷ [], ((sliceVal (ss-b, ss-o) (length ss)) ∷ [], tt))))), tt) (LL.val Told-row.the-type Told-laws.the-laws r) r (table′, (list′, (ms′, (ss′, tt)))) (table-len, (list-len, (ms-len, (ss-len, tt))))) $ says ! e $ nothing ! $ move ! (8 ∷ 0 ∷ []) $ join ! $ move ! (6 ∷ 0 ∷ []) $ join ! $ move ! (4 ∷ 0 ∷ []) $ join ! $ move ! (2 ∷ 0 ∷ []) $ join ! $ frame ! $ nothing ! $ move ! (4 ∷ 0 ∷ []) $ fjoin ! $ move ! (3 ∷ 0 ∷ []) $ fjoin ! $ move ! (2 ∷ 0 ∷ []) $ fjoin ! $ move ! (1 ∷ 0 ∷ []) $ fjoin ! $ frame ! $ owned ! Told-row.the-row (Is Told-row.the-row) (LL.makes Told-row.the-type Told-laws.the-plain 𝓤 H A) r _ r-is $ done !
 
-  module _ (C : Calls 𝓤 H) (Λ : Loops 𝓤 H) (fm : FmC 𝓤 H (W .laws) C) (known-lent-look-over : Triple 𝓤 (C #lent-look-over) (lent-look-over-says 𝓤 H A at-mem run)) (known-turns-stands-by : Triple 𝓤 (C #turns-stands-by) (turns-stands-by-says 𝓤 H A at-mem run)) (known-lent-seeking-turns-for : Triple 𝓤 (C #lent-seeking-turns-for) (lent-seeking-turns-for-says 𝓤 H A at-mem run)) (known-machine-begin : Triple 𝓤 (C #machine-begin) (machine-begin-says 𝓤 H A at-mem run)) (known-lent-seeking-run-host : Triple 𝓤 (C #lent-seeking-run-host) (lent-seeking-run-host-says 𝓤 H A at-mem run)) (known-lent-seeking-tell-by : Triple 𝓤 (C #lent-seeking-tell-by) (lent-seeking-tell-by-says 𝓤 H A at-mem run)) (l₀ l₁ l₂ l₃ l₄ l₅ l₆ l₇ l₈ l₉ l₁₀ l₁₁ l₁₂ l₁₃ l₁₄ l₁₅ l₁₆ l₁₇ l₁₈ l₁₉ l₂₀ l₂₁ l₂₂ : ℕ) where
+  module _ (C : Calls 𝓤 H) (Λ : Loops 𝓤 H) (fm : FmC 𝓤 H (W .laws) C) (known-lent-survey-table : Triple 𝓤 (C #lent-survey-table) (lent-survey-table-says 𝓤 H A at-mem run)) (known-line-carrier-verdict-by : Triple 𝓤 (C #line-carrier-verdict-by) (line-carrier-verdict-by-says 𝓤 H A at-mem run)) (known-lent-seeking-turns-for : Triple 𝓤 (C #lent-seeking-turns-for) (lent-seeking-turns-for-says 𝓤 H A at-mem run)) (known-machine-begin : Triple 𝓤 (C #machine-begin) (machine-begin-says 𝓤 H A at-mem run)) (known-lent-seeking-run-host : Triple 𝓤 (C #lent-seeking-run-host) (lent-seeking-run-host-says 𝓤 H A at-mem run)) (known-lent-seeking-tell-by : Triple 𝓤 (C #lent-seeking-tell-by) (lent-seeking-tell-by-says 𝓤 H A at-mem run)) (l₀ l₁ l₂ l₃ l₄ l₅ l₆ l₇ l₈ l₉ l₁₀ l₁₁ l₁₂ l₁₃ l₁₄ l₁₅ l₁₆ l₁₇ l₁₈ l₁₉ l₂₀ l₂₁ l₂₂ : ℕ) where
     abbrev En : Env 𝓤 H
-    En = (Told-laws.mir, l₀) ∷ ((sliceTy (tyRef (named 0) mut (pointee (Chip-row.the-row .written)))), l₁) ∷ ((sliceTy (tyRef (named 1) mut (tyInt w64))), l₂) ∷ ((sliceTy (tyRef (named 2) mut (tyInt w8))), l₃) ∷ ((sliceTy (tyRef (named 3) mut (tyInt w8))), l₄) ∷ (Look-laws.mir, l₅) ∷ (Standing-laws.mir, l₆) ∷ ((tyInt w64), l₇) ∷ (Machine-laws.mir, l₈) ∷ (Machine-laws.mir, l₉) ∷ ((tyRef erased imm (pointee (Chip-row.the-row .written))), l₁₀) ∷ ((sliceTy (tyRef erased imm (pointee (Chip-row.the-row .written)))), l₁₁) ∷ ((tyInt w64), l₁₂) ∷ ((tyInt w64), l₁₃) ∷ ((tyInt w64), l₁₄) ∷ ((tyRef erased mut (pointee (Chip-row.the-row .written))), l₁₅) ∷ ((sliceTy (tyRef erased mut (pointee (Chip-row.the-row .written)))), l₁₆) ∷ ((tyRef erased mut (tyInt w64)), l₁₇) ∷ ((sliceTy (tyRef erased mut (tyInt w64))), l₁₈) ∷ ((tyRef erased mut (tyInt w8)), l₁₉) ∷ ((sliceTy (tyRef erased mut (tyInt w8))), l₂₀) ∷ ((tyRef erased mut (tyInt w8)), l₂₁) ∷ ((sliceTy (tyRef erased mut (tyInt w8))), l₂₂) ∷ []
+    En = (Told-laws.mir, l₀) ∷ ((sliceTy (tyRef (named 0) mut (pointee (Chip-row.the-row .written)))), l₁) ∷ ((sliceTy (tyRef (named 1) mut (tyInt w64))), l₂) ∷ ((sliceTy (tyRef (named 2) mut (tyInt w8))), l₃) ∷ ((sliceTy (tyRef (named 3) mut (tyInt w8))), l₄) ∷ (Survey-laws.mir, l₅) ∷ (Verdict-laws.mir, l₆) ∷ ((tyInt w64), l₇) ∷ (Machine-laws.mir, l₈) ∷ (Machine-laws.mir, l₉) ∷ ((tyRef erased imm (pointee (Chip-row.the-row .written))), l₁₀) ∷ ((sliceTy (tyRef erased imm (pointee (Chip-row.the-row .written)))), l₁₁) ∷ ((tyInt w64), l₁₂) ∷ ((tyInt w64), l₁₃) ∷ ((tyInt w64), l₁₄) ∷ ((tyRef erased mut (pointee (Chip-row.the-row .written))), l₁₅) ∷ ((sliceTy (tyRef erased mut (pointee (Chip-row.the-row .written)))), l₁₆) ∷ ((tyRef erased mut (tyInt w64)), l₁₇) ∷ ((sliceTy (tyRef erased mut (tyInt w64))), l₁₈) ∷ ((tyRef erased mut (tyInt w8)), l₁₉) ∷ ((sliceTy (tyRef erased mut (tyInt w8))), l₂₀) ∷ ((tyRef erased mut (tyInt w8)), l₂₁) ∷ ((sliceTy (tyRef erased mut (tyInt w8))), l₂₂) ∷ []
 
     -- the MIR, once the arguments are stored
-    starts : Sq W (‵ (froom (sliceTy (tyRef erased mut (tyInt w8))) l₂₂ 0) ∷ ‵ (fdies (sliceTy (tyRef erased mut (tyInt w8))) l₂₂) ∷ ‵ (froom (tyRef erased mut (tyInt w8)) l₂₁ 0) ∷ ‵ (fdies (tyRef erased mut (tyInt w8)) l₂₁) ∷ ‵ (froom (sliceTy (tyRef erased mut (tyInt w8))) l₂₀ 0) ∷ ‵ (fdies (sliceTy (tyRef erased mut (tyInt w8))) l₂₀) ∷ ‵ (froom (tyRef erased mut (tyInt w8)) l₁₉ 0) ∷ ‵ (fdies (tyRef erased mut (tyInt w8)) l₁₉) ∷ ‵ (froom (sliceTy (tyRef erased mut (tyInt w64))) l₁₈ 0) ∷ ‵ (fdies (sliceTy (tyRef erased mut (tyInt w64))) l₁₈) ∷ ‵ (froom (tyRef erased mut (tyInt w64)) l₁₇ 0) ∷ ‵ (fdies (tyRef erased mut (tyInt w64)) l₁₇) ∷ ‵ (froom (sliceTy (tyRef erased mut (pointee (Chip-row.the-row .written)))) l₁₆ 0) ∷ ‵ (fdies (sliceTy (tyRef erased mut (pointee (Chip-row.the-row .written)))) l₁₆) ∷ ‵ (froom (tyRef erased mut (pointee (Chip-row.the-row .written))) l₁₅ 0) ∷ ‵ (fdies (tyRef erased mut (pointee (Chip-row.the-row .written))) l₁₅) ∷ ‵ (froom (tyInt w64) l₁₄ 0) ∷ ‵ (fdies (tyInt w64) l₁₄) ∷ ‵ (froom (tyInt w64) l₁₃ 0) ∷ ‵ (fdies (tyInt w64) l₁₃) ∷ ‵ (froom (tyInt w64) l₁₂ 0) ∷ ‵ (fdies (tyInt w64) l₁₂) ∷ ‵ (froom (sliceTy (tyRef erased imm (pointee (Chip-row.the-row .written)))) l₁₁ 0) ∷ ‵ (fdies (sliceTy (tyRef erased imm (pointee (Chip-row.the-row .written)))) l₁₁) ∷ ‵ (froom (tyRef erased imm (pointee (Chip-row.the-row .written))) l₁₀ 0) ∷ ‵ (fdies (tyRef erased imm (pointee (Chip-row.the-row .written))) l₁₀) ∷ ‵ (froom Machine-laws.mir l₉ 0) ∷ ‵ (fdies Machine-laws.mir l₉) ∷ ‵ (froom Machine-laws.mir l₈ 0) ∷ ‵ (fdies Machine-laws.mir l₈) ∷ ‵ (froom (tyInt w64) l₇ 0) ∷ ‵ (fdies (tyInt w64) l₇) ∷ ‵ (froom Standing-laws.mir l₆ 0) ∷ ‵ (fdies Standing-laws.mir l₆) ∷ ‵ (froom Look-laws.mir l₅ 0) ∷ ‵ (fdies Look-laws.mir l₅) ∷ ‵ (fat fullShare (sliceTy (tyRef (named 3) mut (tyInt w8))) l₄ 0 (sliceVal (ss-b, ss-o) (length ss))) ∷ ‵ (fdies (sliceTy (tyRef (named 3) mut (tyInt w8))) l₄) ∷ ‵ (fat fullShare (sliceTy (tyRef (named 2) mut (tyInt w8))) l₃ 0 (sliceVal (ms-b, ms-o) (length ms))) ∷ ‵ (fdies (sliceTy (tyRef (named 2) mut (tyInt w8))) l₃) ∷ ‵ (fat fullShare (sliceTy (tyRef (named 1) mut (tyInt w64))) l₂ 0 (sliceVal (list-b, list-o) (length list))) ∷ ‵ (fdies (sliceTy (tyRef (named 1) mut (tyInt w64))) l₂) ∷ ‵ (fat fullShare (sliceTy (tyRef (named 0) mut (pointee (Chip-row.the-row .written)))) l₁ 0 (sliceVal (table-b, table-o) (length table))) ∷ ‵ (fdies (sliceTy (tyRef (named 0) mut (pointee (Chip-row.the-row .written)))) l₁) ∷ ‵ (froom Told-laws.mir l₀ 0) ∷ ‵ (fdies Told-laws.mir l₀) ∷ (‵ (flft κ-table q-table) ⊛ ‵ (flft κ-list q-list) ⊛ ‵ (flft κ-ms q-ms) ⊛ ‵ (flft κ-ss q-ss) ⊛ ‵ ftrue) ∷ ‵ (owns (MutSlice (named 0) κ-table Chip-row.the-row ∷ MutSlice (named 1) κ-list u64 ∷ MutSlice (named 2) κ-ms u8 ∷ MutSlice (named 3) κ-ss u8 ∷ []) ((record { ptr = (table-b, table-o); name = table-γ; now = table }), ((record { ptr = (list-b, list-o); name = list-γ; now = list }), ((record { ptr = (ms-b, ms-o); name = ms-γ; now = ms }), ((record { ptr = (ss-b, ss-o); name = ss-γ; now = ss }), tt)))) ((sliceVal (table-b, table-o) (length table)) ∷ [], ((sliceVal (list-b, list-o) (length list)) ∷ [], ((sliceVal (ms-b, ms-o) (length ms)) ∷ [], ((sliceVal (ss-b, ss-o) (length ss)) ∷ [], tt))))) ∷ []) (runs C Λ En mir.t-1 (atRet En Post))
+    starts : Sq W (‵ (froom (sliceTy (tyRef erased mut (tyInt w8))) l₂₂ 0) ∷ ‵ (fdies (sliceTy (tyRef erased mut (tyInt w8))) l₂₂) ∷ ‵ (froom (tyRef erased mut (tyInt w8)) l₂₁ 0) ∷ ‵ (fdies (tyRef erased mut (tyInt w8)) l₂₁) ∷ ‵ (froom (sliceTy (tyRef erased mut (tyInt w8))) l₂₀ 0) ∷ ‵ (fdies (sliceTy (tyRef erased mut (tyInt w8))) l₂₀) ∷ ‵ (froom (tyRef erased mut (tyInt w8)) l₁₉ 0) ∷ ‵ (fdies (tyRef erased mut (tyInt w8)) l₁₉) ∷ ‵ (froom (sliceTy (tyRef erased mut (tyInt w64))) l₁₈ 0) ∷ ‵ (fdies (sliceTy (tyRef erased mut (tyInt w64))) l₁₈) ∷ ‵ (froom (tyRef erased mut (tyInt w64)) l₁₇ 0) ∷ ‵ (fdies (tyRef erased mut (tyInt w64)) l₁₇) ∷ ‵ (froom (sliceTy (tyRef erased mut (pointee (Chip-row.the-row .written)))) l₁₆ 0) ∷ ‵ (fdies (sliceTy (tyRef erased mut (pointee (Chip-row.the-row .written)))) l₁₆) ∷ ‵ (froom (tyRef erased mut (pointee (Chip-row.the-row .written))) l₁₅ 0) ∷ ‵ (fdies (tyRef erased mut (pointee (Chip-row.the-row .written))) l₁₅) ∷ ‵ (froom (tyInt w64) l₁₄ 0) ∷ ‵ (fdies (tyInt w64) l₁₄) ∷ ‵ (froom (tyInt w64) l₁₃ 0) ∷ ‵ (fdies (tyInt w64) l₁₃) ∷ ‵ (froom (tyInt w64) l₁₂ 0) ∷ ‵ (fdies (tyInt w64) l₁₂) ∷ ‵ (froom (sliceTy (tyRef erased imm (pointee (Chip-row.the-row .written)))) l₁₁ 0) ∷ ‵ (fdies (sliceTy (tyRef erased imm (pointee (Chip-row.the-row .written)))) l₁₁) ∷ ‵ (froom (tyRef erased imm (pointee (Chip-row.the-row .written))) l₁₀ 0) ∷ ‵ (fdies (tyRef erased imm (pointee (Chip-row.the-row .written))) l₁₀) ∷ ‵ (froom Machine-laws.mir l₉ 0) ∷ ‵ (fdies Machine-laws.mir l₉) ∷ ‵ (froom Machine-laws.mir l₈ 0) ∷ ‵ (fdies Machine-laws.mir l₈) ∷ ‵ (froom (tyInt w64) l₇ 0) ∷ ‵ (fdies (tyInt w64) l₇) ∷ ‵ (froom Verdict-laws.mir l₆ 0) ∷ ‵ (fdies Verdict-laws.mir l₆) ∷ ‵ (froom Survey-laws.mir l₅ 0) ∷ ‵ (fdies Survey-laws.mir l₅) ∷ ‵ (fat fullShare (sliceTy (tyRef (named 3) mut (tyInt w8))) l₄ 0 (sliceVal (ss-b, ss-o) (length ss))) ∷ ‵ (fdies (sliceTy (tyRef (named 3) mut (tyInt w8))) l₄) ∷ ‵ (fat fullShare (sliceTy (tyRef (named 2) mut (tyInt w8))) l₃ 0 (sliceVal (ms-b, ms-o) (length ms))) ∷ ‵ (fdies (sliceTy (tyRef (named 2) mut (tyInt w8))) l₃) ∷ ‵ (fat fullShare (sliceTy (tyRef (named 1) mut (tyInt w64))) l₂ 0 (sliceVal (list-b, list-o) (length list))) ∷ ‵ (fdies (sliceTy (tyRef (named 1) mut (tyInt w64))) l₂) ∷ ‵ (fat fullShare (sliceTy (tyRef (named 0) mut (pointee (Chip-row.the-row .written)))) l₁ 0 (sliceVal (table-b, table-o) (length table))) ∷ ‵ (fdies (sliceTy (tyRef (named 0) mut (pointee (Chip-row.the-row .written)))) l₁) ∷ ‵ (froom Told-laws.mir l₀ 0) ∷ ‵ (fdies Told-laws.mir l₀) ∷ (‵ (flft κ-table q-table) ⊛ ‵ (flft κ-list q-list) ⊛ ‵ (flft κ-ms q-ms) ⊛ ‵ (flft κ-ss q-ss) ⊛ ‵ ftrue) ∷ ‵ (owns (MutSlice (named 0) κ-table Chip-row.the-row ∷ MutSlice (named 1) κ-list u64 ∷ MutSlice (named 2) κ-ms u8 ∷ MutSlice (named 3) κ-ss u8 ∷ []) ((record { ptr = (table-b, table-o); name = table-γ; now = table }), ((record { ptr = (list-b, list-o); name = list-γ; now = list }), ((record { ptr = (ms-b, ms-o); name = ms-γ; now = ms }), ((record { ptr = (ss-b, ss-o); name = ss-γ; now = ss }), tt)))) ((sliceVal (table-b, table-o) (length table)) ∷ [], ((sliceVal (list-b, list-o) (length list)) ∷ [], ((sliceVal (ms-b, ms-o) (length ms)) ∷ [], ((sliceVal (ss-b, ss-o) (length ss)) ∷ [], tt))))) ∷ []) (runs C Λ En mir.t-1 (atRet En Post))
     starts =
         move ! (47 ∷ []) $ fsplit ! $ move ! (1 ∷ []) $ fsplit ! $ move ! (1 ∷ []) $ fsplit ! $ move ! (1 ∷ []) $ fsplit ! $ move ! (1 ∷ []) $ drop ! $ move ! (50 ∷ []) $ split ! $ move ! (1 ∷ []) $ split ! $ move ! (1 ∷ []) $
         split ! $ move ! (1 ∷ []) $ split ! $ move ! (1 ∷ []) $ drop ! $
@@ -135,14 +135,14 @@ module _ {M : Type 1} (𝓤 : URA M) (H : Heap 𝓤) (A : Atoms 𝓤) (W : Given
         lft-new ! tt (λ ν-table. move ! (8 ∷ 4 ∷ []) $
         use2 W (later (some (λ (δ-table : GName). ‵ (ShrSlice (named 0) (ν-table ∷ []) Chip-row.the-row .own (record { ptr = (table-b, table-o); name = δ-table; now = table }) ((sliceVal (table-b, table-o) (length table)) ∷ [])) ⊛ ‵ (LentShared Chip-row.the-row κ-table (ν-table ∷ []) q-table table-γ table-b table-o table)))) (lends-shared Chip-row.the-row κ-table (ν-table ∷ []) q-table table-γ table-b table-o 𝓤 H A W (named 0) (named 0) table (length table) refl) $ await ! tt $ pick ! (λ δ-table. split ! $
         nothing ! $ owned ! u32 (Is u32) (uint-makes 𝓤 H A W w32) 0 ((uint-vals w32) 0) (refl, lit< tt) $ fjoin ! $ move ! (1 ∷ 0 ∷ []) $ fjoin ! $ nothing ! $ move ! (3 ∷ 0 ∷ []) $ join ! $ join ! $
-        use1 W (raw (lent-look-over-says 𝓤 H A at-mem run .pre ((((ν-table ∷ []), tt), (fullShare, tt), tt, ((record { ptr = (table-b, table-o); name = δ-table; now = table }), (0, tt)), (((sliceVal (table-b, table-o) (length table)) ∷ []), (((uint-vals w32) 0), tt))), tt))) (qed W (((‵ (flft (ν-table ∷ []) fullShare) ⊛ ‵ ftrue) ⊛ ‵ (owns (ShrSlice (named 0) (ν-table ∷ []) Chip-row.the-row ∷ u32 ∷ []) ((record { ptr = (table-b, table-o); name = δ-table; now = table }), (0, tt)) (((sliceVal (table-b, table-o) (length table)) ∷ []), (((uint-vals w32) 0), tt)))) ∷ []) ∵ nothing ! $ move ! (1 ∷ 0 ∷ []) $ split ! $ join ! $ frame ! $ done !) $
-        calls-at ! fm (lent-look-over-says 𝓤 H A at-mem run) known-lent-look-over ((((ν-table ∷ []), tt), (fullShare, tt), tt, ((record { ptr = (table-b, table-o); name = δ-table; now = table }), (0, tt)), (((sliceVal (table-b, table-o) (length table)) ∷ []), (((uint-vals w32) 0), tt))), tt) (and-then ! (load ! (from ! (stop !)) (look ! 30 refl)) (and-then ! (lit ! tt) (no-more !))) (λ w.
-        use1 W (later (some (λ (r : Look). ((‵ (flft (ν-table ∷ []) fullShare) ⊛ ‵ ftrue) ⊛ ‵ (Look-row.the-row .own r (w ∷ []))) ⊛ raw (ensured 𝓤 H A lent-look-over′.ended (lent-look-over′.clauses 𝓤 H A at-mem run) ((ν-table ∷ []), tt) ((record { ptr = (table-b, table-o); name = δ-table; now = table }), (0, tt)) tt r)))) (id⊢ 𝓤 _) $ await ! tt $ pick ! (λ r. split ! $ move ! (1 ∷ []) $
-        use1 W (some (λ (ws : Lasts lent-look-over′.ended ((ν-table ∷ []), tt) ((record { ptr = (table-b, table-o); name = δ-table; now = table }), (0, tt))). ‵ (lasts lent-look-over′.ended ((ν-table ∷ []), tt) ((record { ptr = (table-b, table-o); name = δ-table; now = table }), (0, tt)) ws) ⊛ raw (fact 𝓤 (r ≡ lookedOver 0 table firstLook)))) (id⊢ 𝓤 _) $ pick ! (λ ws. split ! $ move ! (1 ∷ []) $
-        heard ! (r ≡ lookedOver 0 table firstLook) (λ e. fsplit ! $ drop ! $ fsplit ! $ drop ! $ drop ! $ split ! $ split ! $ move ! (1 ∷ []) $ drop ! $ move ! (1 ∷ []) $
-        peeks ! Look-row.the-row (Is Look-row.the-row) (shows 𝓤 H A Look-row.the-row) r (w ∷ []) (λ is. drop ! $
-        land ! (from ! (stop !)) (init ! 42 refl ((LL.lawful Look-row.the-type Look-laws.the-laws 𝓤 H A W) .typed r _ is .0)) $
-        rewrite ! 42 (λ (u : Val). ‵ (fat fullShare Look-laws.mir l₅ 0 u)) (ap only ((LL.tells Look-row.the-type Look-laws.the-laws) r _ is)) refl $ lft-end ! tt $
+        use1 W (raw (lent-survey-table-says 𝓤 H A at-mem run .pre ((((ν-table ∷ []), tt), (fullShare, tt), tt, ((record { ptr = (table-b, table-o); name = δ-table; now = table }), (0, tt)), (((sliceVal (table-b, table-o) (length table)) ∷ []), (((uint-vals w32) 0), tt))), tt))) (qed W (((‵ (flft (ν-table ∷ []) fullShare) ⊛ ‵ ftrue) ⊛ ‵ (owns (ShrSlice (named 0) (ν-table ∷ []) Chip-row.the-row ∷ u32 ∷ []) ((record { ptr = (table-b, table-o); name = δ-table; now = table }), (0, tt)) (((sliceVal (table-b, table-o) (length table)) ∷ []), (((uint-vals w32) 0), tt)))) ∷ []) ∵ nothing ! $ move ! (1 ∷ 0 ∷ []) $ split ! $ join ! $ frame ! $ done !) $
+        calls-at ! fm (lent-survey-table-says 𝓤 H A at-mem run) known-lent-survey-table ((((ν-table ∷ []), tt), (fullShare, tt), tt, ((record { ptr = (table-b, table-o); name = δ-table; now = table }), (0, tt)), (((sliceVal (table-b, table-o) (length table)) ∷ []), (((uint-vals w32) 0), tt))), tt) (and-then ! (load ! (from ! (stop !)) (look ! 30 refl)) (and-then ! (lit ! tt) (no-more !))) (λ w.
+        use1 W (later (some (λ (r : Survey). ((‵ (flft (ν-table ∷ []) fullShare) ⊛ ‵ ftrue) ⊛ ‵ (Survey-row.the-row .own r (w ∷ []))) ⊛ raw (ensured 𝓤 H A lent-survey-table′.ended (lent-survey-table′.clauses 𝓤 H A at-mem run) ((ν-table ∷ []), tt) ((record { ptr = (table-b, table-o); name = δ-table; now = table }), (0, tt)) tt r)))) (id⊢ 𝓤 _) $ await ! tt $ pick ! (λ r. split ! $ move ! (1 ∷ []) $
+        use1 W (some (λ (ws : Lasts lent-survey-table′.ended ((ν-table ∷ []), tt) ((record { ptr = (table-b, table-o); name = δ-table; now = table }), (0, tt))). ‵ (lasts lent-survey-table′.ended ((ν-table ∷ []), tt) ((record { ptr = (table-b, table-o); name = δ-table; now = table }), (0, tt)) ws) ⊛ raw (fact 𝓤 (r ≡ surveyed 0 (length table) table)))) (id⊢ 𝓤 _) $ pick ! (λ ws. split ! $ move ! (1 ∷ []) $
+        heard ! (r ≡ surveyed 0 (length table) table) (λ e. fsplit ! $ drop ! $ fsplit ! $ drop ! $ drop ! $ split ! $ split ! $ move ! (1 ∷ []) $ drop ! $ move ! (1 ∷ []) $
+        peeks ! Survey-row.the-row (Is Survey-row.the-row) (shows 𝓤 H A Survey-row.the-row) r (w ∷ []) (λ is. drop ! $
+        land ! (from ! (stop !)) (init ! 42 refl ((LL.lawful Survey-row.the-type Survey-laws.the-laws 𝓤 H A W) .typed r _ is .0)) $
+        rewrite ! 42 (λ (u : Val). ‵ (fat fullShare Survey-laws.mir l₅ 0 u)) (ap only ((LL.tells Survey-row.the-type Survey-laws.the-laws) r _ is)) refl $ lft-end ! tt $
         use2 W (later (‵ (MutSlice (named 0) κ-table Chip-row.the-row .own (record { ptr = (table-b, table-o); name = table-γ; now = table }) ((sliceVal (table-b, table-o) (length table)) ∷ [])) ⊛ ‵ (flft κ-table q-table))) (shared-back Chip-row.the-row κ-table (ν-table ∷ []) q-table table-γ table-b table-o 𝓤 H A W (named 0) (named 0) table (length table) refl table-room) $
         await ! tt $ split ! $
         -- [own table; lft table; lft ss; lft ms; lft list; own ss; own ms; own list | _22 (8); _21 (10); _20 (12); _19 (14); _18 (16); _17 (18); _16 (20); _15 (22); _14 (24); _13 (26); _12 (28); _11 (30); _10 (32); _9 (34); _8 (36); _7 (38); _6 (40); _5 (42); _4 (44); _3 (46); _2 (48); _1 (50); _0 (52)]
@@ -152,22 +152,22 @@ module _ {M : Type 1} (𝓤 : URA M) (H : Heap 𝓤) (A : Atoms 𝓤) (W : Given
         nothing ! $ owned ! usize (Is usize) (uint-makes 𝓤 H A W w64) (length ss) ((uint-vals w64) (length ss)) (refl, ss-room .0) $ fjoin ! $
         owned ! usize (Is usize) (uint-makes 𝓤 H A W w64) (length ms) ((uint-vals w64) (length ms)) (refl, ms-room .0) $ fjoin ! $
         owned ! usize (Is usize) (uint-makes 𝓤 H A W w64) (length table) ((uint-vals w64) (length table)) (refl, table-room .0) $ fjoin ! $
-        owned ! Look-row.the-row (Is Look-row.the-row) (LL.makes Look-row.the-type Look-laws.the-plain 𝓤 H A) r ((LL.vals Look-row.the-type Look-laws.the-laws) r) (subst (λ (us : List Val). Is Look-row.the-row r us) ((LL.tells Look-row.the-type Look-laws.the-laws) r _ is) is) $
+        owned ! Survey-row.the-row (Is Survey-row.the-row) (LL.makes Survey-row.the-type Survey-laws.the-plain 𝓤 H A) r ((LL.vals Survey-row.the-type Survey-laws.the-laws) r) (subst (λ (us : List Val). Is Survey-row.the-row r us) ((LL.tells Survey-row.the-type Survey-laws.the-laws) r _ is) is) $
         fjoin ! $ nothing ! $ join ! $
-        use1 W (raw (turns-stands-by-says 𝓤 H A at-mem run .pre ((tt, tt, tt, (r, ((length table), ((length ms), ((length ss), tt)))), (((LL.vals Look-row.the-type Look-laws.the-laws) r), (((uint-vals w64) (length table)), (((uint-vals w64) (length ms)), (((uint-vals w64) (length ss)), tt))))), tt))) (qed W (((‵ ftrue) ⊛ ‵ (owns (Look-row.the-row ∷ usize ∷ usize ∷ usize ∷ []) (r, ((length table), ((length ms), ((length ss), tt)))) (((LL.vals Look-row.the-type Look-laws.the-laws) r), (((uint-vals w64) (length table)), (((uint-vals w64) (length ms)), (((uint-vals w64) (length ss)), tt)))))) ∷ []) ∵ nothing ! $ move ! (1 ∷ 0 ∷ []) $ split ! $ join ! $ frame ! $ done !) $
-        calls-at ! fm (turns-stands-by-says 𝓤 H A at-mem run) known-turns-stands-by ((tt, tt, tt, (r, ((length table), ((length ms), ((length ss), tt)))), (((LL.vals Look-row.the-type Look-laws.the-laws) r), (((uint-vals w64) (length table)), (((uint-vals w64) (length ms)), (((uint-vals w64) (length ss)), tt))))), tt) (and-then ! (load ! (from ! (stop !)) (look ! 43 refl)) (and-then ! (load ! (from ! (stop !)) (look ! 29 refl)) (and-then ! (load ! (from ! (stop !)) (look ! 27 refl)) (and-then ! (load ! (from ! (stop !)) (look ! 25 refl)) (no-more !))))) (λ w2.
-        use1 W (later (some (λ (r2 : Standing). ((‵ ftrue) ⊛ ‵ (Standing-row.the-row .own r2 (w2 ∷ []))) ⊛ raw (ensured 𝓤 H A turns-stands-by′.ended (turns-stands-by′.clauses 𝓤 H A at-mem run) tt (r, ((length table), ((length ms), ((length ss), tt)))) tt r2)))) (id⊢ 𝓤 _) $ await ! tt $ pick ! (λ r2. split ! $ move ! (1 ∷ []) $
-        use1 W (some (λ (ws2 : Lasts turns-stands-by′.ended tt (r, ((length table), ((length ms), ((length ss), tt))))). ‵ (lasts turns-stands-by′.ended tt (r, ((length table), ((length ms), ((length ss), tt)))) ws2) ⊛ raw (fact 𝓤 (r2 ≡ standsBy r (length table) (length ms) (length ss))))) (id⊢ 𝓤 _) $ pick ! (λ ws2. split ! $ move ! (1 ∷ []) $
-        heard ! (r2 ≡ standsBy r (length table) (length ms) (length ss)) (λ e2. fsplit ! $ drop ! $ fsplit ! $ drop ! $ fsplit ! $ drop ! $ fsplit ! $ drop ! $ drop ! $ split ! $ drop ! $
-        peeks ! Standing-row.the-row (Is Standing-row.the-row) (shows 𝓤 H A Standing-row.the-row) r2 (w2 ∷ []) (λ is2. drop ! $
-        land ! (from ! (stop !)) (init ! 40 refl ((EL.lawful Standing-row.the-type Standing-laws.the-laws 𝓤 H A W tt) .typed r2 _ is2 .0)) $
-        rewrite ! 40 (λ (u : Val). ‵ (fat fullShare Standing-laws.mir l₆ 0 u)) (ap only ((EL.tells Standing-row.the-type Standing-laws.the-laws) r2 _ is2)) refl $
+        use1 W (raw (line-carrier-verdict-by-says 𝓤 H A at-mem run .pre ((tt, tt, tt, (r, ((length table), ((length ms), ((length ss), tt)))), (((LL.vals Survey-row.the-type Survey-laws.the-laws) r), (((uint-vals w64) (length table)), (((uint-vals w64) (length ms)), (((uint-vals w64) (length ss)), tt))))), tt))) (qed W (((‵ ftrue) ⊛ ‵ (owns (Survey-row.the-row ∷ usize ∷ usize ∷ usize ∷ []) (r, ((length table), ((length ms), ((length ss), tt)))) (((LL.vals Survey-row.the-type Survey-laws.the-laws) r), (((uint-vals w64) (length table)), (((uint-vals w64) (length ms)), (((uint-vals w64) (length ss)), tt)))))) ∷ []) ∵ nothing ! $ move ! (1 ∷ 0 ∷ []) $ split ! $ join ! $ frame ! $ done !) $
+        calls-at ! fm (line-carrier-verdict-by-says 𝓤 H A at-mem run) known-line-carrier-verdict-by ((tt, tt, tt, (r, ((length table), ((length ms), ((length ss), tt)))), (((LL.vals Survey-row.the-type Survey-laws.the-laws) r), (((uint-vals w64) (length table)), (((uint-vals w64) (length ms)), (((uint-vals w64) (length ss)), tt))))), tt) (and-then ! (load ! (from ! (stop !)) (look ! 43 refl)) (and-then ! (load ! (from ! (stop !)) (look ! 29 refl)) (and-then ! (load ! (from ! (stop !)) (look ! 27 refl)) (and-then ! (load ! (from ! (stop !)) (look ! 25 refl)) (no-more !))))) (λ w2.
+        use1 W (later (some (λ (r2 : Verdict). ((‵ ftrue) ⊛ ‵ (Verdict-row.the-row .own r2 (w2 ∷ []))) ⊛ raw (ensured 𝓤 H A line-carrier-verdict-by′.ended (line-carrier-verdict-by′.clauses 𝓤 H A at-mem run) tt (r, ((length table), ((length ms), ((length ss), tt)))) tt r2)))) (id⊢ 𝓤 _) $ await ! tt $ pick ! (λ r2. split ! $ move ! (1 ∷ []) $
+        use1 W (some (λ (ws2 : Lasts line-carrier-verdict-by′.ended tt (r, ((length table), ((length ms), ((length ss), tt))))). ‵ (lasts line-carrier-verdict-by′.ended tt (r, ((length table), ((length ms), ((length ss), tt)))) ws2) ⊛ raw (fact 𝓤 (r2 ≡ verdictBy r (length table) (length ms) (length ss))))) (id⊢ 𝓤 _) $ pick ! (λ ws2. split ! $ move ! (1 ∷ []) $
+        heard ! (r2 ≡ verdictBy r (length table) (length ms) (length ss)) (λ e2. fsplit ! $ drop ! $ fsplit ! $ drop ! $ fsplit ! $ drop ! $ fsplit ! $ drop ! $ drop ! $ split ! $ drop ! $
+        peeks ! Verdict-row.the-row (Is Verdict-row.the-row) (shows 𝓤 H A Verdict-row.the-row) r2 (w2 ∷ []) (λ is2. drop ! $
+        land ! (from ! (stop !)) (init ! 40 refl ((EL.lawful Verdict-row.the-type Verdict-laws.the-laws 𝓤 H A W tt) .typed r2 _ is2 .0)) $
+        rewrite ! 40 (λ (u : Val). ‵ (fat fullShare Verdict-laws.mir l₆ 0 u)) (ap only ((EL.tells Verdict-row.the-type Verdict-laws.the-laws) r2 _ is2)) refl $
         -- [own table; lft table; lft ss; lft ms; lft list; own ss; own ms; own list | _22 (8); _21 (10); _20 (12); _19 (14); _18 (16); _17 (18); _16 (20); _15 (22); _14 (24); _13 (26); _12 (28); _11 (30); _10 (32); _9 (34); _8 (36); _7 (38); _6 (40); _5 (42); _4 (44); _3 (46); _2 (48); _1 (50); _0 (52)]
         nothing ! $
-        owned ! Standing-row.the-row (Is Standing-row.the-row) (EL.makes Standing-row.the-type Standing-laws.the-plain 𝓤 H A) r2 ((EL.vals Standing-row.the-type Standing-laws.the-laws) r2) (subst (λ (us : List Val). Is Standing-row.the-row r2 us) ((EL.tells Standing-row.the-type Standing-laws.the-laws) r2 _ is2) is2) $
+        owned ! Verdict-row.the-row (Is Verdict-row.the-row) (EL.makes Verdict-row.the-type Verdict-laws.the-plain 𝓤 H A) r2 ((EL.vals Verdict-row.the-type Verdict-laws.the-laws) r2) (subst (λ (us : List Val). Is Verdict-row.the-row r2 us) ((EL.tells Verdict-row.the-type Verdict-laws.the-laws) r2 _ is2) is2) $
         fjoin ! $ nothing ! $ join ! $
-        use1 W (raw (lent-seeking-turns-for-says 𝓤 H A at-mem run .pre ((tt, tt, tt, (r2, tt), (((EL.vals Standing-row.the-type Standing-laws.the-laws) r2), tt)), tt))) (qed W (((‵ ftrue) ⊛ ‵ (owns (Standing-row.the-row ∷ []) (r2, tt) (((EL.vals Standing-row.the-type Standing-laws.the-laws) r2), tt))) ∷ []) ∵ nothing ! $ move ! (1 ∷ 0 ∷ []) $ split ! $ join ! $ frame ! $ done !) $
-        calls-at ! fm (lent-seeking-turns-for-says 𝓤 H A at-mem run) known-lent-seeking-turns-for ((tt, tt, tt, (r2, tt), (((EL.vals Standing-row.the-type Standing-laws.the-laws) r2), tt)), tt) (and-then ! (load ! (from ! (stop !)) (look ! 41 refl)) (no-more !)) (λ w3.
+        use1 W (raw (lent-seeking-turns-for-says 𝓤 H A at-mem run .pre ((tt, tt, tt, (r2, tt), (((EL.vals Verdict-row.the-type Verdict-laws.the-laws) r2), tt)), tt))) (qed W (((‵ ftrue) ⊛ ‵ (owns (Verdict-row.the-row ∷ []) (r2, tt) (((EL.vals Verdict-row.the-type Verdict-laws.the-laws) r2), tt))) ∷ []) ∵ nothing ! $ move ! (1 ∷ 0 ∷ []) $ split ! $ join ! $ frame ! $ done !) $
+        calls-at ! fm (lent-seeking-turns-for-says 𝓤 H A at-mem run) known-lent-seeking-turns-for ((tt, tt, tt, (r2, tt), (((EL.vals Verdict-row.the-type Verdict-laws.the-laws) r2), tt)), tt) (and-then ! (load ! (from ! (stop !)) (look ! 41 refl)) (no-more !)) (λ w3.
         use1 W (later (some (λ (r3 : ℕ). ((‵ ftrue) ⊛ ‵ (usize .own r3 (w3 ∷ []))) ⊛ raw (ensured 𝓤 H A lent-seeking-turns-for′.ended (lent-seeking-turns-for′.clauses 𝓤 H A at-mem run) tt (r2, tt) tt r3)))) (id⊢ 𝓤 _) $ await ! tt $ pick ! (λ r3. split ! $ move ! (1 ∷ []) $
         use1 W (some (λ (ws3 : Lasts lent-seeking-turns-for′.ended tt (r2, tt)). ‵ (lasts lent-seeking-turns-for′.ended tt (r2, tt) ws3) ⊛ raw (fact 𝓤 (r3 ≡ turnsFor r2)))) (id⊢ 𝓤 _) $ pick ! (λ ws3. split ! $ move ! (1 ∷ []) $
         heard ! (r3 ≡ turnsFor r2) (λ e3. fsplit ! $ drop ! $ drop ! $ split ! $ drop ! $ peeks ! usize (Is usize) (shows 𝓤 H A usize) r3 (w3 ∷ []) (λ is3. drop ! $
@@ -225,10 +225,10 @@ module _ {M : Type 1} (𝓤 : URA M) (H : Heap 𝓤) (A : Atoms 𝓤) (W : Given
         nothing ! $
         owned ! Machine-row.the-row (Is Machine-row.the-row) (LL.makes Machine-row.the-type Machine-laws.the-plain 𝓤 H A) r5 ((LL.vals Machine-row.the-type Machine-laws.the-laws) r5) (subst (λ (us : List Val). Is Machine-row.the-row r5 us) ((LL.tells Machine-row.the-type Machine-laws.the-laws) r5 _ is5) is5) $
         fjoin ! $
-        owned ! Standing-row.the-row (Is Standing-row.the-row) (EL.makes Standing-row.the-type Standing-laws.the-plain 𝓤 H A) r2 ((EL.vals Standing-row.the-type Standing-laws.the-laws) r2) (subst (λ (us : List Val). Is Standing-row.the-row r2 us) ((EL.tells Standing-row.the-type Standing-laws.the-laws) r2 _ is2) is2) $
+        owned ! Verdict-row.the-row (Is Verdict-row.the-row) (EL.makes Verdict-row.the-type Verdict-laws.the-plain 𝓤 H A) r2 ((EL.vals Verdict-row.the-type Verdict-laws.the-laws) r2) (subst (λ (us : List Val). Is Verdict-row.the-row r2 us) ((EL.tells Verdict-row.the-type Verdict-laws.the-laws) r2 _ is2) is2) $
         fjoin ! $ nothing ! $ join ! $
-        use1 W (raw (lent-seeking-tell-by-says 𝓤 H A at-mem run .pre ((tt, tt, tt, (r2, (r5, tt)), (((EL.vals Standing-row.the-type Standing-laws.the-laws) r2), (((LL.vals Machine-row.the-type Machine-laws.the-laws) r5), tt))), tt))) (qed W (((‵ ftrue) ⊛ ‵ (owns (Standing-row.the-row ∷ Machine-row.the-row ∷ []) (r2, (r5, tt)) (((EL.vals Standing-row.the-type Standing-laws.the-laws) r2), (((LL.vals Machine-row.the-type Machine-laws.the-laws) r5), tt)))) ∷ []) ∵ nothing ! $ move ! (1 ∷ 0 ∷ []) $ split ! $ join ! $ frame ! $ done !) $
-        calls-at ! fm (lent-seeking-tell-by-says 𝓤 H A at-mem run) known-lent-seeking-tell-by ((tt, tt, tt, (r2, (r5, tt)), (((EL.vals Standing-row.the-type Standing-laws.the-laws) r2), (((LL.vals Machine-row.the-type Machine-laws.the-laws) r5), tt))), tt) (and-then ! (load ! (from ! (stop !)) (look ! 41 refl)) (and-then ! (load ! (from ! (stop !)) (look ! 35 refl)) (no-more !))) (λ w6.
+        use1 W (raw (lent-seeking-tell-by-says 𝓤 H A at-mem run .pre ((tt, tt, tt, (r2, (r5, tt)), (((EL.vals Verdict-row.the-type Verdict-laws.the-laws) r2), (((LL.vals Machine-row.the-type Machine-laws.the-laws) r5), tt))), tt))) (qed W (((‵ ftrue) ⊛ ‵ (owns (Verdict-row.the-row ∷ Machine-row.the-row ∷ []) (r2, (r5, tt)) (((EL.vals Verdict-row.the-type Verdict-laws.the-laws) r2), (((LL.vals Machine-row.the-type Machine-laws.the-laws) r5), tt)))) ∷ []) ∵ nothing ! $ move ! (1 ∷ 0 ∷ []) $ split ! $ join ! $ frame ! $ done !) $
+        calls-at ! fm (lent-seeking-tell-by-says 𝓤 H A at-mem run) known-lent-seeking-tell-by ((tt, tt, tt, (r2, (r5, tt)), (((EL.vals Verdict-row.the-type Verdict-laws.the-laws) r2), (((LL.vals Machine-row.the-type Machine-laws.the-laws) r5), tt))), tt) (and-then ! (load ! (from ! (stop !)) (look ! 41 refl)) (and-then ! (load ! (from ! (stop !)) (look ! 35 refl)) (no-more !))) (λ w6.
         use1 W (later (some (λ (r6 : Told). ((‵ ftrue) ⊛ ‵ (Told-row.the-row .own r6 (w6 ∷ []))) ⊛ raw (ensured 𝓤 H A lent-seeking-tell-by′.ended (lent-seeking-tell-by′.clauses 𝓤 H A at-mem run) tt (r2, (r5, tt)) tt r6)))) (id⊢ 𝓤 _) $ await ! tt $ pick ! (λ r6. split ! $ move ! (1 ∷ []) $
         use1 W (some (λ (ws6 : Lasts lent-seeking-tell-by′.ended tt (r2, (r5, tt))). ‵ (lasts lent-seeking-tell-by′.ended tt (r2, (r5, tt)) ws6) ⊛ raw (fact 𝓤 (tale (searched (r6 .answer)) (r6 .listed) (r6 .resets .0) (r6 .slots .0) ≡ tellsBy r2 r5)))) (id⊢ 𝓤 _) $ pick ! (λ ws6. split ! $ move ! (1 ∷ []) $
         heard ! (tale (searched (r6 .answer)) (r6 .listed) (r6 .resets .0) (r6 .slots .0) ≡ tellsBy r2 r5) (λ e6. fsplit ! $ drop ! $ fsplit ! $ drop ! $ drop ! $ split ! $ drop ! $
@@ -245,20 +245,20 @@ module _ {M : Type 1} (𝓤 : URA M) (H : Heap 𝓤) (A : Atoms 𝓤) (W : Given
         keep ! (6 ∷ 7 ∷ 4 ∷ 5 ∷ 2 ∷ 3 ∷ 0 ∷ 1 ∷ []) $
         by ! (exits r6 (subst (λ (us : List Val). Is Told-row.the-row r6 us) ((LL.tells Told-row.the-type Told-laws.the-laws) r6 _ is6) is6) (ws5 .0) table-as-long5 (ws5 .1 .1 .1 .0) list-as-long5 (ws5 .1 .1 .1 .1 .0) ms-as-long5 (ws5 .1 .1 .1 .1 .1 .0) ss-as-long5 (searches table list ms ss r r2 r3 r4 r5 (ws5 .1 .1 .1 .0) (attached (length (ws5 .0)) (ws5 .0) (ws5 .1 .1 .1 .1 .0) (ws5 .1 .1 .1 .1 .1 .0)) (searched (r6 .answer)) (r6 .listed) (r6 .resets .0) (r6 .slots .0) e e2 e3 e4 e5 e6))))))))))))))))))))))))))))))))))))))))))))))
 
-  walk : (C : Calls 𝓤 H) (Λ : Loops 𝓤 H) → FmC 𝓤 H (W .laws) C → Triple 𝓤 (C #lent-look-over) (lent-look-over-says 𝓤 H A at-mem run) → Triple 𝓤 (C #turns-stands-by) (turns-stands-by-says 𝓤 H A at-mem run) → Triple 𝓤 (C #lent-seeking-turns-for) (lent-seeking-turns-for-says 𝓤 H A at-mem run) → Triple 𝓤 (C #machine-begin) (machine-begin-says 𝓤 H A at-mem run) → Triple 𝓤 (C #lent-seeking-run-host) (lent-seeking-run-host-says 𝓤 H A at-mem run) → Triple 𝓤 (C #lent-seeking-tell-by) (lent-seeking-tell-by-says 𝓤 H A at-mem run) → ent 𝓤 (onEntry 𝓤 H A f.signature (κ-table, (κ-list, (κ-ms, (κ-ss, tt)))) (q-table, (q-list, (q-ms, (q-ss, tt)))) ((record { ptr = (table-b, table-o); name = table-γ; now = table }), ((record { ptr = (list-b, list-o); name = list-γ; now = list }), ((record { ptr = (ms-b, ms-o); name = ms-γ; now = ms }), ((record { ptr = (ss-b, ss-o); name = ss-γ; now = ss }), tt)))) ((sliceVal (table-b, table-o) (length table)) ∷ [], ((sliceVal (list-b, list-o) (length list)) ∷ [], ((sliceVal (ms-b, ms-o) (length ms)) ∷ [], ((sliceVal (ss-b, ss-o) (length ss)) ∷ [], tt))))) (WpFn 𝓤 H C Λ code.function ((sliceVal (table-b, table-o) (length table)) ∷ (sliceVal (list-b, list-o) (length list)) ∷ (sliceVal (ms-b, ms-o) (length ms)) ∷ (sliceVal (ss-b, ss-o) (length ss)) ∷ []) Post)
-  walk C Λ fm known-lent-look-over known-turns-stands-by known-lent-seeking-turns-for known-machine-begin known-lent-seeking-run-host known-lent-seeking-tell-by =
+  walk : (C : Calls 𝓤 H) (Λ : Loops 𝓤 H) → FmC 𝓤 H (W .laws) C → Triple 𝓤 (C #lent-survey-table) (lent-survey-table-says 𝓤 H A at-mem run) → Triple 𝓤 (C #line-carrier-verdict-by) (line-carrier-verdict-by-says 𝓤 H A at-mem run) → Triple 𝓤 (C #lent-seeking-turns-for) (lent-seeking-turns-for-says 𝓤 H A at-mem run) → Triple 𝓤 (C #machine-begin) (machine-begin-says 𝓤 H A at-mem run) → Triple 𝓤 (C #lent-seeking-run-host) (lent-seeking-run-host-says 𝓤 H A at-mem run) → Triple 𝓤 (C #lent-seeking-tell-by) (lent-seeking-tell-by-says 𝓤 H A at-mem run) → ent 𝓤 (onEntry 𝓤 H A f.signature (κ-table, (κ-list, (κ-ms, (κ-ss, tt)))) (q-table, (q-list, (q-ms, (q-ss, tt)))) ((record { ptr = (table-b, table-o); name = table-γ; now = table }), ((record { ptr = (list-b, list-o); name = list-γ; now = list }), ((record { ptr = (ms-b, ms-o); name = ms-γ; now = ms }), ((record { ptr = (ss-b, ss-o); name = ss-γ; now = ss }), tt)))) ((sliceVal (table-b, table-o) (length table)) ∷ [], ((sliceVal (list-b, list-o) (length list)) ∷ [], ((sliceVal (ms-b, ms-o) (length ms)) ∷ [], ((sliceVal (ss-b, ss-o) (length ss)) ∷ [], tt))))) (WpFn 𝓤 H C Λ code.function ((sliceVal (table-b, table-o) (length table)) ∷ (sliceVal (list-b, list-o) (length list)) ∷ (sliceVal (ms-b, ms-o) (length ms)) ∷ (sliceVal (ss-b, ss-o) (length ss)) ∷ []) Post)
+  walk C Λ fm known-lent-survey-table known-line-carrier-verdict-by known-lent-seeking-turns-for known-machine-begin known-lent-seeking-run-host known-lent-seeking-tell-by =
       qed W ((‵ (flft κ-table q-table) ⊛ ‵ (flft κ-list q-list) ⊛ ‵ (flft κ-ms q-ms) ⊛ ‵ (flft κ-ss q-ss) ⊛ ‵ ftrue) ∷ ‵ (owns (MutSlice (named 0) κ-table Chip-row.the-row ∷ MutSlice (named 1) κ-list u64 ∷ MutSlice (named 2) κ-ms u8 ∷ MutSlice (named 3) κ-ss u8 ∷ []) ((record { ptr = (table-b, table-o); name = table-γ; now = table }), ((record { ptr = (list-b, list-o); name = list-γ; now = list }), ((record { ptr = (ms-b, ms-o); name = ms-γ; now = ms }), ((record { ptr = (ss-b, ss-o); name = ss-γ; now = ss }), tt)))) ((sliceVal (table-b, table-o) (length table)) ∷ [], ((sliceVal (list-b, list-o) (length list)) ∷ [], ((sliceVal (ms-b, ms-o) (length ms)) ∷ [], ((sliceVal (ss-b, ss-o) (length ss)) ∷ [], tt))))) ∷ []) ∵ enter ! C Λ code.function ((sliceVal (table-b, table-o) (length table)) ∷ (sliceVal (list-b, list-o) (length list)) ∷ (sliceVal (ms-b, ms-o) (length ms)) ∷ (sliceVal (ss-b, ss-o) (length ss)) ∷ []) _ $
       alloc1 ! (λ l₀. alloc1 ! (λ l₁. alloc1 ! (λ l₂. alloc1 ! (λ l₃. alloc1 ! (λ l₄. alloc1 ! (λ l₅. alloc1 ! (λ l₆. alloc1 ! (λ l₇. alloc1 ! (λ l₈. alloc1 ! (λ l₉. alloc1 ! (λ l₁₀. alloc1 ! (λ l₁₁. alloc1 ! (λ l₁₂. alloc1 ! (λ l₁₃. alloc1 ! (λ l₁₄. alloc1 ! (λ l₁₅. alloc1 ! (λ l₁₆. alloc1 ! (λ l₁₇. alloc1 ! (λ l₁₈. alloc1 ! (λ l₁₉. alloc1 ! (λ l₂₀. alloc1 ! (λ l₂₁. alloc1 ! (λ l₂₂. alloc0 ! $ params1 ! $ pass1 ! (init ! 42 refl (tt, (tt, (record { fits = table-room .0 }, tt)))) $ pass1 ! (init ! 40 refl (tt, (tt, (record { fits = list-room .0 }, tt)))) $ pass1 ! (init ! 38 refl (tt, (tt, (record { fits = ms-room .0 }, tt)))) $ pass1 ! (init ! 36 refl (tt, (tt, (record { fits = ss-room .0 }, tt)))) $ pass0 ! $
-      starts C Λ fm known-lent-look-over known-turns-stands-by known-lent-seeking-turns-for known-machine-begin known-lent-seeking-run-host known-lent-seeking-tell-by l₀ l₁ l₂ l₃ l₄ l₅ l₆ l₇ l₈ l₉ l₁₀ l₁₁ l₁₂ l₁₃ l₁₄ l₁₅ l₁₆ l₁₇ l₁₈ l₁₉ l₂₀ l₂₁ l₂₂)))))))))))))))))))))))
+      starts C Λ fm known-lent-survey-table known-line-carrier-verdict-by known-lent-seeking-turns-for known-machine-begin known-lent-seeking-run-host known-lent-seeking-tell-by l₀ l₁ l₂ l₃ l₄ l₅ l₆ l₇ l₈ l₉ l₁₀ l₁₁ l₁₂ l₁₃ l₁₄ l₁₅ l₁₆ l₁₇ l₁₈ l₁₉ l₂₀ l₂₁ l₂₂)))))))))))))))))))))))
 
 module _ {M : Type 1} (𝓤 : URA M) (H : Heap 𝓤) (A : Atoms 𝓤) (W : Given 𝓤 H A) (at-mem : Memory → SProp 𝓤) (run : Routine → Fun 𝓤) where
-  walks : (C : Calls 𝓤 H) (Λ : Loops 𝓤 H) → FmC 𝓤 H (W .laws) C → Triple 𝓤 (C #lent-look-over) (lent-look-over-says 𝓤 H A at-mem run) → Triple 𝓤 (C #turns-stands-by) (turns-stands-by-says 𝓤 H A at-mem run) → Triple 𝓤 (C #lent-seeking-turns-for) (lent-seeking-turns-for-says 𝓤 H A at-mem run) → Triple 𝓤 (C #machine-begin) (machine-begin-says 𝓤 H A at-mem run) → Triple 𝓤 (C #lent-seeking-run-host) (lent-seeking-run-host-says 𝓤 H A at-mem run) → Triple 𝓤 (C #lent-seeking-tell-by) (lent-seeking-tell-by-says 𝓤 H A at-mem run) → Walks 𝓤 H A f.ended stayed (WpFn 𝓤 H C Λ code.function) (f.clauses 𝓤 H A at-mem run)
-  walks C Λ fm known-lent-look-over known-turns-stands-by known-lent-seeking-turns-for known-machine-begin known-lent-seeking-run-host known-lent-seeking-tell-by = walked 𝓤 H A f.ended stayed (f.clauses 𝓤 H A at-mem run) (WpFn 𝓤 H C Λ code.function) (λ κs. (slice-vals, (slice-vals, (slice-vals, (slice-vals, tt))))) (λ κs. (mut-slice-tells (named 0) (κs .0) Chip-row.the-row, (mut-slice-tells (named 1) (κs .1 .0) u64, (mut-slice-tells (named 2) (κs .1 .1 .0) u8, (mut-slice-tells (named 3) (κs .1 .1 .1 .0) u8, tt)))))
-      (λ κs qs bounds a _ are. via 𝓤 _ (fst∗ 𝓤 _ (emp 𝓤)) (walk 𝓤 H A W at-mem run (κs .0) (qs .0) (κs .1 .0) (qs .1 .0) (κs .1 .1 .0) (qs .1 .1 .0) (κs .1 .1 .1 .0) (qs .1 .1 .1 .0) (a .0 .ptr .0) (a .0 .ptr .1) (a .0 .name) (a .0 .now) (are .0 .0 .1) (a .1 .0 .ptr .0) (a .1 .0 .ptr .1) (a .1 .0 .name) (a .1 .0 .now) (are .1 .0 .0 .1) (a .1 .1 .0 .ptr .0) (a .1 .1 .0 .ptr .1) (a .1 .1 .0 .name) (a .1 .1 .0 .now) (are .1 .1 .0 .0 .1) (a .1 .1 .1 .0 .ptr .0) (a .1 .1 .1 .0 .ptr .1) (a .1 .1 .1 .0 .name) (a .1 .1 .1 .0 .now) (are .1 .1 .1 .0 .0 .1) C Λ fm known-lent-look-over known-turns-stands-by known-lent-seeking-turns-for known-machine-begin known-lent-seeking-run-host known-lent-seeking-tell-by))
+  walks : (C : Calls 𝓤 H) (Λ : Loops 𝓤 H) → FmC 𝓤 H (W .laws) C → Triple 𝓤 (C #lent-survey-table) (lent-survey-table-says 𝓤 H A at-mem run) → Triple 𝓤 (C #line-carrier-verdict-by) (line-carrier-verdict-by-says 𝓤 H A at-mem run) → Triple 𝓤 (C #lent-seeking-turns-for) (lent-seeking-turns-for-says 𝓤 H A at-mem run) → Triple 𝓤 (C #machine-begin) (machine-begin-says 𝓤 H A at-mem run) → Triple 𝓤 (C #lent-seeking-run-host) (lent-seeking-run-host-says 𝓤 H A at-mem run) → Triple 𝓤 (C #lent-seeking-tell-by) (lent-seeking-tell-by-says 𝓤 H A at-mem run) → Walks 𝓤 H A f.ended stayed (WpFn 𝓤 H C Λ code.function) (f.clauses 𝓤 H A at-mem run)
+  walks C Λ fm known-lent-survey-table known-line-carrier-verdict-by known-lent-seeking-turns-for known-machine-begin known-lent-seeking-run-host known-lent-seeking-tell-by = walked 𝓤 H A f.ended stayed (f.clauses 𝓤 H A at-mem run) (WpFn 𝓤 H C Λ code.function) (λ κs. (slice-vals, (slice-vals, (slice-vals, (slice-vals, tt))))) (λ κs. (mut-slice-tells (named 0) (κs .0) Chip-row.the-row, (mut-slice-tells (named 1) (κs .1 .0) u64, (mut-slice-tells (named 2) (κs .1 .1 .0) u8, (mut-slice-tells (named 3) (κs .1 .1 .1 .0) u8, tt)))))
+      (λ κs qs bounds a _ are. via 𝓤 _ (fst∗ 𝓤 _ (emp 𝓤)) (walk 𝓤 H A W at-mem run (κs .0) (qs .0) (κs .1 .0) (qs .1 .0) (κs .1 .1 .0) (qs .1 .1 .0) (κs .1 .1 .1 .0) (qs .1 .1 .1 .0) (a .0 .ptr .0) (a .0 .ptr .1) (a .0 .name) (a .0 .now) (are .0 .0 .1) (a .1 .0 .ptr .0) (a .1 .0 .ptr .1) (a .1 .0 .name) (a .1 .0 .now) (are .1 .0 .0 .1) (a .1 .1 .0 .ptr .0) (a .1 .1 .0 .ptr .1) (a .1 .1 .0 .name) (a .1 .1 .0 .now) (are .1 .1 .0 .0 .1) (a .1 .1 .1 .0 .ptr .0) (a .1 .1 .1 .0 .ptr .1) (a .1 .1 .1 .0 .name) (a .1 .1 .1 .0 .now) (are .1 .1 .1 .0 .0 .1) C Λ fm known-lent-survey-table known-line-carrier-verdict-by known-lent-seeking-turns-for known-machine-begin known-lent-seeking-run-host known-lent-seeking-tell-by))
 
-  meets : (𝓣 : Tables 𝓤 H) → Triple 𝓤 (𝓣 .C #lent-look-over) (lent-look-over-says 𝓤 H A at-mem run) → Triple 𝓤 (𝓣 .C #turns-stands-by) (turns-stands-by-says 𝓤 H A at-mem run) → Triple 𝓤 (𝓣 .C #lent-seeking-turns-for) (lent-seeking-turns-for-says 𝓤 H A at-mem run) → Triple 𝓤 (𝓣 .C #machine-begin) (machine-begin-says 𝓤 H A at-mem run) → Triple 𝓤 (𝓣 .C #lent-seeking-run-host) (lent-seeking-run-host-says 𝓤 H A at-mem run) → Triple 𝓤 (𝓣 .C #lent-seeking-tell-by) (lent-seeking-tell-by-says 𝓤 H A at-mem run) → Meets 𝓤 H A f.signature (WpFn 𝓤 H (𝓣 .C) (𝓣 .Λ) code.function) (f.spec 𝓤 H A at-mem run)
-  meets 𝓣 known-lent-look-over known-turns-stands-by known-lent-seeking-turns-for known-machine-begin known-lent-seeking-run-host known-lent-seeking-tell-by = walk-meets 𝓤 H A f.ended stayed W (goes-slice 𝓤 H A W 4 0 tt (plain (λ _. Chip-row.the-row)), (goes-slice 𝓤 H A W 4 1 tt (plain (λ _. u64)), (goes-slice 𝓤 H A W 4 2 tt (plain (λ _. u8)), (goes-slice 𝓤 H A W 4 3 tt (plain (λ _. u8)), tt)))) (f.clauses 𝓤 H A at-mem run)
-      (WpFn 𝓤 H (𝓣 .C) (𝓣 .Λ) code.function) (WpFn-mono 𝓤 H (W .laws) 𝓣 code.function) (walks (𝓣 .C) (𝓣 .Λ) (fmOf 𝓤 H (W .laws) 𝓣) known-lent-look-over known-turns-stands-by known-lent-seeking-turns-for known-machine-begin known-lent-seeking-run-host known-lent-seeking-tell-by)
+  meets : (𝓣 : Tables 𝓤 H) → Triple 𝓤 (𝓣 .C #lent-survey-table) (lent-survey-table-says 𝓤 H A at-mem run) → Triple 𝓤 (𝓣 .C #line-carrier-verdict-by) (line-carrier-verdict-by-says 𝓤 H A at-mem run) → Triple 𝓤 (𝓣 .C #lent-seeking-turns-for) (lent-seeking-turns-for-says 𝓤 H A at-mem run) → Triple 𝓤 (𝓣 .C #machine-begin) (machine-begin-says 𝓤 H A at-mem run) → Triple 𝓤 (𝓣 .C #lent-seeking-run-host) (lent-seeking-run-host-says 𝓤 H A at-mem run) → Triple 𝓤 (𝓣 .C #lent-seeking-tell-by) (lent-seeking-tell-by-says 𝓤 H A at-mem run) → Meets 𝓤 H A f.signature (WpFn 𝓤 H (𝓣 .C) (𝓣 .Λ) code.function) (f.spec 𝓤 H A at-mem run)
+  meets 𝓣 known-lent-survey-table known-line-carrier-verdict-by known-lent-seeking-turns-for known-machine-begin known-lent-seeking-run-host known-lent-seeking-tell-by = walk-meets 𝓤 H A f.ended stayed W (goes-slice 𝓤 H A W 4 0 tt (plain (λ _. Chip-row.the-row)), (goes-slice 𝓤 H A W 4 1 tt (plain (λ _. u64)), (goes-slice 𝓤 H A W 4 2 tt (plain (λ _. u8)), (goes-slice 𝓤 H A W 4 3 tt (plain (λ _. u8)), tt)))) (f.clauses 𝓤 H A at-mem run)
+      (WpFn 𝓤 H (𝓣 .C) (𝓣 .Λ) code.function) (WpFn-mono 𝓤 H (W .laws) 𝓣 code.function) (walks (𝓣 .C) (𝓣 .Λ) (fmOf 𝓤 H (W .laws) 𝓣) known-lent-survey-table known-line-carrier-verdict-by known-lent-seeking-turns-for known-machine-begin known-lent-seeking-run-host known-lent-seeking-tell-by)
 
 pub search-line-spec : {M : Type 1} → stated.statement M
 unfolding code.routine tablesOf
@@ -266,8 +266,8 @@ search-line-spec 𝓤 H 𝓜 𝓖 𝓡 =
     entered 𝓤 H (tripleOf 𝓤 H (𝓖 .A) f.signature (f.spec 𝓤 H (𝓖 .A) (𝓜 .mem) (𝓡 .run)))
     (tables 𝓤 H 𝓜 𝓡 code.env .C) (tables 𝓤 H 𝓜 𝓡 code.env .Λ) #search-line code.function (code.unfolded 𝓤 H 𝓜 𝓡)
     (meets 𝓤 H (𝓖 .A) (givenOf 𝓤 H 𝓜 𝓖) (𝓜 .mem) (𝓡 .run) (tablesOf 𝓤 H 𝓜 (tables 𝓤 H 𝓜 𝓡 code.env))
-    (cited 𝓤 H (lent-look-over-says 𝓤 H (𝓖 .A) (𝓜 .mem) (𝓡 .run)) 𝓜 𝓡 code.env #lent-look-over lent-look-over-def.routine code.calls-lent·look-over (lent-look-over-thm.met 𝓤 H 𝓜 𝓖 𝓡))
-    (cited 𝓤 H (turns-stands-by-says 𝓤 H (𝓖 .A) (𝓜 .mem) (𝓡 .run)) 𝓜 𝓡 code.env #turns-stands-by turns-stands-by-def.routine code.calls-turns·stands-by (turns-stands-by-thm.met 𝓤 H 𝓜 𝓖 𝓡))
+    (cited 𝓤 H (lent-survey-table-says 𝓤 H (𝓖 .A) (𝓜 .mem) (𝓡 .run)) 𝓜 𝓡 code.env #lent-survey-table lent-survey-table-def.routine code.calls-lent·survey-table (lent-survey-table-thm.met 𝓤 H 𝓜 𝓖 𝓡))
+    (cited 𝓤 H (line-carrier-verdict-by-says 𝓤 H (𝓖 .A) (𝓜 .mem) (𝓡 .run)) 𝓜 𝓡 code.env #line-carrier-verdict-by line-carrier-verdict-by-def.routine code.calls-line·carrier·verdict-by (line-carrier-verdict-by-thm.met 𝓤 H 𝓜 𝓖 𝓡))
     (cited 𝓤 H (lent-seeking-turns-for-says 𝓤 H (𝓖 .A) (𝓜 .mem) (𝓡 .run)) 𝓜 𝓡 code.env #lent-seeking-turns-for lent-seeking-turns-for-def.routine code.calls-lent·seeking·turns-for (lent-seeking-turns-for-thm.met 𝓤 H 𝓜 𝓖 𝓡))
     (cited 𝓤 H (machine-begin-says 𝓤 H (𝓖 .A) (𝓜 .mem) (𝓡 .run)) 𝓜 𝓡 code.env #machine-begin machine-begin-def.routine code.calls-machine·begin (machine-begin-thm.met 𝓤 H 𝓜 𝓖 𝓡))
     (cited 𝓤 H (lent-seeking-run-host-says 𝓤 H (𝓖 .A) (𝓜 .mem) (𝓡 .run)) 𝓜 𝓡 code.env #lent-seeking-run-host lent-seeking-run-host-def.routine code.calls-lent·seeking·run-host (lent-seeking-run-host-thm.met 𝓤 H 𝓜 𝓖 𝓡))

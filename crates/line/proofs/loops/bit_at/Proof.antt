@@ -7,8 +7,8 @@ use Rattle.line.proofs.loops.bit_at.Statement.{statement}
 use Rattle.line.proofs.loops.bit_at.Tie as tie
 use Rattle.line.proofs.loops.bit_at.Reads as reads
 use Rattle.line.proofs.loops.bit_at.Lts as lts
-use Rattle.chip.proofs.range.image_size.Reads as image-size-reads
-use Rattle.chip.proofs.range.pad_size.Reads as pad-size-reads
+use Rattle.chip.proofs.kinds.image_size.Reads as image-size-reads
+use Rattle.chip.proofs.kinds.pad_size.Reads as pad-size-reads
 use Rattle.line.proofs.loops.bit_within.Reads as bit-within-reads
 use Rattle.line.proofs.loops.lies_in.Reads as lies-in-reads
 

@@ -6,11 +6,11 @@ use Rattle.machine.proofs.turns.count_reset.Reads as reads
 use Rattle.machine.proofs.turns.count_reset.Lts as lts
 use Rattle.machine.proofs.turns.one_more.Reads as one-more-reads
 
--- src/turns.rt:56:9
+-- src/turns.rt:36:9
 one-more-requires : tie.Need-one-more-requires
 one-more-requires c κs = search needs
 
--- src/turns.rt:52:1
+-- src/turns.rt:33:1
 returns : tie.Need-returns
 unfolding resetCounted
 returns c = cc

@@ -6,11 +6,11 @@ use Rattle.machine.proofs.turns.count_slot.Reads as reads
 use Rattle.machine.proofs.turns.count_slot.Lts as lts
 use Rattle.machine.proofs.turns.one_more.Reads as one-more-reads
 
--- src/turns.rt:38:9
+-- src/turns.rt:28:9
 one-more-requires : tie.Need-one-more-requires
 one-more-requires c κs = search needs
 
--- src/turns.rt:34:1
+-- src/turns.rt:25:1
 returns : tie.Need-returns
 unfolding slotCounted
 returns c = cc

@@ -6,16 +6,16 @@ use Rattle.machine.proofs.turns.parts_at.Tie as tie
 use Rattle.machine.proofs.turns.parts_at.Reads as reads
 use Rattle.machine.proofs.turns.parts_at.Lts as lts
 
--- src/turns.rt:96:36
+-- src/turns.rt:67:36
 add-last : tie.Need-add-last
 add-last c = search needs
 
--- src/turns.rt:93:1
+-- src/turns.rt:64:1
 returns : tie.Need-returns
 unfolding parts
 returns c = search cases
 
--- src/turns.rt:93:1
+-- src/turns.rt:64:1
 returns-2 : tie.Need-returns-2
 unfolding parts
 returns-2 c = search cases

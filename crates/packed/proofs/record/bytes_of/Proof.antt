@@ -5,59 +5,143 @@ use Rattle.packed.proofs.record.bytes_of.Reads as reads
 use Rattle.packed.proofs.record.bytes_of.Lts as lts
 use Rattle.packed.proofs.level.flag_of.Reads as flag-of-reads
 
--- src/record.rt:25:9
+-- src/record.rt:27:9
 flag-of-requires : tie.Need-flag-of-requires
 flag-of-requires c κs = search needs
 
--- src/record.rt:27:9
-cast-t15 : tie.Need-cast-t15
-cast-t15 c = search needs
+-- src/record.rt:29:12
+cast-r : tie.Need-cast-r
+cast-r c = search needs
 
--- src/record.rt:28:9
-cast-t17 : tie.Need-cast-t17
-cast-t17 c = search needs
+-- src/record.rt:29:5
+array-write-r : tie.Need-array-write-r
+array-write-r c = search needs
 
--- src/record.rt:29:9
-cast-t19 : tie.Need-cast-t19
-cast-t19 c = search needs
+-- src/record.rt:30:12
+cast-r-2 : tie.Need-cast-r-2
+cast-r-2 c = search needs
 
--- src/record.rt:30:9
-cast-t21 : tie.Need-cast-t21
-cast-t21 c = search needs
+-- src/record.rt:30:5
+array-write-r-2 : tie.Need-array-write-r-2
+array-write-r-2 c = search needs
 
--- src/record.rt:31:9
-cast-t23 : tie.Need-cast-t23
-cast-t23 c = search needs
+-- src/record.rt:31:12
+cast-r-3 : tie.Need-cast-r-3
+cast-r-3 c = search needs
 
--- src/record.rt:32:9
-cast-t25 : tie.Need-cast-t25
-cast-t25 c = search needs
+-- src/record.rt:31:5
+array-write-r-3 : tie.Need-array-write-r-3
+array-write-r-3 c = search needs
 
--- src/record.rt:33:9
-cast-t27 : tie.Need-cast-t27
-cast-t27 c = search needs
+-- src/record.rt:32:12
+cast-r-4 : tie.Need-cast-r-4
+cast-r-4 c = search needs
 
--- src/record.rt:34:9
-cast-t28 : tie.Need-cast-t28
-cast-t28 c = search needs
+-- src/record.rt:32:5
+array-write-r-4 : tie.Need-array-write-r-4
+array-write-r-4 c = search needs
 
--- src/record.rt:37:9
-cast-t30 : tie.Need-cast-t30
-cast-t30 c = search needs
+-- src/record.rt:33:12
+cast-r-5 : tie.Need-cast-r-5
+cast-r-5 c = search needs
 
--- src/record.rt:38:9
-cast-t32 : tie.Need-cast-t32
-cast-t32 c = search needs
+-- src/record.rt:33:5
+array-write-r-5 : tie.Need-array-write-r-5
+array-write-r-5 c = search needs
 
--- src/record.rt:43:9
-cast-t34 : tie.Need-cast-t34
-cast-t34 c = search needs
+-- src/record.rt:34:12
+cast-r-6 : tie.Need-cast-r-6
+cast-r-6 c = search needs
 
--- src/record.rt:44:9
-cast-t36 : tie.Need-cast-t36
-cast-t36 c = search needs
+-- src/record.rt:34:5
+array-write-r-6 : tie.Need-array-write-r-6
+array-write-r-6 c = search needs
 
--- src/record.rt:12:1
+-- src/record.rt:35:12
+cast-r-7 : tie.Need-cast-r-7
+cast-r-7 c = search needs
+
+-- src/record.rt:35:5
+array-write-r-7 : tie.Need-array-write-r-7
+array-write-r-7 c = search needs
+
+-- src/record.rt:36:12
+cast-r-8 : tie.Need-cast-r-8
+cast-r-8 c = search needs
+
+-- src/record.rt:36:5
+array-write-r-8 : tie.Need-array-write-r-8
+array-write-r-8 c = search needs
+
+-- src/record.rt:37:5
+array-write-r-9 : tie.Need-array-write-r-9
+array-write-r-9 c = search needs
+
+-- src/record.rt:38:5
+array-write-r-10 : tie.Need-array-write-r-10
+array-write-r-10 c = search needs
+
+-- src/record.rt:39:13
+cast-r-9 : tie.Need-cast-r-9
+cast-r-9 c = search needs
+
+-- src/record.rt:39:5
+array-write-r-11 : tie.Need-array-write-r-11
+array-write-r-11 c = search needs
+
+-- src/record.rt:40:13
+cast-r-10 : tie.Need-cast-r-10
+cast-r-10 c = search needs
+
+-- src/record.rt:40:5
+array-write-r-12 : tie.Need-array-write-r-12
+array-write-r-12 c = search needs
+
+-- src/record.rt:41:5
+array-write-r-13 : tie.Need-array-write-r-13
+array-write-r-13 c = search needs
+
+-- src/record.rt:42:5
+array-write-r-14 : tie.Need-array-write-r-14
+array-write-r-14 c = search needs
+
+-- src/record.rt:43:5
+array-write-r-15 : tie.Need-array-write-r-15
+array-write-r-15 c = search needs
+
+-- src/record.rt:44:5
+array-write-r-16 : tie.Need-array-write-r-16
+array-write-r-16 c = search needs
+
+-- src/record.rt:45:13
+cast-r-11 : tie.Need-cast-r-11
+cast-r-11 c = search needs
+
+-- src/record.rt:45:5
+array-write-r-17 : tie.Need-array-write-r-17
+array-write-r-17 c = search needs
+
+-- src/record.rt:46:13
+cast-r-12 : tie.Need-cast-r-12
+cast-r-12 c = search needs
+
+-- src/record.rt:46:5
+array-write-r-18 : tie.Need-array-write-r-18
+array-write-r-18 c = search needs
+
+-- src/record.rt:47:5
+array-write-r-19 : tie.Need-array-write-r-19
+array-write-r-19 c = search needs
+
+-- src/record.rt:48:5
+array-write-r-20 : tie.Need-array-write-r-20
+array-write-r-20 c = search needs
+
+-- src/record.rt:49:5
+array-write-r-21 : tie.Need-array-write-r-21
+array-write-r-21 c = search needs
+
+-- src/record.rt:14:1
 returns : tie.Need-returns
 returns c = cc
 
@@ -66,16 +150,37 @@ bytes-of-spec =
     tie.close
     (tie.spec
     flag-of-requires
-    cast-t15
-    cast-t17
-    cast-t19
-    cast-t21
-    cast-t23
-    cast-t25
-    cast-t27
-    cast-t28
-    cast-t30
-    cast-t32
-    cast-t34
-    cast-t36
+    cast-r
+    array-write-r
+    cast-r-2
+    array-write-r-2
+    cast-r-3
+    array-write-r-3
+    cast-r-4
+    array-write-r-4
+    cast-r-5
+    array-write-r-5
+    cast-r-6
+    array-write-r-6
+    cast-r-7
+    array-write-r-7
+    cast-r-8
+    array-write-r-8
+    array-write-r-9
+    array-write-r-10
+    cast-r-9
+    array-write-r-11
+    cast-r-10
+    array-write-r-12
+    array-write-r-13
+    array-write-r-14
+    array-write-r-15
+    array-write-r-16
+    cast-r-11
+    array-write-r-17
+    cast-r-12
+    array-write-r-18
+    array-write-r-19
+    array-write-r-20
+    array-write-r-21
     returns)

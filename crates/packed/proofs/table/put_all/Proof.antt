@@ -1,7 +1,7 @@
 use native.Mathlib.Omega.{arith}
 use borrow.Author.Needs.{needs}
 use Rattle.packed.specs.Filling.{putting-next, putting-end}
-use Rattle.packed.specs.Packed.{packedTable}
+use Rattle.packed.specs.Packed.{recordSize, packedTable}
 use lib.ListN.{length, take, drop, length-map}
 use mathlib.Core.List.{_++_}
 use mathlib.Core.Path.{_≡_, refl}
@@ -13,7 +13,7 @@ use Rattle.packed.proofs.table.put_all.Lts as lts
 use Rattle.packed.proofs.record.put_record.Reads as put-record-reads
 
 abbrev Inv-loop : tie.InvT-loop
-Inv-loop bytes₀ n chips i₀ bytes i = (i ≤ n) × (packedTable (take i chips) ++ drop (i * 24) bytes₀ ≡ bytes) × (length bytes ≡ length bytes₀)
+Inv-loop bytes₀ n chips i₀ bytes i = (i ≤ n) × (packedTable (take i chips) ++ drop (i * recordSize) bytes₀ ≡ bytes) × (length bytes ≡ length bytes₀)
 
 abbrev μ-loop : tie.MeasureT-loop
 μ-loop bytes₀ n chips i₀ bytes i = n - i

@@ -6,19 +6,19 @@ use Rattle.scratchpad.proofs.read.pad_byte_sent.Tie as tie
 use Rattle.scratchpad.proofs.read.pad_byte_sent.Reads as reads
 use Rattle.scratchpad.proofs.read.pad_byte_sent.Lts as lts
 
--- src/read.rt:48:21
-add-t4 : tie.Need-add-t4
-add-t4 c = search needs
+-- src/read.rt:58:21
+add-t5 : tie.Need-add-t5
+add-t5 c = search needs
 
--- src/read.rt:47:9
+-- src/read.rt:57:9
 returns : tie.Need-returns
 unfolding padByteSent
 returns c = search cases
 
--- src/read.rt:43:1
+-- src/read.rt:53:1
 returns-2 : tie.Need-returns-2
 unfolding padByteSent
 returns-2 c = search cases
 
 pub pad-byte-sent-spec : {M : Type 1} → statement M
-pad-byte-sent-spec = tie.close (tie.spec add-t4 returns returns-2)
+pad-byte-sent-spec = tie.close (tie.spec add-t5 returns returns-2)

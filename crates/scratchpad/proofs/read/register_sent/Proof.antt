@@ -7,23 +7,23 @@ use Rattle.scratchpad.proofs.read.register_sent.Reads as reads
 use Rattle.scratchpad.proofs.read.register_sent.Lts as lts
 use Rattle.scratchpad.proofs.read.pad_begins.Reads as pad-begins-reads
 
--- src/read.rt:37:52
-add-t4 : tie.Need-add-t4
-add-t4 c = search needs
+-- src/read.rt:47:52
+add-t5 : tie.Need-add-t5
+add-t5 c = search needs
 
--- src/read.rt:37:9
+-- src/read.rt:47:9
 returns : tie.Need-returns
 unfolding registerSent
 returns c = search cases
 
--- src/read.rt:39:5
+-- src/read.rt:49:5
 pad-begins-requires : tie.Need-pad-begins-requires
 pad-begins-requires c κs = search needs
 
--- src/read.rt:33:1
+-- src/read.rt:43:1
 returns-2 : tie.Need-returns-2
 unfolding registerSent
 returns-2 c = search (cases, c .pad-begins .ensures)
 
 pub register-sent-spec : {M : Type 1} → statement M
-register-sent-spec = tie.close (tie.spec add-t4 returns pad-begins-requires returns-2)
+register-sent-spec = tie.close (tie.spec add-t5 returns pad-begins-requires returns-2)

@@ -7,42 +7,39 @@ use Rattle.toemsakun.proofs.answers.of_search.Tie as tie
 use Rattle.toemsakun.proofs.answers.of_search.Reads as reads
 use Rattle.toemsakun.proofs.answers.of_search.Lts as lts
 use Rattle.toemsakun.proofs.answers.of_count.Reads as of-count-reads
+use Rattle.toemsakun.proofs.answers.of_refusal.Reads as of-refusal-reads
 
--- src/answers.rt:52:35
+-- src/answers.rt:58:35
 enum-told : tie.Need-enum-told
 enum-told c = search needs
 
--- src/answers.rt:52:35
+-- src/answers.rt:58:35
 of-count-requires : tie.Need-of-count-requires
 of-count-requires c κs = search needs
 
--- src/answers.rt:53:39
+-- src/answers.rt:59:39
 enum-told-2 : tie.Need-enum-told-2
 enum-told-2 c = search needs
 
--- src/answers.rt:54:36
-enum-told-3 : tie.Need-enum-told-3
-enum-told-3 c = search needs
+-- src/answers.rt:60:31
+enum-known-answer : tie.Need-enum-known-answer
+enum-known-answer c = search needs
 
--- src/answers.rt:55:37
-enum-told-4 : tie.Need-enum-told-4
-enum-told-4 c = search needs
+-- src/answers.rt:60:37
+of-refusal-requires : tie.Need-of-refusal-requires
+of-refusal-requires c κs = search needs
 
--- src/answers.rt:47:1
+-- src/answers.rt:53:1
 returns : tie.Need-returns
 returns c = passed (c .of-count .result) (c .of-count .ok) ∙ (search (cases, search-at, c .of-count .ensures))
 
--- src/answers.rt:47:1
+-- src/answers.rt:53:1
 returns-2 : tie.Need-returns-2
 returns-2 c = search (cases, search-at)
 
--- src/answers.rt:47:1
+-- src/answers.rt:53:1
 returns-3 : tie.Need-returns-3
-returns-3 c = search (cases, search-at)
-
--- src/answers.rt:47:1
-returns-4 : tie.Need-returns-4
-returns-4 c = search (cases, search-at)
+returns-3 c = passed (c .of-refusal .result) (c .of-refusal .ok) ∙ (search (cases, search-at, c .of-refusal .ensures))
 
 pub of-search-spec : {M : Type 1} → statement M
 of-search-spec =
@@ -51,9 +48,8 @@ of-search-spec =
     enum-told
     of-count-requires
     enum-told-2
-    enum-told-3
-    enum-told-4
+    enum-known-answer
+    of-refusal-requires
     returns
     returns-2
-    returns-3
-    returns-4)
+    returns-3)

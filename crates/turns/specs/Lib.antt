@@ -1,4 +1,0 @@
-pub mod Agree
-pub mod Spots
-pub mod Turns
-pub mod Walk
