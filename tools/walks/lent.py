@@ -12,7 +12,7 @@ STRUCTS = {
     'Filled': [('chip', 'Chip'), ('fill', 'Fill')],
 }
 WALK = 'Rattle.line.specs.Carrier.'
-NO_CHIP = 'Rattle.line.specs.Event.{noChip}'
+NO_CHIP = 'Rattle.chip.specs.With.{noChip}'
 LENT = 'Rattle.line.specs.Layout.{lent}'
 OUTCOME = 'Rattle.line.specs.Event.{answered, outcome}'
 AGREE = 'Rattle.lent.specs.Turning.'

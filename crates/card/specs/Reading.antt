@@ -6,7 +6,6 @@ use mathlib.Core.Bool.{Bool, true, false, true≢false}
 use mathlib.Core.List.{List, [], _∷_, _++_, append-assoc, append-nil}
 use mathlib.Core.Path.{_≡_, refl, _∙_, ap, sym}
 use lib.Dec.{eqb}
-use borrow.Author.Tests.{eqb-true}
 use lib.ListN.{length, take, drop, set, take-append-drop, length-set}
 use lib.Seq.{take-suc-set, drop-set-lt, drop-drop, length-take-le}
 use Rattle.base.specs.Pick.{pick}
@@ -23,16 +22,6 @@ use Rattle.card.specs.declared.Entry.the-variants as entry
 
 pub entry-at : (s : List ℕ) (at room : ℕ) (q p : Head) (r : Entry) → q ≡ p → r ≡ entryOf s at room p → r ≡ entryOf s at room q
 entry-at s at room q p r e h = h ∙ ap (λ (k : Head). entryOf s at room k) (sym e)
-
--- a kind that is known is small
-pub known-small : (kind : ℕ) → knownKind kind ≡ true → kind ≤ 2
-unfolding knownKind pick
-known-small kind = go (eqb kind 1) (eqb kind 2) (eqb-true kind 1) (eqb-true kind 2)
-  where
-    go : (a b : Bool) → (a ≡ true → kind ≡ 1) → (b ≡ true → kind ≡ 2) → pick a true b ≡ true → kind ≤ 2
-    go true b f g h = let k = f refl in omega arith
-    go false true f g h = let k = g refl in omega arith
-    go false false f g h = absurd (true≢false (sym h))
 
 -- reading goes on by one record
 read-at : (m at : ℕ) (s : List ℕ) (e p : Entry) → e ≡ entryAt s at (suc m) → e ≡ p → readFrom (suc m) s at ≡ onward at (λ next. readFrom m s next) p

@@ -75,10 +75,10 @@ fn code_at(s: &[u8], at: usize) -> u64
 fn is_known(kind: u16) -> bool
     ensures { λ r. ⌜ r ≡ knownKind kind ⌝ }
 {
-    if kind == 1 {
-        return true;
+    if kind < 256 {
+        return chip::kinds::is_known(kind as u8);
     }
-    kind == 2
+    false
 }
 
 // A record whose length runs past the end.

@@ -10,7 +10,8 @@ use Rattle.chip.specs.With.{withLevel}
 use Rattle.chip.specs.Chip.{Whole, whole}
 use Rattle.chip.specs.declared.Level.the-variants.{Memory}
 use Rattle.chip.specs.Kinds.{imageSize, padSize}
-use Rattle.line.specs.Event.{Answered, bit, refused, noChip}
+use Rattle.chip.specs.With.{noChip}
+use Rattle.line.specs.Event.{Answered, bit, refused}
 use Rattle.line.specs.Layout.{lineOf, imagesSize, padsSize}
 use Rattle.line.specs.declared.Event.{Event}
 use Rattle.card.specs.Card.{SetUp, setUpOf}

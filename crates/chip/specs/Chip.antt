@@ -27,7 +27,7 @@ use Rattle.memory.specs.declared.Seen.{Seen}
 use Rattle.memory.specs.Part.{mapOf}
 use Rattle.memory.specs.Memory.{Bytes, lookOf, seenIn, sightBy, done}
 use Rattle.chip.specs.Kinds.{partOf, hasMemory, hasScratchpad, hasRegisters, hasSwitch, takesLevels, knowsOf}
-use Rattle.chip.specs.With.{withRc, withLevel, withRegisters, withSwitch}
+use Rattle.chip.specs.With.{newChip, withRc, withLevel, withRegisters, withSwitch}
 use Rattle.chip.specs.declared.ChipAfter.{ChipAfter}
 use Rattle.ds2413.specs.Switch.{switchLevels, switchBegins, switchTakes, switchSends, switchPowerOn, switchSetUp}
 use Rattle.ds2413.specs.declared.Switch.{Switch}
@@ -198,4 +198,4 @@ levelsOf l w = whole (levelsChip l (w .chip)) (w .memory) (w .pad)
 
 -- "Set-up: .. chips as after power on", every field written
 unfoldable pub setUpChip : ℕ → ℕ → Chip
-setUpChip code kind = record { code = code; kind = kind; rc = false; level = Waiting; registers = powerOnRegisters; switch = switchSetUp }
+setUpChip code kind = newChip code kind powerOnRegisters switchSetUp

@@ -39,6 +39,13 @@ partOf kind = Ds28ec20
 unfoldable pub knowsOf : ℕ → Knows
 knowsOf kind = record { resume = true }
 
+-- the most bytes that any kind asks, of an image and of a scratchpad
+abbrev pub imageMost : ℕ
+imageMost = 2624
+
+abbrev pub padMost : ℕ
+padMost = 32
+
 -- "the memory images (2,624 bytes for each kind-1 chip, in table order)"
 unfoldable pub imageSize : ℕ → ℕ
 imageSize kind = pick (eqb kind 1) 2624 0

@@ -1,4 +1,5 @@
 pub mod Kinds
+pub mod Limits
 pub mod With
 pub mod Chip
 pub mod Range

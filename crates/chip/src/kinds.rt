@@ -3,7 +3,7 @@ use memory::Part;
 use rom::Knows;
 ghost use mathlib.Core.Path.{_≡_};
 ghost use Prim.Native.Nat.{_≤_};
-ghost use Rattle.chip.specs.Kinds.{knownKind, hasMemory, hasScratchpad, hasRegisters, hasSwitch, takesLevels, partOf, knowsOf, imageSize, padSize};
+ghost use Rattle.chip.specs.Kinds.{knownKind, hasMemory, hasScratchpad, hasRegisters, hasSwitch, takesLevels, partOf, knowsOf, imageMost, padMost, imageSize, padSize};
 
 // Kind 1 or 2.
 pub fn is_known(kind: u8) -> bool
@@ -67,7 +67,7 @@ pub fn knows_of(kind: u8) -> Knows
 // The bytes of an image of a kind.
 pub fn image_size(kind: u8) -> usize
     ensures { λ r. ⌜ r ≡ imageSize kind ⌝ }
-    ensures most { λ r. ⌜ r ≤ 2624 ⌝ }
+    ensures most { λ r. ⌜ r ≤ imageMost ⌝ }
 {
     if kind == 1 { 2624 } else { 0 }
 }
@@ -75,7 +75,7 @@ pub fn image_size(kind: u8) -> usize
 // The bytes of a scratchpad of a kind.
 pub fn pad_size(kind: u8) -> usize
     ensures { λ r. ⌜ r ≡ padSize kind ⌝ }
-    ensures most { λ r. ⌜ r ≤ 32 ⌝ }
+    ensures most { λ r. ⌜ r ≤ padMost ⌝ }
 {
     if kind == 1 { 32 } else { 0 }
 }

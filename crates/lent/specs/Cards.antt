@@ -11,7 +11,7 @@ use lib.Seq.{set-getD, set-at}
 use Rattle.base.specs.Pick.{pick-true, pick-false}
 use Rattle.chip.specs.Chip.{setUpChip}
 use Rattle.chip.specs.declared.Chip.{Chip}
-use Rattle.line.specs.Event.{noChip}
+use Rattle.chip.specs.With.{noChip}
 use Rattle.line.specs.Layout.{capped}
 use Rattle.line.specs.Prefix.{capped-few}
 use Rattle.card.specs.Card.{Carded, chips, refused, carded, wholeEntry, entryOf, entryAt, Read, all, none, after, onward, readFrom, SetUp, setUp, fromRead, setUpOf}

@@ -7,7 +7,8 @@ use mathlib.Core.List.{List}
 use mathlib.Core.Path.{_≡_, refl, _∙_, ap, sym}
 use lib.ListN.{length, getD, set}
 use Rattle.chip.specs.declared.Chip.{Chip}
-use Rattle.line.specs.Event.{answered, refused, numberOf, noChip, Outcome, outcome, verdictOf, eventOf}
+use Rattle.chip.specs.With.{noChip}
+use Rattle.line.specs.Event.{answered, refused, numberOf, Outcome, outcome, verdictOf, eventOf}
 use Rattle.line.specs.Layout.{Lent, lent}
 use Rattle.line.specs.Carrier.{over, firstSpot, firstSurvey, surveyChip, surveyed, verdictBy, planSeen, busOver, Turn, turned, turnOf, acts, answerFor}
 use Rattle.line.specs.Carried.{Surveyed, over-line, plan-is, stands-is, walked, refused-walked, plan-walked}

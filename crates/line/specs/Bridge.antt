@@ -15,7 +15,7 @@ use Rattle.chip.specs.Kinds.{imageSize, padSize}
 use Rattle.chip.specs.declared.Chip.{Chip}
 use Rattle.line.specs.Line.{valueOf}
 use Rattle.line.specs.Layout.{imagesSize, padsSize, split, chipsOf, imagesOf, padsOf, Lent, lent, lineOf, lentFrom}
-use Rattle.line.specs.Event.{noChip}
+use Rattle.chip.specs.With.{noChip}
 use Rattle.line.specs.Sizes.{Sized}
 
 -- a part of a buffer, and the buffer with that part replaced

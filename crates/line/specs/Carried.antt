@@ -14,11 +14,13 @@ use Rattle.base.specs.Bits.{both}
 use Rattle.base.specs.Both.{both-assoc, both-true}
 use Rattle.chip.specs.Chip.{Whole, whole, sendsOf, levelsChip, levelsOf}
 use Rattle.chip.specs.Range.{inRange}
-use Rattle.chip.specs.Kinds.{imageSize, padSize}
+use Rattle.chip.specs.Kinds.{imageMost, padMost, imageSize, padSize}
+use Rattle.chip.specs.Limits.{image-small, pad-small}
 use Rattle.chip.specs.declared.Chip.{Chip}
 use Rattle.line.specs.Line.{busFrom, valueOf, actOf, levelsAt, putsOf, hostOf, busOf, afterBy}
 use Rattle.line.specs.Layout.{capped, imagesAsked, padsAsked, imagesSize, padsSize, imagesMost, padsMost, split, chipsOf, imagesOf, padsOf, Lent, lent, lineOf, lentFrom}
-use Rattle.line.specs.Event.{bit, refused, numberOf, answered, noChip, allInRange, tableInRange, sizesFit, judge, tableTests, verdictOf, Fits, Outcome, outcome, planEvent, planIn, planBy, planOf, doneOf, eventOf}
+use Rattle.chip.specs.With.{noChip}
+use Rattle.line.specs.Event.{bit, refused, numberOf, answered, allInRange, tableInRange, sizesFit, judge, tableTests, verdictOf, Fits, Outcome, outcome, planEvent, planIn, planBy, planOf, doneOf, eventOf}
 use Rattle.line.specs.Sizes.{act-sized}
 use Rattle.line.specs.Bridge.{act-at, bit-at, regroup}
 use Rattle.line.specs.Prefix.{capped-is}
@@ -39,25 +41,12 @@ use Rattle.line.specs.declared.Plan.{Plan}
 use Rattle.line.specs.declared.Plan.the-variants as plan
 
 -- where a walk of i chips has come to
-size-small : (t : Bool) (n : ℕ) → pick t n 0 ≤ n
-unfolding pick
-size-small true n = omega arith
-size-small false n = omega arith
-
-image-small : (kind : ℕ) → imageSize kind ≤ 2624
-unfolding imageSize
-image-small kind = size-small (eqb kind 1) 2624
-
-pad-small : (kind : ℕ) → padSize kind ≤ 32
-unfolding padSize
-pad-small kind = size-small (eqb kind 1) 32
-
 abbrev spot : ℕ → ℕ → ℕ → Spot
 spot i image pad = record { place = i; image = image; pad = pad }
 
 pub record Near (i image pad : ℕ) : Type 0 where
-  pub images : image ≤ i * 2624
-  pub pads : pad ≤ i * 32
+  pub images : image ≤ i * imageMost
+  pub pads : pad ≤ i * padMost
 
 next-is : (i image pad kind : ℕ) → Near i image pad → i ≤ 16 → spotAfter kind (spot i image pad) ≡ spot (i + 1) (image + imageSize kind) (pad + padSize kind)
 unfolding spotAfter
@@ -418,11 +407,11 @@ take-few zero cs = omega arith
 take-few (suc n) [] = omega arith
 take-few (suc n) (c ∷ cs) = let h = take-few n cs in omega arith
 
-images-few : (cs : List Chip) → imagesSize cs ≤ length cs * 2624
+images-few : (cs : List Chip) → imagesSize cs ≤ length cs * imageMost
 images-few [] = omega arith
 images-few (c ∷ cs) = let h = images-few cs in let k = image-small (c .kind) in omega arith
 
-pads-few : (cs : List Chip) → padsSize cs ≤ length cs * 32
+pads-few : (cs : List Chip) → padsSize cs ≤ length cs * padMost
 pads-few [] = omega arith
 pads-few (c ∷ cs) = let h = pads-few cs in let k = pad-small (c .kind) in omega arith
 

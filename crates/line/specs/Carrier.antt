@@ -14,7 +14,8 @@ use Rattle.chip.specs.Range.{inRange}
 use Rattle.chip.specs.Kinds.{imageSize, padSize}
 use Rattle.chip.specs.declared.Chip.{Chip}
 use Rattle.line.specs.Bridge.{actAt, bitAt}
-use Rattle.line.specs.Event.{noChip, judge, tableTests, planEvent, planBy}
+use Rattle.chip.specs.With.{noChip}
+use Rattle.line.specs.Event.{judge, tableTests, planEvent, planBy}
 use Rattle.line.specs.Layout.{Lent, lent}
 use Rattle.line.specs.Line.{actOf, hostOf}
 use Rattle.line.specs.declared.Act.the-variants as act

@@ -8,10 +8,10 @@ use lib.ListN.{length, take, getD}
 use Rattle.base.specs.Pick.{pick}
 use Rattle.base.specs.Bits.{both}
 use Rattle.chip.specs.Chip.{Whole}
+use Rattle.chip.specs.With.{noChip}
 use Rattle.chip.specs.Range.{inRange}
 use Rattle.chip.specs.Kinds.{takesLevels}
 use Rattle.chip.specs.declared.Chip.{Chip}
-use Rattle.chip.specs.declared.Level.the-variants.{Waiting}
 use Rattle.line.specs.Line.{busOf, afterBy}
 use Rattle.line.specs.Layout.{imagesSize, padsSize, chipsOf, lineOf, Lent, lent, lentFrom}
 use Rattle.line.specs.declared.Event.{Event}
@@ -40,10 +40,6 @@ numberOf NoSuchLevels = 7
 abbrev pub answered : Answer → Answered
 answered (answer.Bit b) = bit b
 answered (answer.Refused r) = refused (numberOf r)
-
--- what is at a place that holds nothing
-abbrev pub noChip : Chip
-noChip = record { code = 0; kind = 0; rc = false; level = Waiting; registers = record { t = 0; es = 0 }; switch = record { latches = 0; levels = 0 } }
 
 -- every chip's fields lie in their ranges
 abbrev pub allInRange : List Chip → Bool

@@ -20,7 +20,8 @@ use Rattle.chip.specs.declared.Chip.{Chip}
 use Rattle.line.specs.declared.Act.{Act}
 use Rattle.line.specs.Line.{actOf}
 use Rattle.line.specs.Layout.{sumOf, Lent, lent}
-use Rattle.line.specs.Event.{noChip, allInRange}
+use Rattle.chip.specs.With.{noChip}
+use Rattle.line.specs.Event.{allInRange}
 use Rattle.line.specs.Bridge.{partOf, putPart, actWithin}
 
 -- where a part of a size at an offset lies

@@ -15,7 +15,8 @@ use Rattle.chip.specs.Kinds.{takesLevels, imageSize, padSize}
 use Rattle.chip.specs.declared.Chip.{Chip}
 use Rattle.line.specs.Line.{absent, busFrom, busOf}
 use Rattle.line.specs.Layout.{imagesSize, padsSize, split, chipsOf, imagesOf, padsOf}
-use Rattle.line.specs.Event.{tableInRange, allInRange, sizesFit, Fits, levelsFit, verdictOf, noChip, askedBy, planEvent, planIn}
+use Rattle.chip.specs.With.{noChip}
+use Rattle.line.specs.Event.{tableInRange, allInRange, sizesFit, Fits, levelsFit, verdictOf, askedBy, planEvent, planIn}
 use Rattle.line.specs.declared.Event.{Event}
 use Rattle.line.specs.declared.Refusal.{Refusal}
 use Rattle.line.specs.declared.Refusal.the-variants.{OutOfRange, WrongSize, NoSuchEvent, NoSuchLevels}

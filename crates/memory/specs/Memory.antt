@@ -4,9 +4,7 @@ use mathlib.Core.Bool.{Bool, false}
 use mathlib.Core.List.{List}
 use lib.ListN.{getD, set}
 use Rattle.scratchpad.specs.Map.{Map, ruleBy}
-use Rattle.scratchpad.specs.Scratchpad.{inPage, handOf}
-use Rattle.scratchpad.specs.declared.Registers.{Registers}
-use Rattle.scratchpad.specs.declared.MemoryPhase.{MemoryPhase}
+use Rattle.scratchpad.specs.Scratchpad.{inPage}
 use Rattle.scratchpad.specs.declared.Sight.{Sight}
 use Rattle.scratchpad.specs.declared.Hand.{Hand}
 use Rattle.scratchpad.specs.declared.Hand.the-variants as hand
@@ -45,10 +43,6 @@ sightBy M es x (hand.Byte a) = sight M es (x .first) (M .held a (x .first) (x .s
 sightBy M es x (hand.Page p) = sight M es 0 false false (M .closed p (x .first) (x .second)) 0
 sightBy M es x (hand.Pad o) = sight M es 0 false false false (x .first)
 sightBy M es x (hand.Memory a) = sight M es (x .first) false false false 0
-
--- what a slot sees at a phase of the memory m and the scratchpad s
-unfoldable pub sightOf : Map → Registers → MemoryPhase → List ℕ → List ℕ → Sight
-sightOf M r p m s = sightBy M (r .es) (seenIn m s (lookOf M (handOf (r .t) p))) (handOf (r .t) p)
 
 -- the byte b, sent to the address a of the memory m
 unfoldable pub ruleAt : Map → List ℕ → ℕ → ℕ → ℕ

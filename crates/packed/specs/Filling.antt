@@ -13,7 +13,7 @@ use Rattle.base.specs.Pick.{pick, pick-true, pick-false}
 use Rattle.base.specs.Bits.{both}
 use Rattle.base.specs.Both.{both-assoc}
 use Rattle.chip.specs.declared.Chip.{Chip}
-use Rattle.line.specs.Event.{noChip}
+use Rattle.chip.specs.With.{noChip}
 use Rattle.line.specs.declared.Table.{Table}
 use Rattle.packed.specs.Packed.{recordSize, packed, unpacked, sameBytes, packedTable, unpackedFrom, unpackedTable, isTable, putRecord, tableFrom, putTable}
 use Rattle.packed.specs.Laws.{packed-length, table-length, from-length}

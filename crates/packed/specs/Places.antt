@@ -9,7 +9,7 @@ use lib.Seq.{split-at, set-split, take-at, drop-at, length-take-le}
 use borrow.Author.Tests.{le-leb}
 use Rattle.base.specs.Pick.{pick, pick-true}
 use Rattle.chip.specs.declared.Chip.{Chip}
-use Rattle.line.specs.Event.{noChip}
+use Rattle.chip.specs.With.{noChip}
 use Rattle.packed.specs.Packed.{recordSize, packed, unpacked, packedTable, unpackedTable, putRecord}
 use Rattle.packed.specs.Laws.{packed-length, table-length, unpacked-packed, unpacked-table}
 use Rattle.packed.specs.Filling.{table-append}

@@ -13,7 +13,8 @@ use Rattle.chip.specs.declared.Level.the-variants.{Waiting}
 use Rattle.line.specs.Line.{valueOf, absent, actOf, levelsAt, afterBy}
 use Rattle.line.specs.Layout.{chipsOf}
 use Rattle.line.specs.Refusals.{presence, Comes, slot, reset, power-on, levels, refused, comes}
-use Rattle.line.specs.Event.{Answered, bit, refused as says, numberOf, noChip, askedBy, planEvent, planOn, answerBy}
+use Rattle.chip.specs.With.{noChip}
+use Rattle.line.specs.Event.{Answered, bit, refused as says, numberOf, askedBy, planEvent, planOn, answerBy}
 use Rattle.line.specs.declared.Event.{Event}
 use Rattle.line.specs.declared.Plan.{Plan}
 use Rattle.line.specs.declared.Plan.the-variants as plan

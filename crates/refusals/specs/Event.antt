@@ -11,7 +11,8 @@ use Rattle.base.specs.Pick.{pick, pick-if, pick-of}
 use Rattle.chip.specs.declared.Chip.{Chip}
 use Rattle.chip.specs.Chip.{Whole}
 use Rattle.line.specs.Layout.{lineOf, lent}
-use Rattle.line.specs.Event.{Answered, bit, refused, noChip, tableInRange, sizesFit, levelsFit, verdictOf, outcome, askedBy, planBy, planEvent, planIn, planOf, answerBy, doneOf, eventOf}
+use Rattle.chip.specs.With.{noChip}
+use Rattle.line.specs.Event.{Answered, bit, refused, tableInRange, sizesFit, levelsFit, verdictOf, outcome, askedBy, planBy, planEvent, planIn, planOf, answerBy, doneOf, eventOf}
 use Rattle.line.specs.declared.Event.{Event}
 use Rattle.line.specs.declared.Verdict.{Verdict}
 use Rattle.line.specs.declared.Plan.{Plan}

@@ -4,7 +4,8 @@ use mathlib.Core.List.{List, [], _∷_, map}
 use lib.ListN.{getD}
 use Rattle.chip.specs.Chip.{Whole, whole}
 use Rattle.line.specs.Line.{afterBy}
-use Rattle.line.specs.Event.{Answered, noChip, planOn, answerBy}
+use Rattle.chip.specs.With.{noChip}
+use Rattle.line.specs.Event.{Answered, planOn, answerBy}
 use Rattle.line.specs.declared.Event.{Event}
 use Rattle.search.specs.Host.{Wire}
 

@@ -20,7 +20,8 @@ use Rattle.chip.specs.Kinds.{imageSize, padSize}
 use Rattle.chip.specs.declared.Chip.{Chip}
 use Rattle.line.specs.Line.{valueOf, actOf, levelsAt, afterBy}
 use Rattle.line.specs.Layout.{imagesSize, padsSize, split, chipsOf, imagesOf, padsOf, lent, lineOf, lentFrom}
-use Rattle.line.specs.Event.{noChip, allInRange, tableInRange, sizesFit, verdictOf, askedBy, planIn, planBy, planOf, planOn, answerBy, doneOf, eventOf}
+use Rattle.chip.specs.With.{noChip}
+use Rattle.line.specs.Event.{allInRange, tableInRange, sizesFit, verdictOf, askedBy, planIn, planBy, planOf, planOn, answerBy, doneOf, eventOf}
 use Rattle.line.specs.Refusals.{chips-split, images-split, pads-split, fit, in-range-few, well-judged, Comes, slot, reset, power-on, levels, refused, comes}
 use Rattle.line.specs.Prefix.{length-split, length-after}
 use Rattle.line.specs.declared.Event.{Event}

@@ -9,7 +9,8 @@ use lib.ListN.{length, take, drop, getD, set, length-set}
 use Rattle.base.specs.Bits.{both}
 use Rattle.chip.specs.declared.Chip.{Chip}
 use Rattle.line.specs.Layout.{Lent, lent}
-use Rattle.line.specs.Event.{noChip, answered, outcome, Outcome}
+use Rattle.chip.specs.With.{noChip}
+use Rattle.line.specs.Event.{answered, outcome, Outcome}
 use Rattle.line.specs.Carrier.{over, over-more, over-done, firstSpot, spotAfter, firstBus, putsAt, busWith, busOver, Turn, turned, turnOf, acts, acts-more, acts-done, answerFor}
 use Rattle.line.specs.Carried.{walked}
 use Rattle.line.specs.declared.Answer.{Answer}

@@ -1,4 +1,4 @@
-use Rattle.card.specs.Reading.{known-small}
+use Rattle.chip.specs.Limits.{known-small}
 use mathlib.Core.Path.{sym, _∙_}
 use native.Mathlib.Omega.{arith}
 use Rattle.card.specs.Card.{wholeEntry}

@@ -53,7 +53,7 @@ use Rattle.line.specs.declared.Plan.{Plan}
 use Rattle.line.specs.declared.Spot.{Spot}
 use Rattle.line.specs.declared.Turned.{Turned}
 use Rattle.line.specs.Carrier.{turned, turnOf, firstSpot, acts}
-use Rattle.line.specs.Event.{noChip}
+use Rattle.chip.specs.With.{noChip}
 use Rattle.line.specs.Layout.{lent}
 use Rattle.lent.specs.Turning.{acts-turn, acts-none}
 use Rattle.lent.proofs.Again.{LentAgain, lends-at, back-at}

@@ -51,7 +51,7 @@ use Rattle.line.specs.declared.Bus.{Bus}
 use Rattle.chip.specs.declared.Chip.{Chip}
 use Rattle.line.specs.declared.Plan.{Plan}
 use Rattle.line.specs.Carrier.{over as overChips, firstBus, busWith, busOver}
-use Rattle.line.specs.Event.{noChip}
+use Rattle.chip.specs.With.{noChip}
 use Rattle.lent.specs.Turning.{over-turn, over-none}
 use Rattle.lent.proofs.Rows.{holds, fails}
 use Rattle.line.proofs.Bus as Bus-row

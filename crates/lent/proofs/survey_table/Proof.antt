@@ -49,7 +49,7 @@ use denote.Exit.{yes}
 use Rattle.chip.specs.declared.Chip.{Chip}
 use Rattle.line.specs.declared.Survey.{Survey}
 use Rattle.line.specs.Carrier.{over as overChips, firstSurvey, surveyChip, surveyed}
-use Rattle.line.specs.Event.{noChip}
+use Rattle.chip.specs.With.{noChip}
 use Rattle.lent.specs.Turning.{over-turn, over-none}
 use Rattle.lent.proofs.Rows.{holds, fails}
 use Rattle.chip.proofs.Chip as Chip-row

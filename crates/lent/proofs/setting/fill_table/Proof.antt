@@ -52,7 +52,7 @@ use Rattle.chip.specs.declared.Chip.{Chip}
 use Rattle.lent.specs.declared.Fill.{Fill}
 use Rattle.lent.specs.declared.Filled.{Filled}
 use Rattle.lent.specs.Fill.{fillFor, fillTurn, fills}
-use Rattle.line.specs.Event.{noChip}
+use Rattle.chip.specs.With.{noChip}
 use Rattle.lent.proofs.Rows.{holds, fails}
 use Rattle.card.proofs.CardAnswer as CardAnswer-row
 use Rattle.card.proofs.CardAnswer.Laws as CardAnswer-laws
