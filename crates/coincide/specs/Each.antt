@@ -41,7 +41,7 @@ use Rattle.machine.specs.Machine.{asksOf, beginOf}
 use Rattle.machine.specs.declared.Machine.{Machine}
 use Rattle.records.specs.Records.{headAt}
 use Rattle.rom.specs.Rom.{commandBit, commandOf, matchBit, readBit, romInRange, romSends, romTakes, searchBit, searchSends}
-use Rattle.search.specs.Host.{heard}
+use Rattle.search.specs.Host.{heard, wanted}
 use Rattle.scratchpad.specs.Registers.{mark, powerOnRegisters, ruleOfByte}
 use Rattle.scratchpad.specs.Map.{ruleBy}
 use Rattle.scratchpad.specs.Scratchpad.{byteAtHand, handOf, inPage, memoryBegins, memoryFunction, memoryInRange, memoryReset, memorySends, memoryTakes, pageAtHand, registersInRange, step}
@@ -537,6 +537,9 @@ toemsakun-pads-size table = one-answer (padsBytes table)
 
 pub search-bit-heard : (a : Answer) → Settled (heard (answered a))
 search-bit-heard a = one-answer (heard (answered a))
+
+pub search-wants : (last : ℕ) (path : ℕ) → Settled (wanted last path)
+search-wants last path = one-answer (wanted last path)
 
 -- machine
 
