@@ -6,7 +6,7 @@ TYPES = {
 }
 ENUMS = ['Act', 'Answer', 'CardAnswer', 'Verdict', 'Ask', 'Plan']
 STRUCTS = {
-    'Event': [('number', 'u32'), ('chip', 'u32'), ('levels', 'u32')],
+    'Event': [('number', 'u32'), ('chip', 'u32'), ('outside', 'u32')],
     'Bus': [('value', 'bool'), ('spot', 'Spot')],
     'Turned': [('chip', 'Chip'), ('spot', 'Spot')],
     'Filled': [('chip', 'Chip'), ('fill', 'Fill')],
@@ -76,12 +76,12 @@ FNS = [
     dict(name='chip::sends', params=[('c', 'Chip'), ('m', '&[u8]'), ('s', '&[u8]')], result='bool', ensures='r ≡ sendsOf (wholeChip c m s)'),
     dict(name='chip::reset', params=[('c', 'Chip')], result='Chip', ensures='r ≡ resetChip c'),
     dict(name='chip::power_on', params=[('c', 'Chip'), ('s', '&mut [u8]')], result='Chip', ensures='(r ≡ powerOnChip c) × (s′ ≡ powerOnPad (c .kind) s)'),
-    dict(name='chip::set_levels', params=[('c', 'Chip'), ('levels', 'u8')], result='Chip', ensures='r ≡ levelsChip levels c'),
+    dict(name='chip::set_outside', params=[('c', 'Chip'), ('outside', 'u8')], result='Chip', ensures='r ≡ outsideChip outside c'),
     dict(name='lent::record::takes', walk=True, params=[RECORD, ('v', 'bool')] + OWN, result='unit', ensures='wholeChip c′ m′ s′ ≡ takesOf v (wholeChip c m s)', uses=[CHIP + '{whole as wholeChip, takesOf}']),
     dict(name='lent::record::sends', walk=True, params=[('c', '&Chip'), ('m', '&[u8]'), ('s', '&[u8]')], result='bool', ensures='r ≡ sendsOf (wholeChip c m s)', uses=[CHIP + '{whole as wholeChip, sendsOf}']),
     dict(name='lent::record::reset', walk=True, params=[RECORD], result='unit', ensures='c′ ≡ resetChip c', uses=[CHIP + '{resetChip}']),
     dict(name='lent::record::power_on', walk=True, params=[RECORD, ('s', '&mut [u8]')], result='unit', ensures='(c′ ≡ powerOnChip c) × (s′ ≡ powerOnPad (c .kind) s)', uses=[CHIP + '{powerOnChip, powerOnPad}']),
-    dict(name='lent::record::set_levels', walk=True, params=[RECORD, ('levels', 'u8')], result='unit', ensures='c′ ≡ levelsChip levels c', uses=[CHIP + '{levelsChip}']),
+    dict(name='lent::record::set_outside', walk=True, params=[RECORD, ('outside', 'u8')], result='unit', ensures='c′ ≡ outsideChip outside c', uses=[CHIP + '{outsideChip}']),
 
     # the search
     dict(name='machine::asks', params=[('h', 'Machine')], result='Ask', ensures='r ≡ asksOf h'),

@@ -28,11 +28,11 @@ fn put_event(
     table: Table,
     number: u32,
     chip: u32,
-    levels: u32,
+    outside: u32,
     images: &mut [u8],
     pads: &mut [u8],
 ) -> Heard {
-    let event = line::events::numbered(number, chip, levels);
+    let event = line::events::numbered(number, chip, outside);
     let happened = line::take_event(table, event, images, pads);
     let answer = happened.answer;
     let left = happened.table;
@@ -64,14 +64,14 @@ pub fn power_on(table: Table, images: &mut [u8], pads: &mut [u8]) -> Table {
 }
 
 // Event 4: outside levels of one DS2413.
-pub fn set_levels(
+pub fn set_outside(
     table: Table,
     chip: u32,
-    levels: u32,
+    outside: u32,
     images: &mut [u8],
     pads: &mut [u8],
 ) -> Table {
-    let heard = put_event(table, 4, chip, levels, images, pads);
+    let heard = put_event(table, 4, chip, outside, images, pads);
     heard.table
 }
 

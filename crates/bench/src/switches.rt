@@ -17,7 +17,7 @@ fn switched(images: &mut [u8], pads: &mut [u8]) {
 // One chip: latches open, A held low outside.
 fn held_low(images: &mut [u8], pads: &mut [u8]) {
     let line = host::set_up(&cards::SWITCH, images, pads);
-    let low = host::set_levels(line, 0, 2, images, pads);
+    let low = host::set_outside(line, 0, 2, images, pads);
     script::play(
         low,
         b"case 8: latches open, A held low outside, status<CC F5>?\n",

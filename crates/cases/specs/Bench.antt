@@ -18,7 +18,7 @@ use Rattle.card.specs.Card.{SetUp, setUpOf}
 use Rattle.search.specs.Search.{Attached, attached}
 use Rattle.line.specs.Events.{slotEvent, resetEvent, powerOnEvent}
 use Rattle.search.specs.Host.{heard}
-use Rattle.runs.specs.Runs.{at, run, answers}
+use Rattle.histories.specs.Histories.{at, run, answers}
 
 -- a table of 16 places without chips
 abbrev emptySetUp : List ℕ → SetUp

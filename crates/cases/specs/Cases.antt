@@ -11,8 +11,8 @@ use Rattle.line.specs.Event.{Answered, bit}
 use Rattle.line.specs.declared.Event.{Event}
 use Rattle.scratchpad.specs.declared.MemoryPhase.the-variants.{SendCrc}
 use Rattle.search.specs.Search.{Attached, searchOf, complete, refused}
-use Rattle.runs.specs.Runs.{at, run, lineWire}
-use Rattle.line.specs.Events.{resetEvent, levelsEvent}
+use Rattle.histories.specs.Histories.{at, run, lineWire}
+use Rattle.line.specs.Events.{resetEvent, outsideEvent}
 use Rattle.search.specs.Host.{Listed, listed, play, searchHost}
 use Rattle.cases.specs.Bench.{lineOfCard, tableOfCard, record12, session, written, bytesRead, bitsRead, withByte, atPhase}
 
@@ -133,5 +133,5 @@ pub record Cases : Type 0 where
   pub open-status : statusOn [] switchLine ≡ 0x0F ∷ []
   pub switched : bytesRead (session (0x5A ∷ 0xFE ∷ 0x01 ∷ [])) 2 switchLine ≡ 0xAA ∷ 0x3C ∷ []
   -- 8: "Latches open, A held low outside: 1Eh. Two chips at 0Fh and 3Ch read together: 0Ch."
-  pub held-low : statusOn (levelsEvent 0 2 ∷ []) switchLine ≡ 0x1E ∷ []
+  pub held-low : statusOn (outsideEvent 0 2 ∷ []) switchLine ≡ 0x1E ∷ []
   pub together : statusOn switchOne twoLine ≡ 0x0C ∷ []

@@ -16,7 +16,7 @@ use Rattle.scratchpad.specs.Registers.{powerOnRegisters}
 use Rattle.scratchpad.specs.Scratchpad.{handOf, memoryBegins, memoryTakes, memorySends, memoryReset}
 use Rattle.scratchpad.specs.declared.Registers.{Registers}
 use Rattle.scratchpad.specs.declared.MemoryPhase.{MemoryPhase}
-use Rattle.scratchpad.specs.declared.MemoryStep.{MemoryStep}
+use Rattle.scratchpad.specs.declared.MemoryAfter.{MemoryAfter}
 use Rattle.scratchpad.specs.declared.Sight.{Sight}
 use Rattle.scratchpad.specs.declared.Deed.{Deed}
 use Rattle.scratchpad.specs.declared.Deed.the-variants.{Nothing}
@@ -26,13 +26,13 @@ use Rattle.memory.specs.declared.Look.the-variants as look
 use Rattle.memory.specs.declared.Seen.{Seen}
 use Rattle.memory.specs.Part.{mapOf}
 use Rattle.memory.specs.Memory.{Bytes, lookOf, seenIn, sightBy, done}
-use Rattle.chip.specs.Kinds.{partOf, hasMemory, hasScratchpad, hasRegisters, hasSwitch, takesLevels, knowsOf}
+use Rattle.chip.specs.Kinds.{partOf, hasMemory, hasScratchpad, hasRegisters, hasSwitch, takesOutside, knowsOf}
 use Rattle.chip.specs.With.{newChip, withRc, withLevel, withRegisters, withSwitch}
 use Rattle.chip.specs.declared.ChipAfter.{ChipAfter}
-use Rattle.ds2413.specs.Switch.{switchLevels, switchBegins, switchTakes, switchSends, switchPowerOn, switchSetUp}
+use Rattle.ds2413.specs.Switch.{switchOutside, switchBegins, switchTakes, switchSends, switchPowerOn, switchSetUp}
 use Rattle.ds2413.specs.declared.Switch.{Switch}
 use Rattle.ds2413.specs.declared.SwitchPhase.{SwitchPhase}
-use Rattle.ds2413.specs.declared.SwitchStep.{SwitchStep}
+use Rattle.ds2413.specs.declared.SwitchAfter.{SwitchAfter}
 use Rattle.chip.specs.declared.Chip.{Chip}
 use Rattle.chip.specs.declared.Level.{Level}
 use Rattle.chip.specs.declared.Level.the-variants.{Waiting, Rom, FunctionCommand, Memory, Pio}
@@ -67,11 +67,11 @@ romSlot c s v =
     withLevel (levelOf (t .next)) (withRc (t .rc) c)
 
 -- a chip after a step of a memory
-abbrev pub afterMemory : Chip → MemoryStep → ChipAfter
+abbrev pub afterMemory : Chip → MemoryAfter → ChipAfter
 afterMemory c t = left (withLevel (Memory (t .phase)) (withRegisters (t .registers) c)) (t .deed)
 
 -- a chip after a step of a switch
-abbrev pub afterSwitch : Chip → SwitchStep → Chip
+abbrev pub afterSwitch : Chip → SwitchAfter → Chip
 afterSwitch c t = withLevel (Pio (t .phase)) (withSwitch (t .switch) c)
 
 -- the function command b: "The kind of a chip is told, never guessed from its code."
@@ -190,11 +190,11 @@ unfoldable pub powerOnOf : Whole → Whole
 powerOnOf w = whole (powerOnChip (w .chip)) (w .memory) (powerOnPad (w .chip .kind) (w .pad))
 
 -- new outside levels of a chip, of a kind that takes them
-unfoldable pub levelsChip : ℕ → Chip → Chip
-levelsChip l c = withSwitch (pick (takesLevels (c .kind)) (switchLevels l (c .switch)) (c .switch)) c
+unfoldable pub outsideChip : ℕ → Chip → Chip
+outsideChip l c = withSwitch (pick (takesOutside (c .kind)) (switchOutside l (c .switch)) (c .switch)) c
 
-unfoldable pub levelsOf : ℕ → Whole → Whole
-levelsOf l w = whole (levelsChip l (w .chip)) (w .memory) (w .pad)
+unfoldable pub outsideOf : ℕ → Whole → Whole
+outsideOf l w = whole (outsideChip l (w .chip)) (w .memory) (w .pad)
 
 -- "Set-up: .. chips as after power on", every field written
 unfoldable pub setUpChip : ℕ → ℕ → Chip

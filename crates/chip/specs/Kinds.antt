@@ -28,8 +28,8 @@ unfoldable pub hasSwitch : ℕ → Bool
 hasSwitch kind = eqb kind 2
 
 -- the kinds that event 4 takes: "outside levels of one DS2413"
-unfoldable pub takesLevels : ℕ → Bool
-takesLevels kind = hasSwitch kind
+unfoldable pub takesOutside : ℕ → Bool
+takesOutside kind = hasSwitch kind
 
 -- the part that a kind with a memory is
 unfoldable pub partOf : ℕ → Part

@@ -3,7 +3,7 @@ use memory::Part;
 use rom::Knows;
 ghost use mathlib.Core.Path.{_≡_};
 ghost use Prim.Native.Nat.{_≤_};
-ghost use Rattle.chip.specs.Kinds.{knownKind, hasMemory, hasScratchpad, hasRegisters, hasSwitch, takesLevels, partOf, knowsOf, imageMost, padMost, imageSize, padSize};
+ghost use Rattle.chip.specs.Kinds.{knownKind, hasMemory, hasScratchpad, hasRegisters, hasSwitch, takesOutside, partOf, knowsOf, imageMost, padMost, imageSize, padSize};
 
 // Kind 1 or 2.
 pub fn is_known(kind: u8) -> bool
@@ -44,8 +44,8 @@ pub fn has_switch(kind: u8) -> bool
 }
 
 // A kind that event 4 takes.
-pub fn takes_levels(kind: u8) -> bool
-    ensures { λ r. ⌜ r ≡ takesLevels kind ⌝ }
+pub fn takes_outside(kind: u8) -> bool
+    ensures { λ r. ⌜ r ≡ takesOutside kind ⌝ }
 {
     has_switch(kind)
 }

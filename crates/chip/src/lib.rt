@@ -12,7 +12,7 @@ use scratchpad::Deed;
 use scratchpad::MemoryPhase;
 use scratchpad::Registers;
 ghost use mathlib.Core.Path.{_≡_};
-ghost use Rattle.chip.specs.Chip.{whole, looksOf, takesBy, sendsBy, takesOf, sendsOf, levelReset, resetChip, powerOnChip, powerOnPad, levelsChip, setUpChip};
+ghost use Rattle.chip.specs.Chip.{whole, looksOf, takesBy, sendsBy, takesOf, sendsOf, levelReset, resetChip, powerOnChip, powerOnPad, outsideChip, setUpChip};
 
 // The level of a chip, with what it needs to go on.
 pub enum Level {
@@ -153,10 +153,10 @@ pub fn power_on(c: Chip, s: &mut [u8]) -> Chip
 }
 
 // New outside levels.
-pub fn set_levels(c: Chip, levels: u8) -> Chip
-    ensures { λ r. ⌜ r ≡ levelsChip levels c ⌝ }
+pub fn set_outside(c: Chip, outside: u8) -> Chip
+    ensures { λ r. ⌜ r ≡ outsideChip outside c ⌝ }
 {
-    let switch = parts::switch_with_levels(c, levels);
+    let switch = parts::switch_with_outside(c, outside);
     Chip {
         switch: switch,
         ..c

@@ -4,23 +4,23 @@ use crate::ChipAfter;
 use crate::Level;
 use crate::kinds;
 use ds2413::Switch;
+use ds2413::SwitchAfter;
 use ds2413::SwitchPhase;
-use ds2413::SwitchStep;
 use memory::Look;
 use memory::Seen;
 use rom::RomNext;
 use rom::RomStep;
 use scratchpad::Deed;
+use scratchpad::MemoryAfter;
 use scratchpad::MemoryPhase;
-use scratchpad::MemoryStep;
 use scratchpad::Registers;
 use scratchpad::Sight;
 ghost use mathlib.Core.Path.{_≡_};
 ghost use Rattle.base.specs.Pick.{pick};
 ghost use Rattle.scratchpad.specs.Registers.{powerOnRegisters};
 ghost use Rattle.scratchpad.specs.Scratchpad.{memoryBegins, memorySends, memoryReset};
-ghost use Rattle.ds2413.specs.Switch.{switchBegins, switchPowerOn, switchLevels};
-ghost use Rattle.chip.specs.Kinds.{hasRegisters, hasSwitch, takesLevels};
+ghost use Rattle.ds2413.specs.Switch.{switchBegins, switchPowerOn, switchOutside};
+ghost use Rattle.chip.specs.Kinds.{hasRegisters, hasSwitch, takesOutside};
 ghost use Rattle.chip.specs.Chip.{chipMap, left, levelOf, romSlot, afterMemory, afterSwitch, functionIn, functionSlot, memoryLook, memorySight, memorySlot, switchSlot, powerOnPad};
 
 // A chip, and nothing to be done.
@@ -60,7 +60,7 @@ pub fn rom_slot(c: Chip, step: RomStep, v: bool) -> Chip
 }
 
 // A chip after a step of a memory.
-pub fn after_memory(c: Chip, to: MemoryStep) -> ChipAfter
+pub fn after_memory(c: Chip, to: MemoryAfter) -> ChipAfter
     ensures { λ r. ⌜ r ≡ afterMemory c to ⌝ }
 {
     let registers = to.registers;
@@ -78,7 +78,7 @@ pub fn after_memory(c: Chip, to: MemoryStep) -> ChipAfter
 }
 
 // A chip after a step of a switch.
-pub fn after_switch(c: Chip, to: SwitchStep) -> Chip
+pub fn after_switch(c: Chip, to: SwitchAfter) -> Chip
     ensures { λ r. ⌜ r ≡ afterSwitch c to ⌝ }
 {
     let switch = to.switch;
@@ -223,12 +223,12 @@ pub fn switch_after_power_on(c: Chip) -> Switch
 }
 
 // The switch with new outside levels, of a kind that takes them.
-pub fn switch_with_levels(c: Chip, levels: u8) -> Switch
-    ensures { λ r. ⌜ r ≡ pick (takesLevels (c .kind)) (switchLevels levels (c .switch)) (c .switch) ⌝ }
+pub fn switch_with_outside(c: Chip, outside: u8) -> Switch
+    ensures { λ r. ⌜ r ≡ pick (takesOutside (c .kind)) (switchOutside outside (c .switch)) (c .switch) ⌝ }
 {
     let switch = c.switch;
-    if kinds::takes_levels(c.kind) {
-        return ds2413::set_levels(switch, levels);
+    if kinds::takes_outside(c.kind) {
+        return ds2413::set_outside(switch, outside);
     }
     switch
 }

@@ -17,7 +17,7 @@ use Rattle.line.specs.declared.Event.{Event}
 use Rattle.line.specs.declared.Answer.{Answer}
 use Rattle.line.specs.declared.Answer.the-variants as answer
 use Rattle.line.specs.declared.Refusal.{Refusal}
-use Rattle.line.specs.declared.Refusal.the-variants.{OutOfRange, WrongSize, NoSuchEvent, NoSuchLevels}
+use Rattle.line.specs.declared.Refusal.the-variants.{OutOfRange, WrongSize, NoSuchEvent, NoSuchOutside}
 use Rattle.card.specs.Card.{Carded, chips, refused as refusedAt, carded, SetUp, setUp, setUpOf}
 use Rattle.card.specs.declared.CardAnswer.{CardAnswer}
 use Rattle.card.specs.declared.CardAnswer.the-variants.{Chips, TooMany, UnknownKind, WrongLength}
@@ -36,14 +36,14 @@ one-answer s x y e f = e ∙ sym f
 
 -- a refusal is found again from its number, and an answer from its number and value
 refusalFrom : ℕ → Refusal
-refusalFrom r = pick (eqb r 8) OutOfRange (pick (eqb r 5) WrongSize (pick (eqb r 6) NoSuchEvent NoSuchLevels))
+refusalFrom r = pick (eqb r 8) OutOfRange (pick (eqb r 5) WrongSize (pick (eqb r 6) NoSuchEvent NoSuchOutside))
 
 refusal-from : (r : Refusal) → refusalFrom (numberOf r) ≡ r
 unfolding refusalFrom pick
 refusal-from OutOfRange = refl
 refusal-from WrongSize = refl
 refusal-from NoSuchEvent = refl
-refusal-from NoSuchLevels = refl
+refusal-from NoSuchOutside = refl
 
 answerFrom : Answered → Answer
 answerFrom (bit b) = answer.Bit b
@@ -79,7 +79,7 @@ no-four : (r : Refusal) → eqb (numberOf r) 4 ≡ false
 no-four OutOfRange = refl
 no-four WrongSize = refl
 no-four NoSuchEvent = refl
-no-four NoSuchLevels = refl
+no-four NoSuchOutside = refl
 
 search-from : (a : SearchAnswer) → searchFrom (searched a) ≡ a
 unfolding searchFrom pick

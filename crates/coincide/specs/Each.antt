@@ -19,12 +19,12 @@ use Rattle.ds2413.specs.declared.SwitchPhase.{SwitchPhase}
 use Rattle.line.specs.declared.Table.{Table}
 use Rattle.base.specs.Bits.{bitOf, both, filled, same}
 use Rattle.card.specs.Card.{carded, entryAt}
-use Rattle.chip.specs.Chip.{levelReset, levelsChip, looksOf, resetChip, sendsBy, sendsOf, setUpChip, takesBy, whole}
+use Rattle.chip.specs.Chip.{levelReset, outsideChip, looksOf, resetChip, sendsBy, sendsOf, setUpChip, takesBy, whole}
 use Rattle.chip.specs.Range.{inRange, levelInRange}
-use Rattle.chip.specs.Kinds.{hasMemory, hasRegisters, hasScratchpad, hasSwitch, imageSize, knownKind, knowsOf, padSize, partOf, takesLevels}
+use Rattle.chip.specs.Kinds.{hasMemory, hasRegisters, hasScratchpad, hasSwitch, imageSize, knownKind, knowsOf, padSize, partOf, takesOutside}
 use Rattle.crc.specs.Code.{byteOf, checkOf, codeCrc}
 use Rattle.crc.specs.Crc.{crcBit, crcByte, crcOf, poly16, poly8}
-use Rattle.ds2413.specs.Switch.{confirmed, pairBit, pairIn, phaseInRange, pinOf, shown, statusOf, statusSent, step as switchStep, switchBegins, switchFunction, switchInRange, switchLevels, switchPowerOn, switchSends, switchSetUp, switchTakes}
+use Rattle.ds2413.specs.Switch.{confirmed, pairBit, pairIn, phaseInRange, pinOf, shown, statusOf, statusSent, switchAfter, switchBegins, switchFunction, switchInRange, switchOutside, switchPowerOn, switchSends, switchSetUp, switchTakes}
 use Rattle.memory.specs.Part.{mapOf}
 use Rattle.memory.specs.Memory.{lookOf, seenIn, sight, sightBy, ruleAt, spanOf, copied}
 use Rattle.memory.specs.declared.Part.{Part}
@@ -33,7 +33,7 @@ use Rattle.memory.specs.declared.Look.the-variants as look
 use Rattle.memory.specs.declared.Seen.{Seen}
 use Rattle.ds28ec20.specs.Map.{closedToCopying, controlAddress, held, isControlOrLock, isData, isReadOnly, lockAddress, onlyFalls, padEnd}
 use Rattle.line.specs.Bridge.{bitAt}
-use Rattle.line.specs.Event.{numberOf, answered, levelsFit, verdictOf, planEvent, planBy}
+use Rattle.line.specs.Event.{numberOf, answered, outsideFits, verdictOf, planEvent, planBy}
 use Rattle.line.specs.Layout.{capped, imagesAsked, imagesMost, padsAsked, padsMost}
 use Rattle.packed.specs.Packed.{packed, putRecord, putTable, sameBytes, tableFrom, unpacked}
 use Rattle.line.specs.declared.Answer.{Answer}
@@ -44,10 +44,10 @@ use Rattle.rom.specs.Rom.{commandBit, commandOf, matchBit, readBit, romInRange,
 use Rattle.search.specs.Host.{heard, wanted}
 use Rattle.scratchpad.specs.Registers.{mark, powerOnRegisters, ruleOfByte}
 use Rattle.scratchpad.specs.Map.{ruleBy}
-use Rattle.scratchpad.specs.Scratchpad.{byteAtHand, handOf, inPage, memoryBegins, memoryFunction, memoryInRange, memoryReset, memorySends, memoryTakes, pageAtHand, registersInRange, step}
+use Rattle.scratchpad.specs.Scratchpad.{byteAtHand, handOf, inPage, memoryBegins, memoryFunction, memoryInRange, memoryReset, memorySends, memoryTakes, pageAtHand, registersInRange, memoryAfter}
 use Rattle.base.specs.Pick.{pick}
 use Rattle.line.specs.declared.Event.{Event}
-use Rattle.line.specs.Events.{eventWith, slotEvent, resetEvent, powerOnEvent, levelsEvent}
+use Rattle.line.specs.Events.{eventWith, slotEvent, resetEvent, powerOnEvent, outsideEvent}
 use Rattle.line.specs.Line.{hostOf}
 use Rattle.line.specs.Carrier.{firstSpot, spotAfter, firstSurvey, surveyChip, verdictBy, planSeen, happensBy, firstBus, putsAt, busWith, answerFor}
 use Rattle.line.specs.declared.Refusal.{Refusal}
@@ -134,14 +134,14 @@ rom-read-bit rc place = one-answer (readBit rc place)
 pub rom-match-bit : (code : ℕ) (rc : Bool) (place : ℕ) (v : Bool) → Settled (matchBit code rc place v)
 rom-match-bit code rc place v = one-answer (matchBit code rc place v)
 
-pub rom-search-bit : (code : ℕ) (rc : Bool) (place : ℕ) (step : ℕ) (v : Bool) → Settled (searchBit code rc place step v)
-rom-search-bit code rc place step v = one-answer (searchBit code rc place step v)
+pub rom-search-bit : (code : ℕ) (rc : Bool) (place : ℕ) (slot : ℕ) (v : Bool) → Settled (searchBit code rc place slot v)
+rom-search-bit code rc place slot v = one-answer (searchBit code rc place slot v)
 
 pub rom-takes : (code : ℕ) (rc : Bool) (v : Bool) (k : Knows) (s : RomStep) → Settled (romTakes code rc v k s)
 rom-takes code rc v k s = one-answer (romTakes code rc v k s)
 
-pub rom-search-sends : (code : ℕ) (place : ℕ) (step : ℕ) → Settled (searchSends code place step)
-rom-search-sends code place step = one-answer (searchSends code place step)
+pub rom-search-sends : (code : ℕ) (place : ℕ) (slot : ℕ) → Settled (searchSends code place slot)
+rom-search-sends code place slot = one-answer (searchSends code place slot)
 
 pub rom-sends : (code : ℕ) (s : RomStep) → Settled (romSends code s)
 rom-sends code s = one-answer (romSends code s)
@@ -160,8 +160,8 @@ scratchpad-rule-of-byte held falls memory sent = one-answer (ruleOfByte held fal
 pub scratchpad-function : (b : ℕ) → Settled (memoryFunction b)
 scratchpad-function b = one-answer (memoryFunction b)
 
-pub scratchpad-goes-on : (r : Registers) (p : MemoryPhase) → Settled (step r p Nothing)
-scratchpad-goes-on r p = one-answer (step r p Nothing)
+pub scratchpad-goes-on : (r : Registers) (p : MemoryPhase) → Settled (memoryAfter r p Nothing)
+scratchpad-goes-on r p = one-answer (memoryAfter r p Nothing)
 
 pub scratchpad-takes : (r : Registers) (v : Bool) (see : Sight) (p : MemoryPhase) → Settled (memoryTakes r v see p)
 scratchpad-takes r v see p = one-answer (memoryTakes r v see p)
@@ -295,8 +295,8 @@ ds2413-power-on c = one-answer (switchPowerOn c)
 pub ds2413-set-up : Settled (switchSetUp)
 ds2413-set-up = one-answer (switchSetUp)
 
-pub ds2413-set-levels : (levels : ℕ) (c : Switch) → Settled (switchLevels levels c)
-ds2413-set-levels levels c = one-answer (switchLevels levels c)
+pub ds2413-set-outside : (outside : ℕ) (c : Switch) → Settled (switchOutside outside c)
+ds2413-set-outside outside c = one-answer (switchOutside outside c)
 
 pub ds2413-begins : (c : Switch) (b : ℕ) → Settled (switchBegins c b)
 ds2413-begins c b = one-answer (switchBegins c b)
@@ -325,8 +325,8 @@ ds2413-confirm-sent c count = one-answer (confirmed c count)
 pub ds2413-show-sent : (count : ℕ) (sample : ℕ) → Settled (shown count sample)
 ds2413-show-sent count sample = one-answer (shown count sample)
 
-pub ds2413-goes-on : (c : Switch) (p : SwitchPhase) → Settled (switchStep c p)
-ds2413-goes-on c p = one-answer (switchStep c p)
+pub ds2413-goes-on : (c : Switch) (p : SwitchPhase) → Settled (switchAfter c p)
+ds2413-goes-on c p = one-answer (switchAfter c p)
 
 pub ds2413-takes : (c : Switch) (v : Bool) (p : SwitchPhase) → Settled (switchTakes c v p)
 ds2413-takes c v p = one-answer (switchTakes c v p)
@@ -351,8 +351,8 @@ chip-registers-after-reset c level = one-answer (levelReset c level)
 pub chip-reset : (c : Chip) → Settled (resetChip c)
 chip-reset c = one-answer (resetChip c)
 
-pub chip-set-levels : (c : Chip) (levels : ℕ) → Settled (levelsChip levels c)
-chip-set-levels c levels = one-answer (levelsChip levels c)
+pub chip-set-outside : (c : Chip) (outside : ℕ) → Settled (outsideChip outside c)
+chip-set-outside c outside = one-answer (outsideChip outside c)
 
 pub chip-set-up : (code : ℕ) (kind : ℕ) → Settled (setUpChip code kind)
 chip-set-up code kind = one-answer (setUpChip code kind)
@@ -378,8 +378,8 @@ chip-has-registers kind = one-answer (hasRegisters kind)
 pub chip-has-switch : (kind : ℕ) → Settled (hasSwitch kind)
 chip-has-switch kind = one-answer (hasSwitch kind)
 
-pub chip-takes-levels : (kind : ℕ) → Settled (takesLevels kind)
-chip-takes-levels kind = one-answer (takesLevels kind)
+pub chip-takes-outside : (kind : ℕ) → Settled (takesOutside kind)
+chip-takes-outside kind = one-answer (takesOutside kind)
 
 pub chip-part-of : (kind : ℕ) → Settled (partOf kind)
 chip-part-of kind = one-answer (partOf kind)
@@ -432,8 +432,8 @@ line-bit-at c image pad ms ss = one-answer (bitAt c image pad ms ss)
 pub line-number-of : (r : Refusal) → Settled (numberOf r)
 line-number-of r = one-answer (numberOf r)
 
-pub line-events-numbered : (number : ℕ) (chip : ℕ) (levels : ℕ) → Settled (eventWith number chip levels)
-line-events-numbered number chip levels = one-answer (eventWith number chip levels)
+pub line-events-numbered : (number : ℕ) (chip : ℕ) (outside : ℕ) → Settled (eventWith number chip outside)
+line-events-numbered number chip outside = one-answer (eventWith number chip outside)
 
 pub line-events-slot : (b : Bool) → Settled (slotEvent b)
 line-events-slot b = one-answer (slotEvent b)
@@ -444,8 +444,8 @@ line-events-reset = one-answer resetEvent
 pub line-events-power-on : Settled powerOnEvent
 line-events-power-on = one-answer powerOnEvent
 
-pub line-events-outside-levels : (chip : ℕ) (levels : ℕ) → Settled (levelsEvent chip levels)
-line-events-outside-levels chip levels = one-answer (levelsEvent chip levels)
+pub line-events-outside-outside : (chip : ℕ) (outside : ℕ) → Settled (outsideEvent chip outside)
+line-events-outside-outside chip outside = one-answer (outsideEvent chip outside)
 
 -- the event, chip by chip
 
@@ -467,8 +467,8 @@ carrier-survey-chip c s chip = one-answer (surveyChip chip c s)
 pub carrier-verdict-by : (s : Survey) (n : ℕ) (images : ℕ) (pads : ℕ) → Settled (verdictBy s n images pads)
 carrier-verdict-by s n images pads = one-answer (verdictBy s n images pads)
 
-pub carrier-levels-fit : (e : Event) (n : ℕ) (kind : ℕ) → Settled (levelsFit e n kind)
-carrier-levels-fit e n kind = one-answer (levelsFit e n kind)
+pub carrier-outside-fits : (e : Event) (n : ℕ) (kind : ℕ) → Settled (outsideFits e n kind)
+carrier-outside-fits e n kind = one-answer (outsideFits e n kind)
 
 pub carrier-plan-event : (e : Event) (n : ℕ) (kind : ℕ) → Settled (planEvent e n kind)
 carrier-plan-event e n kind = one-answer (planEvent e n kind)
@@ -494,13 +494,13 @@ carrier-puts-at c s p ms ss = one-answer (putsAt p c s ms ss)
 pub carrier-bus-with : (c : Chip) (s : Bus) (p : Plan) (ms : List ℕ) (ss : List ℕ) → Settled (busWith p c s ms ss)
 carrier-bus-with c s p ms ss = one-answer (busWith p c s ms ss)
 
-pub carrier-levels-if : (named : Bool) (c : Chip) (levels : ℕ) → Settled (pick named (levelsChip levels c) c)
-carrier-levels-if named c levels = one-answer (pick named (levelsChip levels c) c)
+pub carrier-outside-if : (named : Bool) (c : Chip) (outside : ℕ) → Settled (pick named (outsideChip outside c) c)
+carrier-outside-if named c outside = one-answer (pick named (outsideChip outside c) c)
 
 pub carrier-answer-of : (p : Plan) (value : Bool) → Settled (answerFor p value)
 carrier-answer-of p value = one-answer (answerFor p value)
 
--- lent; `lent::record::sends`, `reset` and `set_levels` have the contracts of the functions of their names in chip
+-- lent; `lent::record::sends`, `reset` and `set_outside` have the contracts of the functions of their names in chip
 
 -- packed
 

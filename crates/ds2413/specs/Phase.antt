@@ -5,10 +5,10 @@ use mathlib.Core.Path.{_≡_}
 use Rattle.base.specs.Along.{along}
 use Rattle.ds2413.specs.Switch.{switchTakes, switchSends, phaseInRange}
 use Rattle.ds2413.specs.declared.Switch.{Switch}
-use Rattle.ds2413.specs.declared.SwitchStep.{SwitchStep}
+use Rattle.ds2413.specs.declared.SwitchAfter.{SwitchAfter}
 use Rattle.ds2413.specs.declared.SwitchPhase.{SwitchPhase}
 
-pub takes-at : (c : Switch) (v : Bool) (q p : SwitchPhase) (s : SwitchStep) → q ≡ p → s ≡ switchTakes c v p → s ≡ switchTakes c v q
+pub takes-at : (c : Switch) (v : Bool) (q p : SwitchPhase) (s : SwitchAfter) → q ≡ p → s ≡ switchTakes c v p → s ≡ switchTakes c v q
 takes-at c v q p s = along (λ (k : SwitchPhase). switchTakes c v k) q p s
 
 pub sends-at : (q p : SwitchPhase) (s : Bool) → q ≡ p → s ≡ switchSends p → s ≡ switchSends q

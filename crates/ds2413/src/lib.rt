@@ -1,12 +1,12 @@
 // The DS2413: two latches, two pins, and its function level.
 ghost use mathlib.Core.Path.{_≡_};
 ghost use Prim.Native.Nat.{_*_, _≤_};
-ghost use Rattle.ds2413.specs.Switch.{step, switchPowerOn, switchSetUp, switchLevels, pinOf, flag, statusOf, switchFunction, switchBegins, statusSent, pairIn, pairBit, confirmed, shown, switchTakes, switchSends, phaseInRange, switchInRange};
+ghost use Rattle.ds2413.specs.Switch.{switchAfter, switchPowerOn, switchSetUp, switchOutside, pinOf, flag, statusOf, switchFunction, switchBegins, statusSent, pairIn, pairBit, confirmed, shown, switchTakes, switchSends, phaseInRange, switchInRange};
 
 // The latches and the outside levels, bit 0 for PIOA and bit 1 for PIOB.
 pub struct Switch {
     pub latches: u8,
-    pub levels: u8,
+    pub outside: u8,
 }
 
 // A phase of the function level, with what it needs to go on.
@@ -24,7 +24,7 @@ pub enum SwitchPhase {
 }
 
 // Where a slot leaves the part.
-pub struct SwitchStep {
+pub struct SwitchAfter {
     pub switch: Switch,
     pub phase: SwitchPhase,
 }
@@ -42,16 +42,16 @@ pub fn set_up() -> Switch
 {
     Switch {
         latches: 3,
-        levels: 3,
+        outside: 3,
     }
 }
 
 // New outside levels.
-pub fn set_levels(c: Switch, levels: u8) -> Switch
-    ensures { λ r. ⌜ r ≡ switchLevels levels c ⌝ }
+pub fn set_outside(c: Switch, outside: u8) -> Switch
+    ensures { λ r. ⌜ r ≡ switchOutside outside c ⌝ }
 {
     Switch {
-        levels: levels,
+        outside: outside,
         ..c
     }
 }
@@ -62,7 +62,7 @@ pub fn pin(c: Switch, k: u8) -> bool
 {
     base::are_both(
         base::bit_of(c.latches as u64, k),
-        base::bit_of(c.levels as u64, k),
+        base::bit_of(c.outside as u64, k),
     )
 }
 
@@ -104,7 +104,7 @@ pub fn function(c: Switch, b: u8) -> SwitchPhase
 }
 
 // Where a function command leaves the part at its eighth bit.
-pub fn begins(c: Switch, b: u8) -> SwitchStep
+pub fn begins(c: Switch, b: u8) -> SwitchAfter
     ensures { λ r. ⌜ r ≡ switchBegins c b ⌝ }
 {
     let phase = function(c, b);
@@ -129,33 +129,33 @@ pub fn status_sent(c: Switch, count: u8, sample: u8) -> SwitchPhase
 }
 
 // A byte and its complement are in.
-pub fn pair_in(c: Switch, pair: u16) -> SwitchStep
+pub fn pair_in(c: Switch, pair: u16) -> SwitchAfter
     ensures { λ r. ⌜ r ≡ pairIn c pair ⌝ }
 {
-    let levels = c.levels;
+    let outside = c.outside;
     if pair % 256 + pair / 256 == 0xFF {
         let set = Switch {
             latches: (pair % 4) as u8,
-            levels: levels,
+            outside: outside,
         };
-        return SwitchStep {
+        return SwitchAfter {
             switch: set,
             phase: SwitchPhase::Confirm { count: 0 },
         };
     }
-    SwitchStep {
+    SwitchAfter {
         switch: c,
         phase: SwitchPhase::Ones,
     }
 }
 
 // A bit of a byte or its complement.
-pub fn pair_bit(c: Switch, count: u8, bits: u16, v: bool) -> SwitchStep
+pub fn pair_bit(c: Switch, count: u8, bits: u16, v: bool) -> SwitchAfter
     ensures { λ r. ⌜ r ≡ pairBit c count bits v ⌝ }
 {
     let b = base::filled16(bits, v);
     if count < 15 {
-        return SwitchStep {
+        return SwitchAfter {
             switch: c,
             phase: SwitchPhase::Take {
                 count: count + 1,
@@ -194,17 +194,17 @@ pub fn show_sent(count: u8, sample: u8) -> SwitchPhase
 }
 
 // Another phase, the latches as they are.
-pub fn goes_on(c: Switch, p: SwitchPhase) -> SwitchStep
-    ensures { λ r. ⌜ r ≡ step c p ⌝ }
+pub fn goes_on(c: Switch, p: SwitchPhase) -> SwitchAfter
+    ensures { λ r. ⌜ r ≡ switchAfter c p ⌝ }
 {
-    SwitchStep {
+    SwitchAfter {
         switch: c,
         phase: p,
     }
 }
 
 // What a slot of the value v does at a phase.
-pub fn takes(c: Switch, v: bool, p: SwitchPhase) -> SwitchStep
+pub fn takes(c: Switch, v: bool, p: SwitchPhase) -> SwitchAfter
     ensures { λ r. ⌜ r ≡ switchTakes c v p ⌝ }
 {
     match p {
@@ -246,5 +246,5 @@ pub fn phase_in_range(p: SwitchPhase) -> bool
 pub fn in_range(c: Switch) -> bool
     ensures { λ r. ⌜ r ≡ switchInRange c ⌝ }
 {
-    base::are_both(c.latches <= 3, c.levels <= 3)
+    base::are_both(c.latches <= 3, c.outside <= 3)
 }

@@ -1,7 +1,7 @@
 // One chip's record in place: copied out whole, handed to the step, and stored whole.
 use chip::Chip;
 ghost use mathlib.Core.Path.{_≡_};
-ghost use Rattle.chip.specs.Chip.{whole, takesOf, sendsOf, resetChip, powerOnChip, powerOnPad, levelsChip};
+ghost use Rattle.chip.specs.Chip.{whole, takesOf, sendsOf, resetChip, powerOnChip, powerOnPad, outsideChip};
 
 // What a slot of the value v does to a chip, its memory and its scratchpad.
 pub fn takes(c: &mut Chip, v: bool, m: &mut [u8], s: &mut [u8])
@@ -39,10 +39,10 @@ pub fn power_on(c: &mut Chip, s: &mut [u8])
 }
 
 // New outside levels.
-pub fn set_levels(c: &mut Chip, levels: u8)
-    ensures { λ _. ⌜ now (c .exit) ≡ levelsChip levels (now (c .entry)) ⌝ }
+pub fn set_outside(c: &mut Chip, outside: u8)
+    ensures { λ _. ⌜ now (c .exit) ≡ outsideChip outside (now (c .entry)) ⌝ }
 {
     let old = *c;
-    let new = chip::set_levels(old, levels);
+    let new = chip::set_outside(old, outside);
     *c = new;
 }

@@ -12,12 +12,12 @@ use lib.Seq.{take-at, drop-at, getD-at, set-at, set-getD, length-take-le}
 use Rattle.base.specs.Pick.{pick, pick-true, pick-false}
 use Rattle.base.specs.Bits.{both}
 use Rattle.base.specs.Both.{both-assoc, both-true}
-use Rattle.chip.specs.Chip.{Whole, whole, sendsOf, levelsChip, levelsOf}
+use Rattle.chip.specs.Chip.{Whole, whole, sendsOf, outsideChip, outsideOf}
 use Rattle.chip.specs.Range.{inRange}
 use Rattle.chip.specs.Kinds.{imageMost, padMost, imageSize, padSize}
 use Rattle.chip.specs.Limits.{image-small, pad-small}
 use Rattle.chip.specs.declared.Chip.{Chip}
-use Rattle.line.specs.Line.{busFrom, valueOf, actOf, levelsAt, putsOf, hostOf, busOf, afterBy}
+use Rattle.line.specs.Line.{busFrom, valueOf, actOf, outsideAt, putsOf, hostOf, busOf, afterBy}
 use Rattle.line.specs.Layout.{capped, imagesAsked, padsAsked, imagesSize, padsSize, imagesMost, padsMost, split, chipsOf, imagesOf, padsOf, Lent, lent, lineOf, lentFrom}
 use Rattle.chip.specs.With.{noChip}
 use Rattle.line.specs.Event.{bit, refused, numberOf, answered, allInRange, tableInRange, sizesFit, judge, tableTests, verdictOf, Fits, Outcome, outcome, planEvent, planIn, planBy, planOf, doneOf, eventOf}
@@ -195,7 +195,7 @@ module _ (c : Chip) (i image pad : ℕ) (A B S T : List ℕ) (p : length A ≡ i
   puts-is (plan.Slot b) = bit-at c image pad A B S T p q h k
   puts-is plan.Reset = refl
   puts-is plan.PowerOn = refl
-  puts-is (plan.Levels place l) = refl
+  puts-is (plan.Outside place l) = refl
 
 abbrev summed : Bool → ℕ → ℕ → ℕ → Bus
 summed v i image pad = record { value = v; spot = spot i image pad }
@@ -225,14 +225,14 @@ doneBy (plan.Refused r) v i w = w
 doneBy (plan.Slot b) v i w = actOf (act.Take v) w
 doneBy plan.Reset v i w = actOf act.Reset w
 doneBy plan.PowerOn v i w = actOf act.PowerOn w
-doneBy (plan.Levels place l) v i w = whole (pick (eqb i place) (levelsChip l (w .chip)) (w .chip)) (w .memory) (w .pad)
+doneBy (plan.Outside place l) v i w = whole (pick (eqb i place) (outsideChip l (w .chip)) (w .chip)) (w .memory) (w .pad)
 
 done-sized : (d : Plan) (v : Bool) (i : ℕ) (w : Whole) → (length (doneBy d v i w .memory) ≡ length (w .memory)) × (length (doneBy d v i w .pad) ≡ length (w .pad))
 done-sized (plan.Refused r) v i w = (refl, refl)
 done-sized (plan.Slot b) v i w = act-sized (act.Take v) w
 done-sized plan.Reset v i w = act-sized act.Reset w
 done-sized plan.PowerOn v i w = act-sized act.PowerOn w
-done-sized (plan.Levels place l) v i w = (refl, refl)
+done-sized (plan.Outside place l) v i w = (refl, refl)
 
 -- every chip, from place i on
 abbrev pub allDone : (ℕ → Whole → Whole) → ℕ → List Whole → List Whole
@@ -243,18 +243,18 @@ done-map : (f : Whole → Whole) (i : ℕ) (L : List Whole) → allDone (λ j. f
 done-map f i [] = refl
 done-map f i (w ∷ L) = ap (λ (K : List Whole). f w ∷ K) (done-map f (i + 1) L)
 
-done-past : (place l i : ℕ) (v : Bool) (L : List Whole) → place < i → allDone (doneBy (plan.Levels place l) v) i L ≡ L
+done-past : (place l i : ℕ) (v : Bool) (L : List Whole) → place < i → allDone (doneBy (plan.Outside place l) v) i L ≡ L
 done-past place l i v [] h = refl
 done-past place l i v (w ∷ L) h =
-    λ j. whole (pick-false (eqb i place) (levelsChip l (w .chip)) (w .chip) (ne-eqb i place (λ (q : i ≡ place). omega arith)) j) (w .memory) (w .pad) ∷ done-past place l (i + 1) v L (omega arith) j
+    λ j. whole (pick-false (eqb i place) (outsideChip l (w .chip)) (w .chip) (ne-eqb i place (λ (q : i ≡ place). omega arith)) j) (w .memory) (w .pad) ∷ done-past place l (i + 1) v L (omega arith) j
 
-done-levels : (k place l i : ℕ) (v : Bool) (L : List Whole) → i + k ≡ place → allDone (doneBy (plan.Levels place l) v) i L ≡ levelsAt k l L
-unfolding levelsOf
-done-levels k place l i v [] e = refl
-done-levels zero place l i v (w ∷ L) e =
-    λ j. whole (pick-true (eqb i place) (levelsChip l (w .chip)) (w .chip) (eq-eqb i place (omega arith)) j) (w .memory) (w .pad) ∷ done-past place l (i + 1) v L (omega arith) j
-done-levels (suc k) place l i v (w ∷ L) e =
-    λ j. whole (pick-false (eqb i place) (levelsChip l (w .chip)) (w .chip) (ne-eqb i place (λ (q : i ≡ place). omega arith)) j) (w .memory) (w .pad) ∷ done-levels k place l (i + 1) v L (omega arith) j
+done-outside : (k place l i : ℕ) (v : Bool) (L : List Whole) → i + k ≡ place → allDone (doneBy (plan.Outside place l) v) i L ≡ outsideAt k l L
+unfolding outsideOf
+done-outside k place l i v [] e = refl
+done-outside zero place l i v (w ∷ L) e =
+    λ j. whole (pick-true (eqb i place) (outsideChip l (w .chip)) (w .chip) (eq-eqb i place (omega arith)) j) (w .memory) (w .pad) ∷ done-past place l (i + 1) v L (omega arith) j
+done-outside (suc k) place l i v (w ∷ L) e =
+    λ j. whole (pick-false (eqb i place) (outsideChip l (w .chip)) (w .chip) (ne-eqb i place (λ (q : i ≡ place). omega arith)) j) (w .memory) (w .pad) ∷ done-outside k place l (i + 1) v L (omega arith) j
 
 -- one chip of the walk
 split-back : (n : ℕ) (A B : List ℕ) → A ++ B ≡ A ++ (take n B ++ drop n B)
@@ -271,14 +271,14 @@ module _ (c : Chip) (i image pad : ℕ) (A B S T : List ℕ) (p : length A ≡ i
   does-is (plan.Slot b) v = act-at (actOf (act.Take v)) c image pad A B S T p q h k
   does-is plan.Reset v = act-at (actOf act.Reset) c image pad A B S T p q h k
   does-is plan.PowerOn v = act-at (actOf act.PowerOn) c image pad A B S T p q h k
-  does-is (plan.Levels place l) v = λ j. whole (pick (eqb i place) (levelsChip l c) c) (split-back (imageSize (c .kind)) A B j) (split-back (padSize (c .kind)) S T j)
+  does-is (plan.Outside place l) v = λ j. whole (pick (eqb i place) (outsideChip l c) c) (split-back (imageSize (c .kind)) A B j) (split-back (padSize (c .kind)) S T j)
 
 -- the walk
 module _ (d : Plan) (v : Bool) where
-  acts-step : (k i image pad : ℕ) (cs : List Chip) (ms ss : List ℕ) (c r : Chip) (x y : List ℕ) → Near i image pad → i ≤ 16 → getD cs i noChip ≡ c → doesAt d v c (spot i image pad) ms ss ≡ whole r x y
+  acts-one : (k i image pad : ℕ) (cs : List Chip) (ms ss : List ℕ) (c r : Chip) (x y : List ℕ) → Near i image pad → i ≤ 16 → getD cs i noChip ≡ c → doesAt d v c (spot i image pad) ms ss ≡ whole r x y
       → acts d v (suc k) i (spot i image pad) cs ms ss ≡ acts d v k (i + 1) (spot (i + 1) (image + imageSize (c .kind)) (pad + padSize (c .kind))) (set cs i r) x y
   unfolding acts turnOf
-  acts-step k i image pad cs ms ss c r x y near l e h =
+  acts-one k i image pad cs ms ss c r x y near l e h =
       (λ j. let z = doesAt d v (e j) (spot i image pad) ms ss in acts d v k (i + 1) (spotAfter (e j .kind) (spot i image pad)) (set cs i (z .chip)) (z .memory) (z .pad))
       ∙ (λ j. acts d v k (i + 1) (next-is i image pad (c .kind) near l j) (set cs i (h j .chip)) (h j .memory) (h j .pad))
 
@@ -296,7 +296,7 @@ module _ (d : Plan) (v : Bool) where
       let x = doneBy d v i (whole c m s) in
       let lm : length (x .memory) ≡ imageSize (c .kind) = done-sized d v i (whole c m s) .0 ∙ length-take-le (imageSize (c .kind)) B (omega arith) in
       let ls : length (x .pad) ≡ padSize (c .kind) = done-sized d v i (whole c m s) .1 ∙ length-take-le (padSize (c .kind)) T (omega arith) in
-      acts-step (length Q) i image pad (P ++ (c ∷ (Q ++ Z))) (A ++ B) (S ++ T) c (x .chip) (A ++ (x .memory ++ drop (imageSize (c .kind)) B)) (S ++ (x .pad ++ drop (padSize (c .kind)) T))
+      acts-one (length Q) i image pad (P ++ (c ∷ (Q ++ Z))) (A ++ B) (S ++ T) c (x .chip) (A ++ (x .memory ++ drop (imageSize (c .kind)) B)) (S ++ (x .pad ++ drop (padSize (c .kind)) T))
       near (omega arith) (getD-at P c (Q ++ Z) noChip i p) (does-is c i image pad A B S T q r (omega arith) (omega arith) d v)
       ∙ (λ j. acts d v (length Q) (i + 1) (spot (i + 1) (image + imageSize (c .kind)) (pad + padSize (c .kind)))
       ((set-at P c (Q ++ Z) (x .chip) i p ∙ sym (append-assoc P (x .chip ∷ []) (Q ++ Z))) j)
@@ -362,8 +362,8 @@ module _ (n k : ℕ) (cs : List Chip) (ms ss : List ℕ) where
         λ j. outcome (bit (valued-is (plan.Slot b) j)) n (both-are (plan.Slot b) _ (done-map (actOf (act.Take (busOf (plan.Slot b) L))) 0 L) _ refl j)
     fine-walked plan.Reset = λ j. outcome (bit (valued-is plan.Reset j)) n (both-are plan.Reset _ (done-map (actOf act.Reset) 0 L) _ refl j)
     fine-walked plan.PowerOn = λ j. outcome (bit ((valued-is plan.PowerOn ∙ bus-one L) j)) n (both-are plan.PowerOn _ (done-map (actOf act.PowerOn) 0 L) _ refl j)
-    fine-walked (plan.Levels i x) =
-        λ j. outcome (bit ((valued-is (plan.Levels i x) ∙ bus-one L) j)) n (both-are (plan.Levels i x) _ (done-levels i i x 0 (busOf (plan.Levels i x) L) L (zero-add i)) _ refl j)
+    fine-walked (plan.Outside i x) =
+        λ j. outcome (bit ((valued-is (plan.Outside i x) ∙ bus-one L) j)) n (both-are (plan.Outside i x) _ (done-outside i i x 0 (busOf (plan.Outside i x) L) L (zero-add i)) _ refl j)
 
   module _ (h : n ≤ 16 → (n ≤ length cs) × (k ≡ n)) where
     judged-walked : (d : Plan) (q : Verdict) → q ≡ verdictOf n cs ms ss → walked (planBy q d) ≡ doneOf (planBy q d) n cs ms ss
@@ -391,7 +391,7 @@ refused-done (plan.Refused r) v n cs ms ss e = refl
 refused-done (plan.Slot b) v n cs ms ss e = absurd (true≢false e)
 refused-done plan.Reset v n cs ms ss e = absurd (true≢false e)
 refused-done plan.PowerOn v n cs ms ss e = absurd (true≢false e)
-refused-done (plan.Levels i l) v n cs ms ss e = absurd (true≢false e)
+refused-done (plan.Outside i l) v n cs ms ss e = absurd (true≢false e)
 
 pub happens-few : (n : ℕ) (cs : List Chip) (e : Event) (ms ss : List ℕ) → happensBy (planOf n cs e ms ss) ≡ true → n ≤ 16
 unfolding planOf

@@ -9,7 +9,7 @@ use lib.ListN.{getD, set}
 use Rattle.base.specs.Along.{along}
 use Rattle.base.specs.Pick.{pick}
 use Rattle.base.specs.Bits.{both}
-use Rattle.chip.specs.Chip.{Whole, whole, levelsChip}
+use Rattle.chip.specs.Chip.{Whole, whole, outsideChip}
 use Rattle.chip.specs.Range.{inRange}
 use Rattle.chip.specs.Kinds.{imageSize, padSize}
 use Rattle.chip.specs.declared.Chip.{Chip}
@@ -81,7 +81,7 @@ putsAt (plan.Refused r) c p ms ss = true
 putsAt (plan.Slot b) c p ms ss = bitAt c (p .image) (p .pad) ms ss
 putsAt plan.Reset c p ms ss = false
 putsAt plan.PowerOn c p ms ss = true
-putsAt (plan.Levels i l) c p ms ss = true
+putsAt (plan.Outside i l) c p ms ss = true
 
 unfoldable pub busWith : Plan → Chip → Bus → List ℕ → List ℕ → Bus
 busWith d c s ms ss =
@@ -99,7 +99,7 @@ doesAt (plan.Refused r) v c p ms ss = whole c ms ss
 doesAt (plan.Slot b) v c p ms ss = actAt (actOf (act.Take v)) c (p .image) (p .pad) ms ss
 doesAt plan.Reset v c p ms ss = actAt (actOf act.Reset) c (p .image) (p .pad) ms ss
 doesAt plan.PowerOn v c p ms ss = actAt (actOf act.PowerOn) c (p .image) (p .pad) ms ss
-doesAt (plan.Levels chip levels) v c p ms ss = whole (pick (eqb (p .place) chip) (levelsChip levels c) c) ms ss
+doesAt (plan.Outside chip outside) v c p ms ss = whole (pick (eqb (p .place) chip) (outsideChip outside c) c) ms ss
 
 -- a turn: the chip, where the next one stands, and the buffers
 pub record Turn : Type 0 where
@@ -129,7 +129,7 @@ happensBy (plan.Refused r) = false
 happensBy (plan.Slot b) = true
 happensBy plan.Reset = true
 happensBy plan.PowerOn = true
-happensBy (plan.Levels i l) = true
+happensBy (plan.Outside i l) = true
 
 -- what is answered
 abbrev pub answerFor : Plan → Bool → Answer
@@ -137,7 +137,7 @@ answerFor (plan.Refused r) v = answer.Refused r
 answerFor (plan.Slot b) v = answer.Bit v
 answerFor plan.Reset v = answer.Bit v
 answerFor plan.PowerOn v = answer.Bit v
-answerFor (plan.Levels i l) v = answer.Bit v
+answerFor (plan.Outside i l) v = answer.Bit v
 
 -- what a match of the code found, taken to what it matched
 pub host-at : (q p : Plan) (r : Bool) → q ≡ p → r ≡ hostOf p → r ≡ hostOf q

@@ -10,13 +10,13 @@ use Rattle.base.specs.Bits.{both}
 use Rattle.chip.specs.Chip.{Whole}
 use Rattle.chip.specs.With.{noChip}
 use Rattle.chip.specs.Range.{inRange}
-use Rattle.chip.specs.Kinds.{takesLevels}
+use Rattle.chip.specs.Kinds.{takesOutside}
 use Rattle.chip.specs.declared.Chip.{Chip}
 use Rattle.line.specs.Line.{busOf, afterBy}
 use Rattle.line.specs.Layout.{imagesSize, padsSize, chipsOf, lineOf, Lent, lent, lentFrom}
 use Rattle.line.specs.declared.Event.{Event}
 use Rattle.line.specs.declared.Refusal.{Refusal}
-use Rattle.line.specs.declared.Refusal.the-variants.{OutOfRange, WrongSize, NoSuchEvent, NoSuchLevels}
+use Rattle.line.specs.declared.Refusal.the-variants.{OutOfRange, WrongSize, NoSuchEvent, NoSuchOutside}
 use Rattle.line.specs.declared.Verdict.{Verdict}
 use Rattle.line.specs.declared.Verdict.the-variants as verdict
 use Rattle.line.specs.declared.Answer.{Answer}
@@ -34,7 +34,7 @@ abbrev pub numberOf : Refusal → ℕ
 numberOf OutOfRange = 8
 numberOf WrongSize = 5
 numberOf NoSuchEvent = 6
-numberOf NoSuchLevels = 7
+numberOf NoSuchOutside = 7
 
 -- the number and value of each answer
 abbrev pub answered : Answer → Answered
@@ -55,8 +55,8 @@ unfoldable pub sizesFit : ℕ → List Chip → List ℕ → List ℕ → Bool
 sizesFit n cs ms ss = both (eqb (length ms) (imagesSize (take n cs))) (eqb (length ss) (padsSize (take n cs)))
 
 -- not 7: "event 4 names an absent chip, one of kind 1, or levels over 3"; there are n chips, and the one named has a kind
-unfoldable pub levelsFit : Event → ℕ → ℕ → Bool
-levelsFit e n kind = pick (eqb (e .number) 4) (both (ltb (e .chip) n) (both (takesLevels kind) (leb (e .levels) 3))) true
+unfoldable pub outsideFits : Event → ℕ → ℕ → Bool
+outsideFits e n kind = pick (eqb (e .number) 4) (both (ltb (e .chip) n) (both (takesOutside kind) (leb (e .outside) 3))) true
 
 -- what has to hold, or else a refusal is given
 pub record Test : Type 0 where
@@ -77,7 +77,7 @@ tableTests range sizes = test range OutOfRange ∷ test sizes WrongSize ∷ []
 
 -- and these the event; 6: "the event number is over 4"
 abbrev pub eventTests : Event → ℕ → ℕ → List Test
-eventTests e n kind = test (leb (e .number) 4) NoSuchEvent ∷ test (levelsFit e n kind) NoSuchLevels ∷ []
+eventTests e n kind = test (leb (e .number) 4) NoSuchEvent ∷ test (outsideFits e n kind) NoSuchOutside ∷ []
 
 -- what a table and its buffers are judged to
 unfoldable pub verdictOf : ℕ → List Chip → List ℕ → List ℕ → Verdict
@@ -104,7 +104,7 @@ askedBy e =
     pick (ltb (e .number) 2) (plan.Slot (eqb (e .number) 1))
     (pick (eqb (e .number) 2) plan.Reset
     (pick (eqb (e .number) 3) plan.PowerOn
-    (plan.Levels (e .chip) (e .levels))))
+    (plan.Outside (e .chip) (e .outside))))
 
 -- a plan, where nothing refuses it
 abbrev pub planBy : Verdict → Plan → Plan
@@ -133,7 +133,7 @@ answerBy (plan.Refused r) L = refused (numberOf r)
 answerBy (plan.Slot b) L = bit (busOf (plan.Slot b) L)
 answerBy plan.Reset L = bit (busOf plan.Reset L)
 answerBy plan.PowerOn L = bit true
-answerBy (plan.Levels i l) L = bit true
+answerBy (plan.Outside i l) L = bit true
 
 -- what a plan comes to on a table; refused, nothing changes
 abbrev pub did : Plan → ℕ → List Chip → List ℕ → List ℕ → Outcome
@@ -144,7 +144,7 @@ doneOf (plan.Refused r) n cs ms ss = outcome (refused (numberOf r)) n (lent cs m
 doneOf (plan.Slot b) n cs ms ss = did (plan.Slot b) n cs ms ss
 doneOf plan.Reset n cs ms ss = did plan.Reset n cs ms ss
 doneOf plan.PowerOn n cs ms ss = did plan.PowerOn n cs ms ss
-doneOf (plan.Levels i l) n cs ms ss = did (plan.Levels i l) n cs ms ss
+doneOf (plan.Outside i l) n cs ms ss = did (plan.Outside i l) n cs ms ss
 
 -- "Event: 8, 5, 6, 7.", each with nothing changed
 unfoldable pub eventOf : ℕ → List Chip → Event → List ℕ → List ℕ → Outcome

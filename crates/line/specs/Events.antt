@@ -6,7 +6,7 @@ use Rattle.line.specs.declared.Event.{Event}
 
 -- an event by its number, with the chip and the levels that event 4 names
 abbrev pub eventWith : ℕ → ℕ → ℕ → Event
-eventWith number chip levels = record { number = number; chip = chip; levels = levels }
+eventWith number chip outside = record { number = number; chip = chip; outside = outside }
 
 -- "Events: 0 and 1, a slot in which the host writes that bit (a read slot is a 1)"
 abbrev pub slotEvent : Bool → Event
@@ -21,5 +21,5 @@ abbrev pub powerOnEvent : Event
 powerOnEvent = eventWith 3 0 0
 
 -- "4, outside levels of one DS2413 (bit 0 for PIOA, bit 1 for PIOB)"
-abbrev pub levelsEvent : ℕ → ℕ → Event
-levelsEvent chip levels = eventWith 4 chip levels
+abbrev pub outsideEvent : ℕ → ℕ → Event
+outsideEvent chip outside = eventWith 4 chip outside

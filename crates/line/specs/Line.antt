@@ -3,7 +3,7 @@ use Prim.Native.Nat.{ℕ, zero, suc}
 use mathlib.Core.Bool.{Bool, true, false}
 use mathlib.Core.List.{List, [], _∷_, map}
 use Rattle.base.specs.Bits.{both}
-use Rattle.chip.specs.Chip.{Whole, takesOf, sendsOf, resetOf, powerOnOf, levelsOf}
+use Rattle.chip.specs.Chip.{Whole, takesOf, sendsOf, resetOf, powerOnOf, outsideOf}
 use Rattle.line.specs.declared.Act.{Act}
 use Rattle.line.specs.declared.Act.the-variants.{Take, Reset, PowerOn}
 use Rattle.line.specs.declared.Plan.{Plan}
@@ -30,10 +30,10 @@ actOf Reset w = resetOf w
 actOf PowerOn w = powerOnOf w
 
 -- new outside levels of one chip
-abbrev pub levelsAt : ℕ → ℕ → List Whole → List Whole
-levelsAt i l [] = []
-levelsAt zero l (w ∷ L) = levelsOf l w ∷ L
-levelsAt (suc i) l (w ∷ L) = w ∷ levelsAt i l L
+abbrev pub outsideAt : ℕ → ℕ → List Whole → List Whole
+outsideAt i l [] = []
+outsideAt zero l (w ∷ L) = outsideOf l w ∷ L
+outsideAt (suc i) l (w ∷ L) = w ∷ outsideAt i l L
 
 -- what one chip puts on the bus: in a slot what it sends, 0 at a reset that it takes
 abbrev pub putsOf : Plan → Whole → Bool
@@ -41,7 +41,7 @@ putsOf (plan.Refused r) w = true
 putsOf (plan.Slot b) w = sendsOf w
 putsOf plan.Reset w = false
 putsOf plan.PowerOn w = true
-putsOf (plan.Levels i l) w = true
+putsOf (plan.Outside i l) w = true
 
 -- what the host puts on it
 abbrev pub hostOf : Plan → Bool
@@ -49,7 +49,7 @@ hostOf (plan.Refused r) = true
 hostOf (plan.Slot b) = b
 hostOf plan.Reset = true
 hostOf plan.PowerOn = true
-hostOf (plan.Levels i l) = true
+hostOf (plan.Outside i l) = true
 
 -- the bit on the bus
 abbrev pub busOf : Plan → List Whole → Bool
@@ -61,4 +61,4 @@ afterBy (plan.Refused r) L = L
 afterBy (plan.Slot b) L = map (actOf (Take (valueOf b L))) L
 afterBy plan.Reset L = map (actOf Reset) L
 afterBy plan.PowerOn L = map (actOf PowerOn) L
-afterBy (plan.Levels i l) L = levelsAt i l L
+afterBy (plan.Outside i l) L = outsideAt i l L

@@ -10,10 +10,10 @@ use lib.Seq.{take-append-le, drop-append-le, length-take-le}
 use borrow.Author.Tests.{ltb-true, ltb-false}
 use Rattle.base.specs.Pick.{pick}
 use Rattle.base.specs.Bits.{both}
-use Rattle.chip.specs.Kinds.{takesLevels}
+use Rattle.chip.specs.Kinds.{takesOutside}
 use Rattle.chip.specs.Chip.{Whole}
 use Rattle.chip.specs.declared.Chip.{Chip}
-use Rattle.line.specs.Line.{levelsAt, afterBy}
+use Rattle.line.specs.Line.{outsideAt, afterBy}
 use Rattle.line.specs.Layout.{capped, imagesSize, padsSize, imagesAsked, padsAsked, split, chipsOf, imagesOf, padsOf, Lent, lent, lineOf, lentFrom}
 use Rattle.line.specs.Event.{allInRange, tableInRange, sizesFit, judge, tableTests, verdictOf, Outcome, outcome, planIn, planBy, planOf, answerBy, did, doneOf, eventOf}
 use Rattle.line.specs.declared.Event.{Event}
@@ -66,7 +66,7 @@ module _ (n : ℕ) (cs Z : List Chip) (l : n ≤ length cs) where
   done-rest (plan.Slot b) ms ss = did-rest (plan.Slot b) ms ss
   done-rest plan.Reset ms ss = did-rest plan.Reset ms ss
   done-rest plan.PowerOn ms ss = did-rest plan.PowerOn ms ss
-  done-rest (plan.Levels i x) ms ss = did-rest (plan.Levels i x) ms ss
+  done-rest (plan.Outside i x) ms ss = did-rest (plan.Outside i x) ms ss
 
   -- an event on a table with more places than those of cs
   pub event-rest : (e : Event) (ms ss : List ℕ) → eventOf n (cs ++ Z) e ms ss ≡ withRest Z (eventOf n cs e ms ss)
@@ -99,17 +99,17 @@ pub length-split : (cs : List Chip) (ms ss : List ℕ) → length (split cs ms s
 length-split [] ms ss = refl
 length-split (c ∷ cs) ms ss = ap suc (length-split cs _ _)
 
-pub length-levels : (i l : ℕ) (L : List Whole) → length (levelsAt i l L) ≡ length L
-length-levels i l [] = refl
-length-levels zero l (w ∷ L) = refl
-length-levels (suc i) l (w ∷ L) = ap suc (length-levels i l L)
+pub length-outside : (i l : ℕ) (L : List Whole) → length (outsideAt i l L) ≡ length L
+length-outside i l [] = refl
+length-outside zero l (w ∷ L) = refl
+length-outside (suc i) l (w ∷ L) = ap suc (length-outside i l L)
 
 pub length-after : (p : Plan) (L : List Whole) → length (afterBy p L) ≡ length L
 length-after (plan.Refused r) L = refl
 length-after (plan.Slot b) L = length-map L _
 length-after plan.Reset L = length-map L _
 length-after plan.PowerOn L = length-map L _
-length-after (plan.Levels i l) L = length-levels i l L
+length-after (plan.Outside i l) L = length-outside i l L
 
 -- every event keeps the number of chips and of places
 module _ (n : ℕ) (cs : List Chip) (ms ss : List ℕ) (l : n ≤ length cs) where
@@ -126,7 +126,7 @@ module _ (n : ℕ) (cs : List Chip) (ms ss : List ℕ) (l : n ≤ length cs) whe
   done-holds (plan.Slot b) = did-holds (plan.Slot b)
   done-holds plan.Reset = did-holds plan.Reset
   done-holds plan.PowerOn = did-holds plan.PowerOn
-  done-holds (plan.Levels i x) = did-holds (plan.Levels i x)
+  done-holds (plan.Outside i x) = did-holds (plan.Outside i x)
 
 pub event-holds : (n : ℕ) (cs : List Chip) (e : Event) (ms ss : List ℕ) → n ≤ length cs → Holds n (length cs) (eventOf n cs e ms ss)
 unfolding eventOf

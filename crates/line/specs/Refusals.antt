@@ -11,15 +11,15 @@ use Rattle.base.specs.Pick.{pick, pick-true}
 use Rattle.base.specs.Bits.{both}
 use Rattle.base.specs.Both.{both-holds}
 use Rattle.chip.specs.Chip.{Whole}
-use Rattle.chip.specs.Kinds.{takesLevels, imageSize, padSize}
+use Rattle.chip.specs.Kinds.{takesOutside, imageSize, padSize}
 use Rattle.chip.specs.declared.Chip.{Chip}
 use Rattle.line.specs.Line.{absent, busFrom, busOf}
 use Rattle.line.specs.Layout.{imagesSize, padsSize, split, chipsOf, imagesOf, padsOf}
 use Rattle.chip.specs.With.{noChip}
-use Rattle.line.specs.Event.{tableInRange, allInRange, sizesFit, Fits, levelsFit, verdictOf, askedBy, planEvent, planIn}
+use Rattle.line.specs.Event.{tableInRange, allInRange, sizesFit, Fits, outsideFits, verdictOf, askedBy, planEvent, planIn}
 use Rattle.line.specs.declared.Event.{Event}
 use Rattle.line.specs.declared.Refusal.{Refusal}
-use Rattle.line.specs.declared.Refusal.the-variants.{OutOfRange, WrongSize, NoSuchEvent, NoSuchLevels}
+use Rattle.line.specs.declared.Refusal.the-variants.{OutOfRange, WrongSize, NoSuchEvent, NoSuchOutside}
 use Rattle.line.specs.declared.Verdict.{Verdict}
 use Rattle.line.specs.declared.Verdict.the-variants as verdict
 use Rattle.line.specs.declared.Plan.{Plan}
@@ -101,32 +101,32 @@ pub judged-fit : (n : ℕ) (cs : List Chip) (ms ss : List ℕ) → verdict.Well 
 judged-fit n cs ms ss h = let b = judged-well n cs ms ss h in fit n cs ms ss (b .0) (b .1)
 
 -- event 4 that fits has two bits
-pub fit-small : (e : Event) (n kind : ℕ) → levelsFit e n kind ≡ true → e .number ≡ 4 → e .levels ≤ 3
-unfolding levelsFit
+pub fit-small : (e : Event) (n kind : ℕ) → outsideFits e n kind ≡ true → e .number ≡ 4 → e .outside ≤ 3
+unfolding outsideFits
 fit-small e n kind h p =
-    let x = both (takesLevels kind) (leb (e .levels) 3) in
+    let x = both (takesOutside kind) (leb (e .outside) 3) in
     let k = sym (pick-true (eqb (e .number) 4) (both (ltb (e .chip) n) x) true (eq-eqb (e .number) 4 p)) ∙ h in
-    leb-true (e .levels) 3 (both-holds (takesLevels kind) (leb (e .levels) 3) (both-holds (ltb (e .chip) n) x k .1) .1)
+    leb-true (e .outside) 3 (both-holds (takesOutside kind) (leb (e .outside) 3) (both-holds (ltb (e .chip) n) x k .1) .1)
 
 -- what an event comes to, by what it asks: a refusal more is a clause more
 pub data Comes (cs : List Chip) : Plan → Plan → Type 0 where
   slot : (b : Bool) → Comes cs (plan.Slot b) (plan.Slot b)
   reset : Comes cs plan.Reset plan.Reset
   power-on : Comes cs plan.PowerOn plan.PowerOn
-  levels : (i l : ℕ) → i < length cs → takesLevels (getD cs i noChip .kind) ≡ true → l ≤ 3 → Comes cs (plan.Levels i l) (plan.Levels i l)
-  refused : (i l : ℕ) (r : Refusal) → Comes cs (plan.Levels i l) (plan.Refused r)
+  outside : (i l : ℕ) → i < length cs → takesOutside (getD cs i noChip .kind) ≡ true → l ≤ 3 → Comes cs (plan.Outside i l) (plan.Outside i l)
+  refused : (i l : ℕ) (r : Refusal) → Comes cs (plan.Outside i l) (plan.Refused r)
 
 module _ (cs : List Chip) (e : Event) where
   abbrev Come : Type 0
   Come = Comes cs (askedBy e) (planIn cs e)
 
-  four-comes : (a b c : Bool) → ltb (e .chip) (length cs) ≡ a → takesLevels (getD cs (e .chip) noChip .kind) ≡ b → leb (e .levels) 3 ≡ c → e .number ≡ 4 → Come
-  unfolding askedBy planEvent levelsFit both pick
+  four-comes : (a b c : Bool) → ltb (e .chip) (length cs) ≡ a → takesOutside (getD cs (e .chip) noChip .kind) ≡ b → leb (e .outside) 3 ≡ c → e .number ≡ 4 → Come
+  unfolding askedBy planEvent outsideFits both pick
   four-comes true true true p q r h =
-      rw (h, p, q, r) (levels (e .chip) (e .levels) (ltb-true (e .chip) (length cs) p) q (leb-true (e .levels) 3 r))
-  four-comes true true false p q r h = rw (h, p, q, r) (refused (e .chip) (e .levels) NoSuchLevels)
-  four-comes true false c p q r h = rw (h, p, q) (refused (e .chip) (e .levels) NoSuchLevels)
-  four-comes false b c p q r h = rw (h, p) (refused (e .chip) (e .levels) NoSuchLevels)
+      rw (h, p, q, r) (outside (e .chip) (e .outside) (ltb-true (e .chip) (length cs) p) q (leb-true (e .outside) 3 r))
+  four-comes true true false p q r h = rw (h, p, q, r) (refused (e .chip) (e .outside) NoSuchOutside)
+  four-comes true false c p q r h = rw (h, p, q) (refused (e .chip) (e .outside) NoSuchOutside)
+  four-comes false b c p q r h = rw (h, p) (refused (e .chip) (e .outside) NoSuchOutside)
 
   many-comes : 4 < e .number → Come
   unfolding askedBy planEvent pick
@@ -136,15 +136,15 @@ module _ (cs : List Chip) (e : Event) where
         le-ltb (e .number) 2 (omega arith),
         ne-eqb (e .number) 2 (λ (q : e .number ≡ 2). omega arith),
         ne-eqb (e .number) 3 (λ (q : e .number ≡ 3). omega arith),
-      ) (refused (e .chip) (e .levels) NoSuchEvent)
+      ) (refused (e .chip) (e .outside) NoSuchEvent)
 
   by-number : (k : ℕ) → e .number ≡ k → Come
-  unfolding askedBy planEvent levelsFit pick
+  unfolding askedBy planEvent outsideFits pick
   by-number zero p = rw p (slot false)
   by-number (suc zero) p = rw p (slot true)
   by-number (suc (suc zero)) p = rw p reset
   by-number (suc (suc (suc zero))) p = rw p power-on
-  by-number (suc (suc (suc (suc zero)))) p = four-comes (ltb (e .chip) (length cs)) (takesLevels (getD cs (e .chip) noChip .kind)) (leb (e .levels) 3) refl refl refl p
+  by-number (suc (suc (suc (suc zero)))) p = four-comes (ltb (e .chip) (length cs)) (takesOutside (getD cs (e .chip) noChip .kind)) (leb (e .outside) 3) refl refl refl p
   by-number (suc (suc (suc (suc (suc k))))) p = many-comes (omega arith)
 
   pub comes : Come

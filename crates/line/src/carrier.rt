@@ -16,9 +16,9 @@ ghost use mathlib.Core.Bool.{true};
 ghost use mathlib.Core.Path.{_≡_};
 ghost use Prim.Native.Nat.{_≤_};
 ghost use Rattle.base.specs.Pick.{pick};
-ghost use Rattle.chip.specs.Chip.{whole, levelsChip};
+ghost use Rattle.chip.specs.Chip.{whole, outsideChip};
 ghost use Rattle.line.specs.Line.{hostOf};
-ghost use Rattle.line.specs.Event.{levelsFit, askedBy, planEvent, planBy};
+ghost use Rattle.line.specs.Event.{outsideFits, askedBy, planEvent, planBy};
 ghost use Rattle.line.specs.Carrier.{firstSpot, spotAfter, firstSurvey, surveyChip, verdictBy, planSeen, firstBus, putsAt, busWith, doesAt, turned, turnOf, happensBy, answerFor};
 
 // Where the first chip stands.
@@ -106,11 +106,11 @@ pub fn verdict_by(s: Survey, n: usize, images: usize, pads: usize) -> Verdict
 }
 
 // Event 4 fits n chips, where the one that it names has a kind; any other event does.
-pub fn levels_fit(e: Event, n: usize, kind: u8) -> bool
-    ensures { λ r. ⌜ r ≡ levelsFit e n kind ⌝ }
+pub fn outside_fits(e: Event, n: usize, kind: u8) -> bool
+    ensures { λ r. ⌜ r ≡ outsideFits e n kind ⌝ }
 {
     let inside = (e.chip as usize) < n;
-    let small = base::are_both(chip::kinds::takes_levels(kind), e.levels <= 3);
+    let small = base::are_both(chip::kinds::takes_outside(kind), e.outside <= 3);
     if e.number == 4 {
         return base::are_both(inside, small);
     }
@@ -119,7 +119,7 @@ pub fn levels_fit(e: Event, n: usize, kind: u8) -> bool
 
 // What an event asks, where 4 has levels that fit.
 fn asked_of(e: Event, n: usize, kind: u8) -> Plan
-    requires { ⌜ levelsFit e n kind ≡ true ⌝ }
+    requires { ⌜ outsideFits e n kind ≡ true ⌝ }
     requires { ⌜ e .number ≤ 4 ⌝ }
     ensures { λ r. ⌜ r ≡ askedBy e ⌝ }
 {
@@ -133,9 +133,9 @@ fn asked_of(e: Event, n: usize, kind: u8) -> Plan
     if number == 3 {
         return Plan::PowerOn;
     }
-    Plan::Levels {
+    Plan::Outside {
         chip: e.chip as usize,
-        levels: e.levels as u8,
+        outside: e.outside as u8,
     }
 }
 
@@ -144,10 +144,10 @@ pub fn plan_event(e: Event, n: usize, kind: u8) -> Plan
     ensures { λ r. ⌜ r ≡ planEvent e n kind ⌝ }
 {
     if e.number <= 4 {
-        if levels_fit(e, n, kind) {
+        if outside_fits(e, n, kind) {
             return asked_of(e, n, kind);
         }
-        return Plan::Refused(Refusal::NoSuchLevels);
+        return Plan::Refused(Refusal::NoSuchOutside);
     }
     Plan::Refused(Refusal::NoSuchEvent)
 }
@@ -179,7 +179,10 @@ pub fn happens(plan: Plan) -> bool
         Plan::Slot(_) => true,
         Plan::Reset => true,
         Plan::PowerOn => true,
-        Plan::Levels { chip: _, levels: _ } => true,
+        Plan::Outside {
+            chip: _,
+            outside: _,
+        } => true,
     }
 }
 
@@ -192,7 +195,10 @@ pub fn host_bit(plan: Plan) -> bool
         Plan::Slot(b) => b,
         Plan::Reset => true,
         Plan::PowerOn => true,
-        Plan::Levels { chip: _, levels: _ } => true,
+        Plan::Outside {
+            chip: _,
+            outside: _,
+        } => true,
     }
 }
 
@@ -217,7 +223,10 @@ pub fn puts_at(c: Chip, p: Spot, plan: Plan, ms: &[u8], ss: &[u8]) -> bool
         Plan::Slot(_) => loops::bit_at(c, p.image, p.pad, ms, ss),
         Plan::Reset => false,
         Plan::PowerOn => true,
-        Plan::Levels { chip: _, levels: _ } => true,
+        Plan::Outside {
+            chip: _,
+            outside: _,
+        } => true,
     }
 }
 
@@ -236,11 +245,11 @@ pub fn bus_with(c: Chip, s: Bus, plan: Plan, ms: &[u8], ss: &[u8]) -> Bus
 }
 
 // New outside levels, if this is the chip.
-pub fn levels_if(named: bool, c: Chip, levels: u8) -> Chip
-    ensures { λ r. ⌜ r ≡ pick named (levelsChip levels c) c ⌝ }
+pub fn outside_if(named: bool, c: Chip, outside: u8) -> Chip
+    ensures { λ r. ⌜ r ≡ pick named (outsideChip outside c) c ⌝ }
 {
     if named {
-        return chip::set_levels(c, levels);
+        return chip::set_outside(c, outside);
     }
     c
 }
@@ -254,7 +263,7 @@ pub fn does_at(c: Chip, p: Spot, plan: Plan, value: bool, ms: &mut [u8], ss: &mu
         Plan::Slot(_) => loops::act_at(c, Act::Take(value), p.image, p.pad, ms, ss),
         Plan::Reset => loops::act_at(c, Act::Reset, p.image, p.pad, ms, ss),
         Plan::PowerOn => loops::act_at(c, Act::PowerOn, p.image, p.pad, ms, ss),
-        Plan::Levels { chip, levels } => levels_if(p.place == chip, c, levels),
+        Plan::Outside { chip, outside } => outside_if(p.place == chip, c, outside),
     }
 }
 
@@ -279,6 +288,9 @@ pub fn answer_of(plan: Plan, value: bool) -> Answer
         Plan::Slot(_) => Answer::Bit(value),
         Plan::Reset => Answer::Bit(value),
         Plan::PowerOn => Answer::Bit(value),
-        Plan::Levels { chip: _, levels: _ } => Answer::Bit(value),
+        Plan::Outside {
+            chip: _,
+            outside: _,
+        } => Answer::Bit(value),
     }
 }

@@ -1,16 +1,16 @@
 // The events of a line, each made by name.
 use crate::Event;
 ghost use mathlib.Core.Path.{_≡_};
-ghost use Rattle.line.specs.Events.{eventWith, slotEvent, resetEvent, powerOnEvent, levelsEvent};
+ghost use Rattle.line.specs.Events.{eventWith, slotEvent, resetEvent, powerOnEvent, outsideEvent};
 
 // An event by its number, for a caller that is handed numbers, with the chip and the levels that event 4 names.
-pub fn numbered(number: u32, chip: u32, levels: u32) -> Event
-    ensures { λ r. ⌜ r ≡ eventWith number chip levels ⌝ }
+pub fn numbered(number: u32, chip: u32, outside: u32) -> Event
+    ensures { λ r. ⌜ r ≡ eventWith number chip outside ⌝ }
 {
     Event {
         number: number,
         chip: chip,
-        levels: levels,
+        outside: outside,
     }
 }
 
@@ -39,8 +39,8 @@ pub fn power_on() -> Event
 }
 
 // New outside levels of one DS2413, bit 0 for PIOA and bit 1 for PIOB.
-pub fn outside_levels(chip: u32, levels: u32) -> Event
-    ensures { λ r. ⌜ r ≡ levelsEvent chip levels ⌝ }
+pub fn outside(chip: u32, outside: u32) -> Event
+    ensures { λ r. ⌜ r ≡ outsideEvent chip outside ⌝ }
 {
-    numbered(4, chip, levels)
+    numbered(4, chip, outside)
 }

@@ -32,7 +32,7 @@ pub struct Table {
 pub struct Event {
     pub number: u32,
     pub chip: u32,
-    pub levels: u32,
+    pub outside: u32,
 }
 
 // A refusal of an event.
@@ -44,7 +44,7 @@ pub enum Refusal {
     // refusal 6
     NoSuchEvent,
     // refusal 7
-    NoSuchLevels,
+    NoSuchOutside,
 }
 
 // What an event answers: the bus bit, or a refusal.
@@ -81,7 +81,7 @@ pub enum Plan {
     Reset,
     PowerOn,
     // new outside levels of one chip
-    Levels { chip: usize, levels: u8 },
+    Outside { chip: usize, outside: u8 },
 }
 
 // Where the next chip of a table stands: its number, and where its parts of the buffers begin.
@@ -119,7 +119,7 @@ pub fn number_of(r: Refusal) -> u8
         Refusal::OutOfRange => 8,
         Refusal::WrongSize => 5,
         Refusal::NoSuchEvent => 6,
-        Refusal::NoSuchLevels => 7,
+        Refusal::NoSuchOutside => 7,
     }
 }
 

@@ -14,7 +14,7 @@ use Rattle.chip.specs.Chip.{Whole, levelOf, romSlot, levelTakes, takesOf, level
 use Rattle.chip.specs.declared.Level.{Level}
 use Rattle.chip.specs.declared.Level.the-variants.{Waiting, Rom, FunctionCommand}
 use Rattle.line.specs.declared.Act.the-variants.{Take}
-use Rattle.runs.specs.Keeps.{act-named}
+use Rattle.histories.specs.Keeps.{act-named}
 
 -- the code ------------------------------------------------------------------------------------
 
@@ -51,11 +51,11 @@ hears w = (refl, (refl, (refl, (refl, (refl, (refl, (refl, (refl, tt))))))))
 
 -- the places ------------------------------------------------------------------------------------
 
--- the level at a step of a place; past the last place, the function level
+-- the level at a slot of a place; past the last place, the function level
 levelAt : ℕ → ℕ → Level
 levelAt k s = pick (ltb k 64) (Rom (Search k s)) (FunctionCommand 0 0)
 
--- a chip that takes part in a search, and is at step s of place k
+-- a chip that takes part in a search, and is at slot s of place k
 pub Part : ℕ → ℕ → Whole → Type 0
 Part k s w = w .chip .level ≡ levelAt k s
 
@@ -83,17 +83,17 @@ takes-in : (w : Whole) (v : Bool) (l : Level) → w .chip .level ≡ l → takes
 unfolding takesOf
 takes-in w v l e = ap (λ (k : Level). levelTakes w v k .chip .level) e
 
--- at step 0 a chip sends its bit
+-- at slot 0 a chip sends its bit
 pub bit-sent : (k : ℕ) (w : Whole) → k < 64 → Part k 0 w → sendsOf w ≡ bitOf (w .chip .code) k
 unfolding searchSends pick
 bit-sent k w h p = sends-in w (Rom (Search k 0)) (level-in k 0 w h p)
 
--- at step 1 it sends the complement
+-- at slot 1 it sends the complement
 pub not-sent : (k : ℕ) (w : Whole) → k < 64 → Part k 1 w → sendsOf w ≡ not (bitOf (w .chip .code) k)
 unfolding searchSends pick
 not-sent k w h p = sends-in w (Rom (Search k 1)) (level-in k 1 w h p)
 
--- at step 2 it sends nothing
+-- at slot 2 it sends nothing
 pub quiet : (k : ℕ) (w : Whole) → k < 64 → Part k 2 w → sendsOf w ≡ true
 unfolding searchSends pick
 quiet k w h p = sends-in w (Rom (Search k 2)) (level-in k 2 w h p)
@@ -103,18 +103,18 @@ pub out-quiet : (w : Whole) → Out w → sendsOf w ≡ true
 unfolding Out
 out-quiet w p = sends-in w Waiting p
 
--- a slot after which the next step comes
-step-next : (k s : ℕ) (w : Whole) (v : Bool) → k < 64 → s < 2 → Part k s w → Part k (s + 1) (takesOf v w)
+-- a slot after which the next slot comes
+slot-next : (k s : ℕ) (w : Whole) (v : Bool) → k < 64 → s < 2 → Part k s w → Part k (s + 1) (takesOf v w)
 unfolding Part romSlot searchBit levelAt pick
-step-next k s w v h l p = takes-in w v (Rom (Search k s)) (level-in k s w h p) ∙ rw (lt-ltb s 2 l, lt-ltb k 64 h)
+slot-next k s w v h l p = takes-in w v (Rom (Search k s)) (level-in k s w h p) ∙ rw (lt-ltb s 2 l, lt-ltb k 64 h)
 
--- after its bit a chip is at step 1
+-- after its bit a chip is at slot 1
 pub bit-taken : (k : ℕ) (v : Bool) (w : Whole) → k < 64 → Part k 0 w → Part k 1 (takesOf v w)
-bit-taken k v w h p = step-next k 0 w v h (omega arith) p
+bit-taken k v w h p = slot-next k 0 w v h (omega arith) p
 
--- after the complement it is at step 2
+-- after the complement it is at slot 2
 pub not-taken : (k : ℕ) (v : Bool) (w : Whole) → k < 64 → Part k 1 w → Part k 2 (takesOf v w)
-not-taken k v w h p = step-next k 1 w v h (omega arith) p
+not-taken k v w h p = slot-next k 1 w v h (omega arith) p
 
 -- the level after a place at which the chip's bit came
 place-next : (k : ℕ) (rc s t : Bool) → ltb k 63 ≡ s → ltb (k + 1) 64 ≡ t

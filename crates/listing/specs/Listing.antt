@@ -11,7 +11,7 @@ use Rattle.line.specs.Layout.{capped}
 use Rattle.line.specs.Line.{absent}
 use Rattle.line.specs.Events.{resetEvent}
 use Rattle.search.specs.Host.{ask, play, write, pass, searchHost}
-use Rattle.runs.specs.Runs.{lineWire, codesOf}
+use Rattle.histories.specs.Histories.{lineWire, codesOf}
 use Rattle.listing.specs.Order.{branchOrder, Codes, SameMembers, Before, Sorted, InBranchOrder, Lists, SameListing}
 use Rattle.listing.specs.Branch.{order-length}
 use Rattle.listing.specs.Sorted.{order-sorted, sorted-distinct, order-members, sorted-one}

@@ -11,7 +11,7 @@ use Rattle.base.specs.Pick.{pick}
 use Rattle.base.specs.Bits.{bitOf, same}
 use Rattle.chip.specs.Chip.{Whole}
 use Rattle.search.specs.Host.{Played, Listed, listed}
-use Rattle.runs.specs.Runs.{codesOf}
+use Rattle.histories.specs.Histories.{codesOf}
 
 -- the codes whose bit k is d
 unfoldable pub branch : Bool → ℕ → List ℕ → List ℕ

@@ -10,10 +10,10 @@ use Rattle.base.specs.Bits.{bitOf, both}
 use Rattle.chip.specs.Chip.{Whole}
 use Rattle.search.specs.Host.{Host, Played, played, End, end, more, play, pass, turn, mark, put}
 use Rattle.search.specs.Counts.{more-more}
-use Rattle.runs.specs.Runs.{lineWire, codesOf}
+use Rattle.histories.specs.Histories.{lineWire, codesOf}
 use Rattle.listing.specs.Order.{branch, Codes}
 use Rattle.listing.specs.Branch.{isNil, branch-in, some-branch, Low, low-next}
-use Rattle.listing.specs.Rest.{rest, Outcome, ended, step}
+use Rattle.listing.specs.Rest.{rest, Outcome, ended, at-place}
 use Rattle.listing.specs.Slots.{sent, taken, read-played, write-played, codes-taken, opened}
 use Rattle.listing.specs.Line.{At, at-opened, bits-sent, nots-sent, all-quiet, bits-taken, nots-taken, bit-written}
 
@@ -99,7 +99,7 @@ place n k want path last xs L a b d h ea eb some ed at₀ at₁ at₂ r =
       played =
           place-played n k want path last L a b d (bits-sent k h at₀ ∙ ea) (nots-sent k h at₁ ∙ eb) (all-quiet k h at₂) some ed
           ∙ ap (more 0 3) (r .played) ∙ three-more n (r .found) (r .marked) (r .after);
-      outcome = step n k want last (r .marked) (r .found) xs a b (bitOf want k) d ea eb refl ed (r .here) (r .outcome);
+      outcome = at-place n k want last (r .marked) (r .found) xs a b (bitOf want k) d ea eb refl ed (r .here) (r .outcome);
     }
 
 -- a pass from place k on, where somebody takes part

@@ -13,11 +13,11 @@ use Rattle.base.specs.Pick.{pick, pick-true, pick-false}
 use Rattle.chip.specs.Chip.{Whole}
 use Rattle.line.specs.Layout.{capped}
 use Rattle.line.specs.Line.{absent}
-use Rattle.line.specs.Event.{askedBy, planEvent, levelsFit}
+use Rattle.line.specs.Event.{askedBy, planEvent, outsideFits}
 use Rattle.line.specs.Refusals.{presence}
 use Rattle.search.specs.Host.{Host, done, bind, Played, played, Listed, listed, End, end, more, play, write, pass, passes, goOn, upTo}
 use Rattle.search.specs.Counts.{more-more, andThen, play-bind}
-use Rattle.runs.specs.Runs.{answerOf, afterOf, lineWire, codesOf}
+use Rattle.histories.specs.Histories.{answerOf, afterOf, lineWire, codesOf}
 use Rattle.listing.specs.Order.{branchOrder, Codes, Lists}
 use Rattle.listing.specs.Branch.{isNil, order-nil}
 use Rattle.listing.specs.Rest.{rest, rest-all, rest-some, Outcome, ended, parted}
@@ -137,7 +137,7 @@ resetAlone b L = played (listed [] b) (afterReset L) 1 0
 
 -- no presence
 none-there : (n : ℕ) → play lineWire (passes n 0 []) [] ≡ resetAlone true []
-unfolding play passes answerOf afterOf planEvent levelsFit askedBy pick
+unfolding play passes answerOf afterOf planEvent outsideFits askedBy pick
 none-there zero = refl
 none-there (suc n) = refl
 

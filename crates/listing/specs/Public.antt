@@ -10,9 +10,9 @@ use Rattle.base.specs.Pick.{pick}
 use Rattle.line.specs.Refusals.{in-range-few}
 use Rattle.search.specs.Host.{Played, Listed, play, searchHost}
 use Rattle.search.specs.Search.{Attached, Search, Searched, complete, refused, searchOf, fromPlayed}
-use Rattle.runs.specs.Runs.{lineWire, codesOf}
-use Rattle.runs.specs.Standing.{Stands, lineFrom, line-length}
-use Rattle.runs.specs.Joined.{inTable, search-joined}
+use Rattle.histories.specs.Histories.{lineWire, codesOf}
+use Rattle.histories.specs.Standing.{Stands, lineFrom, line-length}
+use Rattle.histories.specs.Joined.{inTable, search-joined}
 use Rattle.listing.specs.Order.{branchOrder, Codes, Lists}
 use Rattle.listing.specs.Listing.{listing-of-16}
 

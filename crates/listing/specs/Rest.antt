@@ -54,30 +54,30 @@ rest-some (parted q h) = rw h (omega arith)
 
 module _ (w k want last m c : ℕ) (xs : List ℕ) where
   -- one place of a pass, by what was read and wanted
-  stepTo : (a b t : Bool) → isNil (branch false k xs) ≡ a → isNil (branch true k xs) ≡ b → bitOf want k ≡ t
+  at-place-by : (a b t : Bool) → isNil (branch false k xs) ≡ a → isNil (branch true k xs) ≡ b → bitOf want k ≡ t
       → List·Memᴰ c (branch (turn a b t) k xs)
       → Outcome w (k + 1) want (mark a b t k last) m c (branch (turn a b t) k xs)
       → Outcome (suc w) k want last m c xs
   unfolding rest
-  stepTo true b t ea eb et i (ended e h) = ended e (rw ea h)
-  stepTo true b t ea eb et i (parted l h) = parted (omega arith) (rw ea h)
-  stepTo false true t ea eb et i (ended e h) = ended e (rw (ea, eb) h)
-  stepTo false true t ea eb et i (parted l h) = parted (omega arith) (rw (ea, eb) h)
-  stepTo false false true ea eb et i (ended e h) = ended e (rw (ea, eb, et) h)
-  stepTo false false true ea eb et i (parted l h) =
+  at-place-by true b t ea eb et i (ended e h) = ended e (rw ea h)
+  at-place-by true b t ea eb et i (parted l h) = parted (omega arith) (rw ea h)
+  at-place-by false true t ea eb et i (ended e h) = ended e (rw (ea, eb) h)
+  at-place-by false true t ea eb et i (parted l h) = parted (omega arith) (rw (ea, eb) h)
+  at-place-by false false true ea eb et i (ended e h) = ended e (rw (ea, eb, et) h)
+  at-place-by false false true ea eb et i (parted l h) =
       let u : bitOf (upTo (m - 1) c) k ≡ true = up-below (m - 1) c k (omega arith) ∙ branch-bit true k c xs i in
       parted (omega arith) (rw (ea, eb, et, u) h)
-  stepTo false false false ea eb et i (ended e h) =
+  at-place-by false false false ea eb et i (ended e h) =
       let n : m - 1 ≡ k = omega arith in
       let a : rest w (k + 1) (upTo k c) (branch true k xs) ≡ branchOrder w (k + 1) (branch true k xs) = rest-all w (k + 1) (upTo k c) (branch true k xs) (up-lt k c) in
       parted (omega arith) (rw (ea, eb, et, n, up-own k c, h, a))
-  stepTo false false false ea eb et i (parted l h) =
+  at-place-by false false false ea eb et i (parted l h) =
       let u : bitOf (upTo (m - 1) c) k ≡ false = up-below (m - 1) c k (omega arith) ∙ branch-bit false k c xs i in
       parted (omega arith) (rw (ea, eb, et, u, h))
 
   -- the same, with the direction that was taken under its own name
-  pub step : (a b t d : Bool) → isNil (branch false k xs) ≡ a → isNil (branch true k xs) ≡ b → bitOf want k ≡ t → turn a b t ≡ d
+  pub at-place : (a b t d : Bool) → isNil (branch false k xs) ≡ a → isNil (branch true k xs) ≡ b → bitOf want k ≡ t → turn a b t ≡ d
       → List·Memᴰ c (branch d k xs)
       → Outcome w (k + 1) want (mark a b t k last) m c (branch d k xs)
       → Outcome (suc w) k want last m c xs
-  step a b t d ea eb et ed i o = stepTo a b t ea eb et (rw ed i) (rw ed o)
+  at-place a b t d ea eb et ed i o = at-place-by a b t ea eb et (rw ed i) (rw ed o)

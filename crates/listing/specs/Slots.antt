@@ -10,11 +10,11 @@ use Rattle.base.specs.Both.{both-true}
 use Rattle.chip.specs.Chip.{Whole, takesOf, sendsOf, resetOf}
 use Rattle.line.specs.Event.{Answered, bit}
 use Rattle.line.specs.Line.{valueOf, absent}
-use Rattle.line.specs.Event.{askedBy, planEvent, levelsFit}
+use Rattle.line.specs.Event.{askedBy, planEvent, outsideFits}
 use Rattle.line.specs.Refusals.{presence}
 use Rattle.line.specs.Events.{slotEvent, resetEvent}
 use Rattle.search.specs.Host.{Host, ask, Played, played, more, play, write}
-use Rattle.runs.specs.Runs.{answerOf, afterOf, lineWire, codesOf}
+use Rattle.histories.specs.Histories.{answerOf, afterOf, lineWire, codesOf}
 use Rattle.listing.specs.Chip.{code-takes, code-resets, Hears, hasHeard, code-heard, hears}
 
 -- the AND of what the chips of a line send
@@ -46,7 +46,7 @@ value-is b (w ∷ L) = value-is (both (sendsOf w) b) L ∙ both-swap (sendsOf w)
 -- a slot, by its value
 slot-played : {A : Type 0} (b v : Bool) (f : Answered → Host A) (L : List Whole) → both b (sent L) ≡ v
     → play lineWire (ask (slotEvent b) f) L ≡ more 0 1 (play lineWire (f (bit v)) (taken v L))
-unfolding play answerOf afterOf planEvent levelsFit askedBy pick
+unfolding play answerOf afterOf planEvent outsideFits askedBy pick
 slot-played true v f L e = rw (value-is true L, e)
 slot-played false v f L e = rw (value-is false L, e)
 
@@ -64,7 +64,7 @@ write-played b f L e = slot-played b b f L (ap (both b) e ∙ both-true b)
 -- a reset
 pub reset-played : {A : Type 0} (f : Answered → Host A) (L : List Whole)
     → play lineWire (ask resetEvent f) L ≡ more 1 0 (play lineWire (f (bit (absent L))) (afterReset L))
-unfolding play answerOf afterOf planEvent levelsFit askedBy pick
+unfolding play answerOf afterOf planEvent outsideFits askedBy pick
 reset-played f L = ap (λ (b : Bool). more 1 0 (play lineWire (f (bit b)) (afterReset L))) (presence L)
 
 -- a slot keeps the codes of a line

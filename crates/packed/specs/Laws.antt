@@ -39,7 +39,7 @@ unpacked-packed c =
       rc = flag-back (c .rc) j;
       level = level j;
       registers = record { t = number-back 1 (c .registers .t) j; es = c .registers .es };
-      switch = record { latches = c .switch .latches; levels = c .switch .levels };
+      switch = record { latches = c .switch .latches; outside = c .switch .outside };
     }
 
 -- two runs of bytes are the same exactly where they are equal

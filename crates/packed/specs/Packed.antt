@@ -31,7 +31,7 @@ packedWith c s =
     bytesOf 7 (c .code)
     ++ (c .kind ∷ flag (c .rc) ∷ [])
     ++ bytesOf 1 (c .registers .t)
-    ++ (c .registers .es ∷ c .switch .latches ∷ c .switch .levels ∷ s .number ∷ [])
+    ++ (c .registers .es ∷ c .switch .latches ∷ c .switch .outside ∷ s .number ∷ [])
     ++ bytesOf 1 (s .w)
     ++ (s .a ∷ s .b ∷ s .c ∷ replicate (recordSize - 21) 0)
 
@@ -51,7 +51,7 @@ unpacked bs = record {
   rc = eqb (getD bs 9 0) 1;
   level = levelUnpacked (stepAt bs);
   registers = record { t = numberAt bs 10 1; es = getD bs 12 0 };
-  switch = record { latches = getD bs 13 0; levels = getD bs 14 0 };
+  switch = record { latches = getD bs 13 0; outside = getD bs 14 0 };
 }
 
 -- two runs of bytes are the same

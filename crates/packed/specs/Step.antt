@@ -28,7 +28,7 @@ abbrev pub romPacked : RomStep → Step
 romPacked (Command count bits) = step 1 0 count bits 0
 romPacked (Read place) = step 2 0 place 0 0
 romPacked (Match place) = step 3 0 place 0 0
-romPacked (Search place part) = step 4 0 place part 0
+romPacked (Search place slot) = step 4 0 place slot 0
 
 -- steps 16 to 26, of a DS28EC20
 abbrev pub memoryPacked : MemoryPhase → Step

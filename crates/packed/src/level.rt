@@ -38,7 +38,7 @@ fn pack_rom(step: RomStep) -> Step
         RomStep::Command { count, bits } => of(1, 0, count, bits, 0),
         RomStep::Read { place } => of(2, 0, place, 0, 0),
         RomStep::Match { place } => of(3, 0, place, 0, 0),
-        RomStep::Search { place, step } => of(4, 0, place, step, 0),
+        RomStep::Search { place, slot } => of(4, 0, place, slot, 0),
     }
 }
 
@@ -123,7 +123,7 @@ fn unpack_rom(s: Step) -> RomStep
     }
     RomStep::Search {
         place: s.a,
-        step: s.b,
+        slot: s.b,
     }
 }
 

@@ -40,7 +40,7 @@ fn bytes_of(c: Chip, s: Step) -> [u8; RECORD_SIZE]
     r[11] = (registers.t / 256) as u8;
     r[12] = registers.es;
     r[13] = switch.latches;
-    r[14] = switch.levels;
+    r[14] = switch.outside;
     r[15] = s.number;
     r[16] = (s.w % 256) as u8;
     r[17] = (s.w / 256) as u8;
@@ -120,7 +120,7 @@ fn unpack_whole(s: &[u8]) -> Chip
     let registers = Registers { t: t, es: s[12] };
     let switch = Switch {
         latches: s[13],
-        levels: s[14],
+        outside: s[14],
     };
     Chip {
         code: code,

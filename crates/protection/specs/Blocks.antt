@@ -16,14 +16,14 @@ use Rattle.scratchpad.specs.declared.Deed.the-variants.{Nothing, Put, Copy}
 use Rattle.ds28ec20.specs.Map.{isData, controlAddress, isControlOrLock, held, onlyFalls, ds28ec20}
 use Rattle.memory.specs.Part.{mapOf}
 use Rattle.memory.specs.Memory.{ruleAt, copied, done}
-use Rattle.chip.specs.Kinds.{takesLevels, partOf}
-use Rattle.chip.specs.Chip.{Whole, levelSeen, levelTakesBy, takesOf, resetOf, powerOnOf, levelsOf}
+use Rattle.chip.specs.Kinds.{takesOutside, partOf}
+use Rattle.chip.specs.Chip.{Whole, levelSeen, levelTakesBy, takesOf, resetOf, powerOnOf, outsideOf}
 use Rattle.line.specs.Line.{actOf}
 use Rattle.line.specs.declared.Act.{Act}
 use Rattle.line.specs.declared.Act.the-variants.{Take, Reset, PowerOn}
 use Rattle.line.specs.declared.Event.{Event}
-use Rattle.runs.specs.Runs.{at, run}
-use Rattle.runs.specs.Kept.{each-at, run-kept}
+use Rattle.histories.specs.Histories.{at, run}
+use Rattle.histories.specs.Kept.{each-at, run-kept}
 use Rattle.protection.specs.Guarded.{Guarded, Protected, OnlyFalls, protected-copied, only-falls-copied, protected-onto, only-falls-onto}
 
 -- the control byte of block j of a memory: "0A00h to 0A09h one control byte a block"
@@ -71,16 +71,16 @@ module _ (Q : List ℕ → Type 0) (w : Whole) (stays : Q (w .memory)) (copies :
 module _ (R : List ℕ → List ℕ → Type 0) (same : (m : List ℕ) → R m m) (onto : (m r s : List ℕ) → R m r → R r s → R m s)
     (copies : (m s : List ℕ) (p k n : ℕ) → R m (copied ds28ec20 m s p k n)) where
   -- outside levels leave the memory
-  levels-memory : (l : ℕ) (w : Whole) → takesLevels (w .chip .kind) ≡ true → l ≤ 3 → R (w .memory) (levelsOf l w .memory)
-  unfolding levelsOf
-  levels-memory l w e h = same (w .memory)
+  outside-memory : (l : ℕ) (w : Whole) → takesOutside (w .chip .kind) ≡ true → l ≤ 3 → R (w .memory) (outsideOf l w .memory)
+  unfolding outsideOf
+  outside-memory l w e h = same (w .memory)
 
   -- over a history, at chip i
   run-memory : (es : List Event) (L : List Whole) (i : ℕ) → R (at i L .memory) (at i (run es L) .memory)
   run-memory es L i =
       each-at (same _) i
       (run-kept (λ (w u : Whole). R (w .memory) (u .memory)) (λ w. same (w .memory)) (λ w u x. onto (w .memory) (u .memory) (x .memory))
-      (λ a w. act-memory (R (w .memory)) w (same (w .memory)) (copies (w .memory) (w .pad)) a) levels-memory es L)
+      (λ a w. act-memory (R (w .memory)) w (same (w .memory)) (copies (w .memory) (w .pad)) a) outside-memory es L)
 
 -- a write-protected block over a history
 pub run-protected : (es : List Event) (L : List Whole) (i j : ℕ) → j < 10 → Protected (0x0A00 + j) (256 * j) 256 (at i L .memory) (at i (run es L) .memory)

@@ -5,7 +5,7 @@ use mathlib.Core.Path.{_≡_}
 use lib.Bits.{bitAnd}
 use Rattle.chip.specs.Chip.{Whole}
 use Rattle.line.specs.declared.Event.{Event}
-use Rattle.runs.specs.Runs.{at, run}
+use Rattle.histories.specs.Histories.{at, run}
 use Rattle.protection.specs.Blocks.{control, blockByte, run-protected, run-only-falls}
 
 -- THEOREM: once the control byte of block j is 55h, it stays 55h, and none of the block's 256 bytes changes

@@ -6,9 +6,9 @@ use lib.Bits.{bitAnd}
 use Rattle.chip.specs.Chip.{Whole}
 use Rattle.line.specs.declared.Event.{Event}
 use Rattle.search.specs.Search.{Attached}
-use Rattle.runs.specs.Runs.{at}
-use Rattle.runs.specs.Standing.{Stands, lineFrom}
-use Rattle.runs.specs.Joined.{runOn, run-joined}
+use Rattle.histories.specs.Histories.{at}
+use Rattle.histories.specs.Standing.{Stands, lineFrom}
+use Rattle.histories.specs.Joined.{runOn, run-joined}
 use Rattle.protection.specs.Guarded.{Protected, OnlyFalls}
 use Rattle.protection.specs.Blocks.{control, blockByte, run-protected, run-only-falls}
 

@@ -6,22 +6,22 @@ use mathlib.Core.Path.{_≡_, refl, _∙_, ap, sym}
 use lib.ListN.{length, getD}
 use Rattle.base.specs.Pick.{pick, pick-true}
 use Rattle.base.specs.Bits.{both}
-use Rattle.chip.specs.Kinds.{takesLevels}
-use Rattle.chip.specs.Chip.{Whole, takesOf, sendsOf, resetOf, powerOnChip, powerOnOf, levelsChip, levelsOf}
+use Rattle.chip.specs.Kinds.{takesOutside}
+use Rattle.chip.specs.Chip.{Whole, takesOf, sendsOf, resetOf, powerOnChip, powerOnOf, outsideChip, outsideOf}
 use Rattle.chip.specs.declared.Chip.{Chip}
 use Rattle.chip.specs.declared.Level.the-variants.{Waiting}
-use Rattle.line.specs.Line.{valueOf, absent, actOf, levelsAt, afterBy}
+use Rattle.line.specs.Line.{valueOf, absent, actOf, outsideAt, afterBy}
 use Rattle.line.specs.Layout.{chipsOf}
-use Rattle.line.specs.Refusals.{presence, Comes, slot, reset, power-on, levels, refused, comes}
+use Rattle.line.specs.Refusals.{presence, Comes, slot, reset, power-on, outside, refused, comes}
 use Rattle.chip.specs.With.{noChip}
 use Rattle.line.specs.Event.{Answered, bit, refused as says, numberOf, askedBy, planEvent, planOn, answerBy}
 use Rattle.line.specs.declared.Event.{Event}
 use Rattle.line.specs.declared.Plan.{Plan}
 use Rattle.line.specs.declared.Plan.the-variants as plan
 use Rattle.line.specs.declared.Act.the-variants.{Take, Reset, PowerOn}
-use Rattle.runs.specs.Runs.{at, answerOf, afterOf, run, answers}
-use Rattle.runs.specs.Keeps.{act-named}
-use Rattle.runs.specs.Standing.{at-chip, length-chips}
+use Rattle.histories.specs.Histories.{at, answerOf, afterOf, run, answers}
+use Rattle.histories.specs.Keeps.{act-named}
+use Rattle.histories.specs.Standing.{at-chip, length-chips}
 use Rattle.recovery.specs.Sessions.{opening, toCome, Next, Addressed}
 use Rattle.recovery.specs.Stays.{not-both, kindsOf, length-kinds, run-kinds}
 use Rattle.recovery.specs.Opening.{Silent, Waits, sends-at, waiting-takes, opening-silent}
@@ -58,7 +58,7 @@ abbrev pub ownAfter : Plan → Whole → Whole
 ownAfter (plan.Slot v) w = actOf (Take (ownValue w v)) w
 ownAfter plan.Reset w = actOf Reset w
 ownAfter plan.PowerOn w = actOf PowerOn w
-ownAfter (plan.Levels i l) w = w
+ownAfter (plan.Outside i l) w = w
 ownAfter (plan.Refused r) w = w
 
 -- the chip alone, over a history
@@ -77,10 +77,10 @@ module _ (code : ℕ) (b : Bool) (bs : List Bool) (x : Whole) (s : Silent (Waits
   silent-takes = s [] .1
 
 -- outside levels leave a chip silent
-silent-levels : (code : ℕ) (bs : List Bool) (l : ℕ) (x : Whole) → Silent (Waits code) bs x → Silent (Waits code) bs (levelsOf l x)
-unfolding levelsOf levelsChip
-silent-levels code [] l x s = s
-silent-levels code (b ∷ bs) l x s = λ ls. s (l ∷ ls)
+silent-outside : (code : ℕ) (bs : List Bool) (l : ℕ) (x : Whole) → Silent (Waits code) bs x → Silent (Waits code) bs (outsideOf l x)
+unfolding outsideOf outsideChip
+silent-outside code [] l x s = s
+silent-outside code (b ∷ bs) l x s = λ ls. s (l ∷ ls)
 
 -- a chip that sends 1 leaves a slot the value that it has
 pub both-one : (a v : Bool) → a ≡ true → both a v ≡ v
@@ -115,22 +115,22 @@ module _ (code : ℕ) (bs cs : List Bool) (f : Whole → Whole) (each : (x : Who
   among-map (there {x = x} o r) = there (each x o) (among-map r)
 
 -- outside levels do nothing that matters to a chip of another code
-other-levels : (code : ℕ) (bs : List Bool) (l : ℕ) (x : Whole) → Other code bs x → Other code bs (levelsOf l x)
-unfolding levelsOf levelsChip
-other-levels code bs l x (n, h, s) = (n, h, silent-levels code bs l x s)
+other-outside : (code : ℕ) (bs : List Bool) (l : ℕ) (x : Whole) → Other code bs x → Other code bs (outsideOf l x)
+unfolding outsideOf outsideChip
+other-outside code bs l x (n, h, s) = (n, h, silent-outside code bs l x s)
 
 -- nor to any chip of a line of such
-others-levels : {code : ℕ} {bs : List Bool} {L : List Whole} (i l : ℕ) → Others code bs L → Others code bs (levelsAt i l L)
-others-levels i l none = none
-others-levels {code} {bs} zero l (more {x = x} o r) = more (other-levels code bs l x o) r
-others-levels (suc i) l (more o r) = more o (others-levels i l r)
+others-outside : {code : ℕ} {bs : List Bool} {L : List Whole} (i l : ℕ) → Others code bs L → Others code bs (outsideAt i l L)
+others-outside i l none = none
+others-outside {code} {bs} zero l (more {x = x} o r) = more (other-outside code bs l x o) r
+others-outside (suc i) l (more o r) = more o (others-outside i l r)
 
 -- and they are not those of a DS28EC20
-among-levels : {code : ℕ} {bs : List Bool} {w : Whole} {i : ℕ} {L : List Whole} (j l : ℕ) → w .chip .kind ≡ 1 → takesLevels (at j L .chip .kind) ≡ true → Among code bs w i L → Among code bs w i (levelsAt j l L)
-among-levels {w} zero l e f (here r) = absurd (not-both (w .chip .kind) e f)
-among-levels (suc j) l e f (here r) = here (others-levels j l r)
-among-levels {code} {bs} zero l e f (there {x = x} o r) = there (other-levels code bs l x o) r
-among-levels (suc j) l e f (there o r) = there o (among-levels j l e f r)
+among-outside : {code : ℕ} {bs : List Bool} {w : Whole} {i : ℕ} {L : List Whole} (j l : ℕ) → w .chip .kind ≡ 1 → takesOutside (at j L .chip .kind) ≡ true → Among code bs w i L → Among code bs w i (outsideAt j l L)
+among-outside {w} zero l e f (here r) = absurd (not-both (w .chip .kind) e f)
+among-outside (suc j) l e f (here r) = here (others-outside j l r)
+among-outside {code} {bs} zero l e f (there {x = x} o r) = there (other-outside code bs l x o) r
+among-outside (suc j) l e f (there o r) = there o (among-outside j l e f r)
 
 -- a chip of another code that waits goes on waiting
 other-slot : (code : ℕ) (u : Bool) (x : Whole) → Other code [] x → Other code [] (takesOf u x)
@@ -154,36 +154,36 @@ unfolding powerOnOf powerOnChip
 other-power code bs x (n, h, s) = (n, h, λ k. refl)
 
 -- one event, at the chip itself
-own-step : (code : ℕ) (bs : List Bool) (e : Plan) (w : Whole) → Next bs e → Own code bs w → Own code (toCome code bs e) (ownAfter e w)
-own-step code [] (plan.Slot v) w a (c, h, k, s) =
+own-after : (code : ℕ) (bs : List Bool) (e : Plan) (w : Whole) → Next bs e → Own code bs w → Own code (toCome code bs e) (ownAfter e w)
+own-after code [] (plan.Slot v) w a (c, h, k, s) =
     let q = act-named (Take (ownValue w v)) w in
     (q .0 ∙ c, rw (q .0) h, q .1 ∙ k, λ n. absurd (n (q .0 ∙ c)))
-own-step code (b ∷ bs) (plan.Slot v) w a (c, h, k, s) =
+own-after code (b ∷ bs) (plan.Slot v) w a (c, h, k, s) =
     let q = act-named (Take b) w in
     let u : ownValue w v ≡ b = both-one (sendsOf w) v (silent-sends code b bs w s) ∙ a in
     rw u (q .0 ∙ c, rw (q .0) h, q .1 ∙ k, silent-takes code b bs w s)
-own-step code bs plan.Reset w a (c, h, k, s) =
+own-after code bs plan.Reset w a (c, h, k, s) =
     let q = act-named Reset w in
     (q .0 ∙ c, rw (q .0) h, q .1 ∙ k, opening-silent code (rw c at h) w h)
-own-step code bs plan.PowerOn w a (c, h, k, s) =
+own-after code bs plan.PowerOn w a (c, h, k, s) =
     let q = act-named PowerOn w in
     (q .0 ∙ c, rw (q .0) h, q .1 ∙ k, λ n. absurd (n (q .0 ∙ c)))
-own-step code bs (plan.Levels j l) w a o = o
-own-step code bs (plan.Refused r) w a o = o
+own-after code bs (plan.Outside j l) w a o = o
+own-after code bs (plan.Refused r) w a o = o
 
 -- one event, on the line
-among-step : (code : ℕ) (bs : List Bool) (w : Whole) (i : ℕ) (L : List Whole) {p q : Plan} → Comes (chipsOf L) p q → Next bs p → Own code bs w → Among code bs w i L
+among-after : (code : ℕ) (bs : List Bool) (w : Whole) (i : ℕ) (L : List Whole) {p q : Plan} → Comes (chipsOf L) p q → Next bs p → Own code bs w → Among code bs w i L
     → Among code (toCome code bs p) (ownAfter p w) i (afterBy q L)
-among-step code [] w i L (slot v) a o m =
+among-after code [] w i L (slot v) a o m =
     rw (among-value v m) (among-map code [] [] (actOf (Take (ownValue w v))) (other-slot code (ownValue w v)) m)
-among-step code (b ∷ bs) w i L (slot v) a (c, h, k, s) m =
+among-after code (b ∷ bs) w i L (slot v) a (c, h, k, s) m =
     let u : ownValue w v ≡ b = both-one (sendsOf w) v (silent-sends code b bs w s) ∙ a in
     rw (among-value v m, u) (among-map code (b ∷ bs) bs (actOf (Take b)) (other-bit code b bs) m)
-among-step code bs w i L reset a (c, h, k, s) m =
+among-after code bs w i L reset a (c, h, k, s) m =
     among-map code bs (opening code) (actOf Reset) (λ x o. other-reset code (rw c at h) x (o .0) (o .1)) m
-among-step code bs w i L power-on a o m = among-map code bs [] (actOf PowerOn) (other-power code bs) m
-among-step code bs w i L (levels j l f g n) a (c, h, k, s) m = among-levels j l k (ap (λ (c : Chip). takesLevels (c .kind)) (at-chip j L) ∙ g) m
-among-step code bs w i L (refused j l r) a o m = m
+among-after code bs w i L power-on a o m = among-map code bs [] (actOf PowerOn) (other-power code bs) m
+among-after code bs w i L (outside j l f g n) a (c, h, k, s) m = among-outside j l k (ap (λ (c : Chip). takesOutside (c .kind)) (at-chip j L) ∙ g) m
+among-after code bs w i L (refused j l r) a o m = m
 
 -- what is to come after a history
 abbrev pub toComes : ℕ → List Bool → List Event → List Bool
@@ -191,17 +191,17 @@ toComes code bs [] = bs
 toComes code bs (e ∷ es) = toComes code (toCome code bs (askedBy e)) es
 
 -- one event, by its number
-event-step : (code : ℕ) (bs : List Bool) (e : Event) (w : Whole) (i : ℕ) (L : List Whole) → Next bs (askedBy e) → Own code bs w → Among code bs w i L
+event-after : (code : ℕ) (bs : List Bool) (e : Event) (w : Whole) (i : ℕ) (L : List Whole) → Next bs (askedBy e) → Own code bs w → Among code bs w i L
     → Among code (toCome code bs (askedBy e)) (ownAfter (askedBy e) w) i (afterOf e L)
 unfolding afterOf
-event-step code bs e w i L a o m = among-step code bs w i L (comes (chipsOf L) e) a o m
+event-after code bs e w i L a o m = among-after code bs w i L (comes (chipsOf L) e) a o m
 
 -- THEOREM: while each session matches its code, the chip goes as if it were alone, and the others are silent
 pub alone : (code : ℕ) (bs : List Bool) (es : List Event) (w : Whole) (i : ℕ) (L : List Whole) → Addressed code bs es → Own code bs w → Among code bs w i L
     → Among code (toComes code bs es) (ownRun es w) i (run es L)
 alone code bs [] w i L a o m = m
 alone code bs (e ∷ es) w i L (a, r) o m =
-    alone code (toCome code bs (askedBy e)) es (ownAfter (askedBy e) w) i (afterOf e L) r (own-step code bs (askedBy e) w a o) (event-step code bs e w i L a o m)
+    alone code (toCome code bs (askedBy e)) es (ownAfter (askedBy e) w) i (afterOf e L) r (own-after code bs (askedBy e) w a o) (event-after code bs e w i L a o m)
 
 -- the kind of chip i
 kind-at : (i : ℕ) (L : List Whole) → getD (chipsOf L) i noChip .kind ≡ getD (kindsOf L) i 0
@@ -221,7 +221,7 @@ abbrev pub ownAnswer : Plan → Whole → Answered
 ownAnswer (plan.Slot v) w = bit (ownValue w v)
 ownAnswer plan.Reset w = bit false
 ownAnswer plan.PowerOn w = bit true
-ownAnswer (plan.Levels i l) w = bit true
+ownAnswer (plan.Outside i l) w = bit true
 ownAnswer (plan.Refused r) w = says (numberOf r)
 
 -- and over a history, on a line of these kinds
@@ -235,16 +235,16 @@ among-present (here r) = refl
 among-present (there o r) = refl
 
 -- one event is answered as by the chip alone
-answer-step : (code : ℕ) (bs : List Bool) (p : Plan) (w : Whole) (i : ℕ) (L : List Whole) → Among code bs w i L → answerBy p L ≡ ownAnswer p w
-answer-step code bs (plan.Slot v) w i L m = ap bit (among-value v m)
-answer-step code bs plan.Reset w i L m = ap bit (presence L ∙ among-present m)
-answer-step code bs plan.PowerOn w i L m = refl
-answer-step code bs (plan.Levels j l) w i L m = refl
-answer-step code bs (plan.Refused r) w i L m = refl
+answer-among : (code : ℕ) (bs : List Bool) (p : Plan) (w : Whole) (i : ℕ) (L : List Whole) → Among code bs w i L → answerBy p L ≡ ownAnswer p w
+answer-among code bs (plan.Slot v) w i L m = ap bit (among-value v m)
+answer-among code bs plan.Reset w i L m = ap bit (presence L ∙ among-present m)
+answer-among code bs plan.PowerOn w i L m = refl
+answer-among code bs (plan.Outside j l) w i L m = refl
+answer-among code bs (plan.Refused r) w i L m = refl
 
 event-answer : (code : ℕ) (bs : List Bool) (e : Event) (w : Whole) (i : ℕ) (L : List Whole) → Among code bs w i L → answerOf e L ≡ ownAnswer (planAmong e (kindsOf L)) w
 unfolding answerOf
-event-answer code bs e w i L m = answer-step code bs (planOn e L) w i L m ∙ ap (λ (p : Plan). ownAnswer p w) (plan-among e L)
+event-answer code bs e w i L m = answer-among code bs (planOn e L) w i L m ∙ ap (λ (p : Plan). ownAnswer p w) (plan-among e L)
 
 -- THEOREM: and the answers are those of the chip alone
 pub alone-answers : (code : ℕ) (bs : List Bool) (es : List Event) (w : Whole) (i : ℕ) (L : List Whole) → Addressed code bs es → Own code bs w → Among code bs w i L
@@ -253,6 +253,6 @@ alone-answers code bs [] w i L a o m = refl
 alone-answers code bs (e ∷ es) w i L (a, r) o m =
     let first = event-answer code bs e w i L m in
     let u = ownAfter (askedBy e) w in
-    let rest = alone-answers code (toCome code bs (askedBy e)) es u i (afterOf e L) r (own-step code bs (askedBy e) w a o) (event-step code bs e w i L a o m) in
+    let rest = alone-answers code (toCome code bs (askedBy e)) es u i (afterOf e L) r (own-after code bs (askedBy e) w a o) (event-after code bs e w i L a o m) in
     let ks = ap (λ (k : List ℕ). ownAnswers es k u) (run-kinds (e ∷ []) L) in
     λ j. first j ∷ (rest ∙ ks) j

@@ -8,21 +8,21 @@ use borrow.Author.Tests.{ltb-true}
 use Rattle.base.specs.Pick.{pick, pick-both, pick-if}
 use Rattle.base.specs.Bits.{filled}
 use Rattle.scratchpad.specs.Scratchpad.{carriedOut, authorized, copyEnd}
-use Rattle.scratchpad.specs.declared.MemoryStep.{MemoryStep}
+use Rattle.scratchpad.specs.declared.MemoryAfter.{MemoryAfter}
 use Rattle.scratchpad.specs.declared.MemoryPhase.the-variants.{CopyEnd}
 use Rattle.scratchpad.specs.declared.Deed.{Deed}
 use Rattle.scratchpad.specs.declared.Deed.the-variants.{Nothing, Put, Copy}
 use Rattle.memory.specs.Memory.{done}
-use Rattle.chip.specs.Chip.{Whole, chipMap, levelSeen, levelTakesBy, memorySight, memorySlot, takesOf, resetOf, powerOnOf, levelsOf}
+use Rattle.chip.specs.Chip.{Whole, chipMap, levelSeen, levelTakesBy, memorySight, memorySlot, takesOf, resetOf, powerOnOf, outsideOf}
 use Rattle.chip.specs.declared.Level.{Level}
 use Rattle.chip.specs.declared.Level.the-variants.{Waiting, Rom, FunctionCommand, Memory, Pio}
-use Rattle.line.specs.Line.{valueOf, actOf, levelsAt, afterBy}
+use Rattle.line.specs.Line.{valueOf, actOf, outsideAt, afterBy}
 use Rattle.line.specs.Event.{planOn}
 use Rattle.line.specs.declared.Plan.{Plan}
 use Rattle.line.specs.declared.Plan.the-variants as plan
 use Rattle.line.specs.declared.Event.{Event}
 use Rattle.line.specs.declared.Act.the-variants.{Take, Reset, PowerOn}
-use Rattle.runs.specs.Runs.{at, afterOf, run}
+use Rattle.histories.specs.Histories.{at, afterOf, run}
 
 -- the deed is a copy
 abbrev pub isCopy : Deed → Bool
@@ -44,7 +44,7 @@ pub carries-out : (w : Whole) (v : Bool) (address count bits : ℕ) → w .chip 
 unfolding carriesOut memorySlot copyEnd authorized pick
 carries-out w v address count bits e = ap (levelCarriesOut w v) e ∙ go (ltb count 7) _ _ _ _ refl refl refl
   where
-    go : (s t : Bool) (a b c : MemoryStep) → isCopy (a .deed) ≡ false → isCopy (b .deed) ≡ true → isCopy (c .deed) ≡ false → isCopy (pick s a (pick t b c) .deed) ≡ pick s false t
+    go : (s t : Bool) (a b c : MemoryAfter) → isCopy (a .deed) ≡ false → isCopy (b .deed) ≡ true → isCopy (c .deed) ≡ false → isCopy (pick s a (pick t b c) .deed) ≡ pick s false t
     go true t a b c p q r = p
     go false true a b c p q r = q
     go false false a b c p q r = r
@@ -55,7 +55,7 @@ Idle (plan.Refused r) i L = Unit
 Idle (plan.Slot b) i L = carriesOut (valueOf b L) (at i L) ≡ false
 Idle plan.Reset i L = Unit
 Idle plan.PowerOn i L = Unit
-Idle (plan.Levels j l) i L = Unit
+Idle (plan.Outside j l) i L = Unit
 
 abbrev pub NoCopy : ℕ → List Event → List Whole → Type 0
 NoCopy i [] L = Unit
@@ -85,9 +85,9 @@ module _ (w : Whole) where
   power-stays = refl
 
   -- outside levels leave the memory
-  levels-stay : (l : ℕ) → levelsOf l w .memory ≡ w .memory
-  unfolding levelsOf
-  levels-stay l = refl
+  outside-stay : (l : ℕ) → outsideOf l w .memory ≡ w .memory
+  unfolding outsideOf
+  outside-stay l = refl
 
 -- chip i, where the same is done to each chip
 map-stays : (f : Whole → Whole) (i : ℕ) (L : List Whole) → f (at i L) .memory ≡ at i L .memory → at i (map f L) .memory ≡ at i L .memory
@@ -96,12 +96,12 @@ map-stays f zero (w ∷ L) e = e
 map-stays f (suc i) (w ∷ L) e = map-stays f i L e
 
 -- chip i, where one chip has new levels
-levels-at : (i j l : ℕ) (L : List Whole) → at i (levelsAt j l L) .memory ≡ at i L .memory
-levels-at i j l [] = refl
-levels-at zero zero l (w ∷ L) = levels-stay w l
-levels-at (suc i) zero l (w ∷ L) = refl
-levels-at zero (suc j) l (w ∷ L) = refl
-levels-at (suc i) (suc j) l (w ∷ L) = levels-at i j l L
+outside-at : (i j l : ℕ) (L : List Whole) → at i (outsideAt j l L) .memory ≡ at i L .memory
+outside-at i j l [] = refl
+outside-at zero zero l (w ∷ L) = outside-stay w l
+outside-at (suc i) zero l (w ∷ L) = refl
+outside-at zero (suc j) l (w ∷ L) = refl
+outside-at (suc i) (suc j) l (w ∷ L) = outside-at i j l L
 
 -- chip i over one event
 plan-stays : (i : ℕ) (p : Plan) (L : List Whole) → Idle p i L → at i (afterBy p L) .memory ≡ at i L .memory
@@ -109,7 +109,7 @@ plan-stays i (plan.Refused r) L n = refl
 plan-stays i (plan.Slot b) L n = map-stays (actOf (Take (valueOf b L))) i L (slot-stays (at i L) (valueOf b L) n)
 plan-stays i plan.Reset L n = map-stays (actOf Reset) i L (reset-stays (at i L))
 plan-stays i plan.PowerOn L n = map-stays (actOf PowerOn) i L (power-stays (at i L))
-plan-stays i (plan.Levels j l) L n = levels-at i j l L
+plan-stays i (plan.Outside j l) L n = outside-at i j l L
 
 event-stays : (i : ℕ) (e : Event) (L : List Whole) → Idle (planOn e L) i L → at i (afterOf e L) .memory ≡ at i L .memory
 unfolding afterOf

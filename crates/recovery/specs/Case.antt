@@ -14,17 +14,17 @@ use Rattle.ds2413.specs.Switch.{switchFunction, switchInRange}
 use Rattle.scratchpad.specs.Scratchpad.{byteAtHand, pageAtHand, memoryBegins}
 use Rattle.ds2413.specs.Switch.{switchBegins}
 use Rattle.memory.specs.Part.{mapOf}
-use Rattle.chip.specs.Kinds.{partOf, hasMemory, hasScratchpad, hasRegisters, hasSwitch, takesLevels, knowsOf}
-use Rattle.chip.specs.Chip.{Whole, whole, memoryLook, memorySight, romSlot, functionIn, functionSlot, memorySlot, switchSlot, takesOf, sendsOf, resetChip, resetOf, powerOnChip, powerOnOf, levelsChip, levelsOf, setUpChip}
+use Rattle.chip.specs.Kinds.{partOf, hasMemory, hasScratchpad, hasRegisters, hasSwitch, takesOutside, knowsOf}
+use Rattle.chip.specs.Chip.{Whole, whole, memoryLook, memorySight, romSlot, functionIn, functionSlot, memorySlot, switchSlot, takesOf, sendsOf, resetChip, resetOf, powerOnChip, powerOnOf, outsideChip, outsideOf, setUpChip}
 use Rattle.chip.specs.Kinds.{knownKind, imageSize, padSize}
-use Rattle.line.specs.Event.{askedBy, planEvent, levelsFit}
+use Rattle.line.specs.Event.{askedBy, planEvent, outsideFits}
 use Rattle.line.specs.declared.Event.{Event}
-use Rattle.line.specs.Events.{eventWith, resetEvent, powerOnEvent, levelsEvent}
-use Rattle.runs.specs.Runs.{at, afterOf, run, answers}
-use Rattle.runs.specs.Keeps.{InRange, Good}
+use Rattle.line.specs.Events.{eventWith, resetEvent, powerOnEvent, outsideEvent}
+use Rattle.histories.specs.Histories.{at, afterOf, run, answers}
+use Rattle.histories.specs.Keeps.{InRange, Good}
 use Rattle.recovery.specs.Sessions.{bitsFrom, opening, Addressed, slots, write, Bytes, Page}
 use Rattle.recovery.specs.CarriedOut.{carriesOut, NoCopy}
-use Rattle.recovery.specs.SetUp.{SetUp}
+use Rattle.recovery.specs.Installed.{Installed}
 use Rattle.recovery.specs.Rewritten.{addressed-slots}
 use Rattle.recovery.specs.Recovery.{Recovered}
 use Rattle.recovery.specs.Demand3.{demand-3}
@@ -44,13 +44,13 @@ unfolding setUpChip imageSize padSize pick
 fresh = record { range = fresh-range; memory = length-replicate {A = ℕ} 2624 0xFF; pad = length-replicate {A = ℕ} 32 0xFF }
 
 -- the codes differ
-line-set-up : SetUp 0 line
+line-installed : Installed 0 line
 unfolding setUpChip
-line-set-up = record { attached = omega arith; differ = (((λ e. omega arith), tt), (tt, tt)); codes = (omega arith, (omega arith, tt)); kind = refl; good = fresh }
+line-installed = record { attached = omega arith; differ = (((λ e. omega arith), tt), (tt, tt)); codes = (omega arith, (omega arith, tt)); kind = refl; good = fresh }
 
 -- power on, an event that is refused, and outside levels of chip 1
 abbrev quiet : List Event
-quiet = powerOnEvent ∷ eventWith 5 0 0 ∷ levelsEvent 1 2 ∷ []
+quiet = powerOnEvent ∷ eventWith 5 0 0 ∷ outsideEvent 1 2 ∷ []
 
 -- a reset, CCh, 0Fh and the address 0120h
 abbrev noise : List Event
@@ -58,22 +58,22 @@ noise = resetEvent ∷ slots (bitsFrom 8 0 0xCC ++ (bitsFrom 8 0 0x0F ++ bitsFro
 
 -- the registers of chip 0 after the first
 pub quiet-registers : at 0 (run quiet line) .chip .registers ≡ registers 0x0000 0x20
-unfolding setUpChip afterOf planEvent levelsFit askedBy powerOnOf powerOnChip levelsOf levelsChip both pick hasRegisters hasSwitch takesLevels
+unfolding setUpChip afterOf planEvent outsideFits askedBy powerOnOf powerOnChip outsideOf outsideChip both pick hasRegisters hasSwitch takesOutside
 quiet-registers = refl
 
 -- they are others after the second
 pub noise-registers : at 0 (run noise line) .chip .registers ≡ registers 0x0120 0x00
-unfolding setUpChip afterOf planEvent levelsFit askedBy takesOf sendsOf resetOf resetChip romSlot commandBit commandOf functionSlot functionIn memoryFunction switchFunction switchSlot memorySlot writeAddress addressIn targetOf filled bitOf both pick memoryLook memorySight memoryBegins switchBegins byteAtHand pageAtHand partOf mapOf hasMemory hasScratchpad hasRegisters hasSwitch takesLevels knowsOf
+unfolding setUpChip afterOf planEvent outsideFits askedBy takesOf sendsOf resetOf resetChip romSlot commandBit commandOf functionSlot functionIn memoryFunction switchFunction switchSlot memorySlot writeAddress addressIn targetOf filled bitOf both pick memoryLook memorySight memoryBegins switchBegins byteAtHand pageAtHand partOf mapOf hasMemory hasScratchpad hasRegisters hasSwitch takesOutside knowsOf
 noise-registers = refl
 
 -- chip 0 carries out no copy in the first
 quiet-no-copy : NoCopy 0 quiet line
-unfolding setUpChip afterOf planEvent levelsFit askedBy powerOnOf powerOnChip levelsOf levelsChip both pick hasRegisters hasSwitch takesLevels
+unfolding setUpChip afterOf planEvent outsideFits askedBy powerOnOf powerOnChip outsideOf outsideChip both pick hasRegisters hasSwitch takesOutside
 quiet-no-copy = (tt, (tt, (tt, tt)))
 
 -- nor in the second
 noise-no-copy : NoCopy 0 noise line
-unfolding carriesOut setUpChip afterOf planEvent levelsFit askedBy takesOf sendsOf resetOf resetChip romSlot commandBit commandOf functionSlot functionIn memoryFunction switchFunction switchSlot memorySlot writeAddress addressIn targetOf filled bitOf both pick memoryLook memorySight memoryBegins switchBegins byteAtHand pageAtHand partOf mapOf hasMemory hasScratchpad hasRegisters hasSwitch takesLevels knowsOf
+unfolding carriesOut setUpChip afterOf planEvent outsideFits askedBy takesOf sendsOf resetOf resetChip romSlot commandBit commandOf functionSlot functionIn memoryFunction switchFunction switchSlot memorySlot writeAddress addressIn targetOf filled bitOf both pick memoryLook memorySight memoryBegins switchBegins byteAtHand pageAtHand partOf mapOf hasMemory hasScratchpad hasRegisters hasSwitch takesOutside knowsOf
 noise-no-copy = (tt, (refl, (refl, (refl, (refl, (refl, (refl, (refl, (refl, (refl, (refl, (refl, (refl, (refl, (refl, (refl, (refl, (refl, (refl, (refl, (refl, (refl, (refl, (refl, (refl, (refl, (refl, (refl, (refl, (refl, (refl, (refl, (refl, tt)))))))))))))))))))))))))))))))))
 
 -- a run of one byte
@@ -88,7 +88,7 @@ page = record { address = omega arith; offset = refl; full = length-replicate {A
 -- so after the write of them at 0120h chip 0 stands the same
 pub recovered : Recovered 0 5 (write 5 0x0120 (replicate 32 0xA5)) (run quiet line) (run noise line)
 unfolding setUpChip
-recovered = demand-3 0 line line-set-up [] quiet noise quiet-no-copy noise-no-copy 0x0120 (replicate 32 0xA5) page
+recovered = demand-3 0 line line-installed [] quiet noise quiet-no-copy noise-no-copy 0x0120 (replicate 32 0xA5) page
 
 -- a session that matches the code and reads the scratchpad
 abbrev reading : List Event

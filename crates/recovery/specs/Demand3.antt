@@ -7,25 +7,25 @@ use mathlib.Core.List.{List, _++_}
 use mathlib.Core.Path.{_≡_, refl, _∙_, ap, sym}
 use Rattle.chip.specs.Chip.{Whole}
 use Rattle.line.specs.declared.Event.{Event}
-use Rattle.runs.specs.Runs.{at, run}
+use Rattle.histories.specs.Histories.{at, run}
 use Rattle.recovery.specs.Sessions.{write, Page}
 use Rattle.recovery.specs.CarriedOut.{NoCopy, no-copy}
 use Rattle.recovery.specs.Stays.{run-stays, run-kinds}
 use Rattle.recovery.specs.Among.{among-at}
 use Rattle.recovery.specs.Written.{writtenTo}
-use Rattle.recovery.specs.SetUp.{SetUp, set-up-run}
+use Rattle.recovery.specs.Installed.{Installed, installed-run}
 use Rattle.recovery.specs.Rewritten.{rewritten}
 use Rattle.recovery.specs.Recovery.{Recovered, same-memory, run-append}
 
 -- THEOREM: the exact state of chip i after a reset, a match of its code and a write of a whole page, from any state of the line
-pub written : (i : ℕ) (L : List Whole) → SetUp i L → (t : ℕ) (bytes : List ℕ) → Page t bytes
+pub written : (i : ℕ) (L : List Whole) → Installed i L → (t : ℕ) (bytes : List ℕ) → Page t bytes
     → at i (run (write (at i L .chip .code) t bytes) L) ≡ writtenTo (at i L) t bytes
 written i L s t bytes g = among-at (rewritten i L s (at i L .chip .code) refl t bytes g)
 
 -- THEOREM: two histories from one set-up, equal up to some point, then any events in which chip i carries out no copy. After a
 -- reset, a match of its code and a write of 32 bytes from offset 0 its whole state is the same, and from there on every answer
 -- is, while each new session opens by matching that code
-pub demand-3 : (i : ℕ) (L : List Whole) → SetUp i L
+pub demand-3 : (i : ℕ) (L : List Whole) → Installed i L
     → (start left right : List Event) → NoCopy i left (run start L) → NoCopy i right (run start L)
     → (t : ℕ) (bytes : List ℕ) → Page t bytes
     → Recovered i (at i L .chip .code) (write (at i L .chip .code) t bytes) (run (start ++ left) L) (run (start ++ right) L)
@@ -37,7 +37,7 @@ demand-3 i L s start left right p q t bytes g =
     ∙ no-copy i left (run start L) p
     ∙ sym (no-copy i right (run start L) q)
     ∙ ap (λ (M : List Whole). at i M .memory) (sym (run-append start right L)) in
-    same-memory i (run (start ++ left) L) (run (start ++ right) L) (set-up-run i (start ++ left) L s) (set-up-run i (start ++ right) L s)
+    same-memory i (run (start ++ left) L) (run (start ++ right) L) (installed-run i (start ++ left) L s) (installed-run i (start ++ right) L s)
     (at i L .chip .code) t bytes g (k .code) (n .code)
     (k .pins (s .good) (s .kind) ∙ sym (n .pins (s .good) (s .kind)))
     memory (run-kinds (start ++ left) L ∙ sym (run-kinds (start ++ right) L))

@@ -5,7 +5,7 @@ pub mod Opening
 pub mod Among
 pub mod Filled
 pub mod Written
-pub mod SetUp
+pub mod Installed
 pub mod Rewritten
 pub mod Recovery
 pub mod Demand3

@@ -14,31 +14,31 @@ use Rattle.rom.specs.Rom.{commandOf, commandBit, matchBit}
 use Rattle.rom.specs.declared.RomResult.{RomResult}
 use Rattle.rom.specs.declared.RomStep.the-variants.{Command, Match}
 use Rattle.chip.specs.With.{withRc, withLevel}
-use Rattle.chip.specs.Chip.{Whole, whole, levelOf, romSlot, levelTakes, takesOf, levelSends, sendsOf, resetChip, resetOf, levelsChip, levelsOf}
+use Rattle.chip.specs.Chip.{Whole, whole, levelOf, romSlot, levelTakes, takesOf, levelSends, sendsOf, resetChip, resetOf, outsideChip, outsideOf}
 use Rattle.chip.specs.declared.Level.{Level}
 use Rattle.chip.specs.declared.Level.the-variants.{Waiting, Rom}
 use Rattle.recovery.specs.Sessions.{bitsFrom, opening}
 
 -- a chip after outside levels, one after the other
-abbrev pub leveled : List ℕ → Whole → Whole
-leveled [] w = w
-leveled (l ∷ ls) w = leveled ls (levelsOf l w)
+abbrev pub outsides : List ℕ → Whole → Whole
+outsides [] w = w
+outsides (l ∷ ls) w = outsides ls (outsideOf l w)
 
 -- these leave its level and its code
-leveled-level : (ls : List ℕ) (w : Whole) → leveled ls w .chip .level ≡ w .chip .level
-unfolding levelsOf levelsChip
-leveled-level [] w = refl
-leveled-level (l ∷ ls) w = leveled-level ls (levelsOf l w)
+outsides-level : (ls : List ℕ) (w : Whole) → outsides ls w .chip .level ≡ w .chip .level
+unfolding outsideOf outsideChip
+outsides-level [] w = refl
+outsides-level (l ∷ ls) w = outsides-level ls (outsideOf l w)
 
-leveled-code : (ls : List ℕ) (w : Whole) → leveled ls w .chip .code ≡ w .chip .code
-unfolding levelsOf levelsChip
-leveled-code [] w = refl
-leveled-code (l ∷ ls) w = leveled-code ls (levelsOf l w)
+outsides-code : (ls : List ℕ) (w : Whole) → outsides ls w .chip .code ≡ w .chip .code
+unfolding outsideOf outsideChip
+outsides-code [] w = refl
+outsides-code (l ∷ ls) w = outsides-code ls (outsideOf l w)
 
 -- fed these bits, and outside levels at any time, a chip sends 1 all along and comes to P
 abbrev pub Silent : (Whole → Type 0) → List Bool → Whole → Type 0
 Silent P [] w = P w
-Silent P (v ∷ vs) w = (ls : List ℕ) → (sendsOf (leveled ls w) ≡ true) × Silent P vs (takesOf v (leveled ls w))
+Silent P (v ∷ vs) w = (ls : List ℕ) → (sendsOf (outsides ls w) ≡ true) × Silent P vs (takesOf v (outsides ls w))
 
 -- a chip of another code waits
 abbrev pub Waits : ℕ → Whole → Type 0
@@ -97,8 +97,8 @@ module _ (code : ℕ) where
   waiting-silent : (bs : List Bool) (w : Whole) → w .chip .level ≡ Waiting → Silent (Waits code) bs w
   waiting-silent [] w e = λ n. e
   waiting-silent (b ∷ bs) w e = λ ls.
-      let u = leveled ls w in
-      let f : u .chip .level ≡ Waiting = leveled-level ls w ∙ e in
+      let u = outsides ls w in
+      let f : u .chip .level ≡ Waiting = outsides-level ls w ∙ e in
       (sends-at u Waiting f, rw (waiting-takes u b f) (waiting-silent bs u f))
 
   -- of a chip of the code nothing more is said
@@ -137,9 +137,9 @@ module _ (code : ℕ) where
     match-silent : (k p : ℕ) → Matching k p
     match-silent zero p w e h s q = λ n. absurd (n (same-code (w .chip .code) p (omega arith) h s))
     match-silent (suc k) p w e h s q = λ ls.
-        let u = leveled ls w in
-        let f : u .chip .level ≡ Rom (Match p) = leveled-level ls w ∙ q in
-        let c = leveled-code ls w in
+        let u = outsides ls w in
+        let f : u .chip .level ≡ Rom (Match p) = outsides-level ls w ∙ q in
+        let c = outsides-code ls w in
         (sends-at u (Rom (Match p)) f, rw (takes-at u (bitOf code p) (Rom (Match p)) f) (match-bit k p u e (rw c h) (rw c s) (match-silent k (p + 1))))
 
     -- a chip after a bit of the ROM command, and the bits of the opening from bit i of the command on
@@ -152,9 +152,9 @@ module _ (code : ℕ) where
     command-bit : (k b : ℕ) (v : Bool) (vs : List Bool) (w : Whole) → w .chip .level ≡ Rom (Command k b) → w .chip .code < 2 ^ 64
         → ((u : Whole) → u .chip .code < 2 ^ 64 → Silent (Waits code) vs (heard k b v u)) → Silent (Waits code) (v ∷ vs) w
     command-bit k b v vs w q h next = λ ls.
-        let u = leveled ls w in
-        let f : u .chip .level ≡ Rom (Command k b) = leveled-level ls w ∙ q in
-        (sends-at u (Rom (Command k b)) f, rw (takes-at u v (Rom (Command k b)) f) (next u (rw (leveled-code ls w) h)))
+        let u = outsides ls w in
+        let f : u .chip .level ≡ Rom (Command k b) = outsides-level ls w ∙ q in
+        (sends-at u (Rom (Command k b)) f, rw (takes-at u v (Rom (Command k b)) f) (next u (rw (outsides-code ls w) h)))
 
     -- THEOREM: from a reset on, every chip is silent over the opening of a code, and all of other codes wait after it
     pub opening-silent : (w : Whole) → w .chip .code < 2 ^ 64 → Silent (Waits code) (opening code) (resetOf w)

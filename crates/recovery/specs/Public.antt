@@ -8,14 +8,14 @@ use lib.ListN.{length}
 use Rattle.chip.specs.Chip.{Whole}
 use Rattle.line.specs.declared.Event.{Event}
 use Rattle.search.specs.Search.{Attached}
-use Rattle.runs.specs.Runs.{at, run, answers, codesOf}
-use Rattle.runs.specs.Keeps.{Good}
-use Rattle.runs.specs.Standing.{AllGood, Stands, lineFrom, line-good, line-length}
-use Rattle.runs.specs.Joined.{runOn, answersOn, run-joined, answers-joined, stands-on}
+use Rattle.histories.specs.Histories.{at, run, answers, codesOf}
+use Rattle.histories.specs.Keeps.{Good}
+use Rattle.histories.specs.Standing.{AllGood, Stands, lineFrom, line-good, line-length}
+use Rattle.histories.specs.Joined.{runOn, answersOn, run-joined, answers-joined, stands-on}
 use Rattle.recovery.specs.Sessions.{Addressed, write, Page}
 use Rattle.recovery.specs.CarriedOut.{NoCopy}
 use Rattle.recovery.specs.Written.{writtenTo}
-use Rattle.recovery.specs.SetUp.{Differ, Codes, SetUp}
+use Rattle.recovery.specs.Installed.{Differ, Codes, Installed}
 use Rattle.recovery.specs.Recovery.{Recovered}
 use Rattle.recovery.specs.Demand3.{written, demand-3}
 
@@ -24,7 +24,7 @@ abbrev pub chipOf : ℕ → Attached → Whole
 chipOf i l = at i (lineFrom l)
 
 -- a table that stands well, whose codes all differ; chip i is a DS28EC20
-pub record TableSetUp (i : ℕ) (l : Attached) : Type 0 where
+pub record TableInstalled (i : ℕ) (l : Attached) : Type 0 where
   pub stands : Stands l
   pub attached : i < l .count
   pub differ : Differ (codesOf (lineFrom l))
@@ -45,8 +45,8 @@ good-at zero (w ∷ L) h (g, r) = g
 good-at (suc i) (w ∷ L) h (g, r) = good-at i L (omega arith) r
 
 -- the line of such a table is set up
-line-set-up : (i : ℕ) (l : Attached) → TableSetUp i l → SetUp i (lineFrom l)
-line-set-up i l s =
+line-installed : (i : ℕ) (l : Attached) → TableInstalled i l → Installed i (lineFrom l)
+line-installed i l s =
     let h : i < length (lineFrom l) = rw (line-length l (s .stands)) (s .attached) in
     record { attached = h; differ = s .differ; codes = s .codes; kind = s .kind; good = good-at i (lineFrom l) h (line-good l (s .stands)) }
 
@@ -71,13 +71,13 @@ module _ (i code : ℕ) (again : List Event) (a b : Attached) (s : Stands a) (u 
       }
 
 -- THEOREM: the exact state of chip i after the write
-pub written-on : (i : ℕ) (l : Attached) → TableSetUp i l → (t : ℕ) (bytes : List ℕ) → Page t bytes
+pub written-on : (i : ℕ) (l : Attached) → TableInstalled i l → (t : ℕ) (bytes : List ℕ) → Page t bytes
     → chipOf i (runOn (write (chipOf i l .chip .code) t bytes) l) ≡ writtenTo (chipOf i l) t bytes
 written-on i l s t bytes g =
-    ap (at i) (run-joined (write (chipOf i l .chip .code) t bytes) l (s .stands)) ∙ written i (lineFrom l) (line-set-up i l s) t bytes g
+    ap (at i) (run-joined (write (chipOf i l .chip .code) t bytes) l (s .stands)) ∙ written i (lineFrom l) (line-installed i l s) t bytes g
 
 -- THEOREM: demand 3 of the public event
-pub demand-3-on : (i : ℕ) (l : Attached) → TableSetUp i l
+pub demand-3-on : (i : ℕ) (l : Attached) → TableInstalled i l
     → (start left right : List Event) → NoCopy i left (lineFrom (runOn start l)) → NoCopy i right (lineFrom (runOn start l))
     → (t : ℕ) (bytes : List ℕ) → Page t bytes
     → TableRecovered i (chipOf i l .chip .code) (write (chipOf i l .chip .code) t bytes) (runOn (start ++ left) l) (runOn (start ++ right) l)
@@ -85,7 +85,7 @@ demand-3-on i l s start left right p q t bytes g =
     let code = chipOf i l .chip .code in
     let again = write code t bytes in
     let k = s .stands in
-    let r = demand-3 i (lineFrom l) (line-set-up i l s) start left right (rw (run-joined start l k) at p) (rw (run-joined start l k) at q) t bytes g in
+    let r = demand-3 i (lineFrom l) (line-installed i l s) start left right (rw (run-joined start l k) at p) (rw (run-joined start l k) at q) t bytes g in
     table-recovered i code again (runOn (start ++ left) l) (runOn (start ++ right) l) (stands-on (start ++ left) l k) (stands-on (start ++ right) l k)
     (subst (λ (A : List Whole). Recovered i code again A (lineFrom (runOn (start ++ right) l))) (sym (run-joined (start ++ left) l k))
     (subst (λ (B : List Whole). Recovered i code again (run (start ++ left) (lineFrom l)) B) (sym (run-joined (start ++ right) l k)) r))

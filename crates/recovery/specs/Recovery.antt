@@ -4,12 +4,12 @@ use mathlib.Core.List.{List, [], _∷_, _++_}
 use mathlib.Core.Path.{_≡_, refl, _∙_, ap, sym}
 use Rattle.chip.specs.Chip.{Whole}
 use Rattle.line.specs.declared.Event.{Event}
-use Rattle.runs.specs.Runs.{at, afterOf, run, answers}
+use Rattle.histories.specs.Histories.{at, afterOf, run, answers}
 use Rattle.recovery.specs.Sessions.{Addressed, write, Page}
 use Rattle.recovery.specs.Stays.{kindsOf, run-kinds}
 use Rattle.recovery.specs.Among.{among-at, ownRun, ownAnswers, alone, alone-answers}
 use Rattle.recovery.specs.Written.{writtenTo}
-use Rattle.recovery.specs.SetUp.{SetUp}
+use Rattle.recovery.specs.Installed.{Installed}
 use Rattle.recovery.specs.Rewritten.{written-same, rewritten, rewritten-own, rewritten-answers}
 
 -- two lines after the events `again`: chip i is in one state, both answered alike, and as long as each session matches the code
@@ -21,7 +21,7 @@ pub record Recovered (i code : ℕ) (again : List Event) (A B : List Whole) : Ty
   pub state-on : (rest : List Event) → Addressed code [] rest → at i (run rest (run again A)) ≡ at i (run rest (run again B))
 
 -- two lines on which chip i has one code, one kind, the same latches and levels and the same memory, and all kinds are the same
-module _ (i : ℕ) (A B : List Whole) (a : SetUp i A) (b : SetUp i B) (code t : ℕ) (bytes : List ℕ) (g : Page t bytes)
+module _ (i : ℕ) (A B : List Whole) (a : Installed i A) (b : Installed i B) (code t : ℕ) (bytes : List ℕ) (g : Page t bytes)
     (p : at i A .chip .code ≡ code) (q : at i B .chip .code ≡ code) (pins : at i A .chip .switch ≡ at i B .chip .switch)
     (memory : at i A .memory ≡ at i B .memory) (kinds : kindsOf A ≡ kindsOf B) where
   -- the write

@@ -15,17 +15,17 @@ use Rattle.chip.specs.Kinds.{padSize}
 use Rattle.chip.specs.declared.Level.the-variants.{Rom, Memory}
 use Rattle.line.specs.Line.{actOf}
 use Rattle.line.specs.Refusals.{presence}
-use Rattle.line.specs.Event.{Answered, bit, askedBy, planEvent, levelsFit}
+use Rattle.line.specs.Event.{Answered, bit, askedBy, planEvent, outsideFits}
 use Rattle.line.specs.declared.Act.the-variants.{Reset}
 use Rattle.line.specs.Events.{slotEvent, resetEvent}
-use Rattle.runs.specs.Runs.{at, answerOf, afterOf, run, answers}
+use Rattle.histories.specs.Histories.{at, answerOf, afterOf, run, answers}
 use Rattle.line.specs.declared.Plan.{Plan}
 use Rattle.line.specs.declared.Plan.the-variants as plan
 use Rattle.recovery.specs.Sessions.{opening, toCome, Addressed, slots, writeBits, write, Page}
 use Rattle.recovery.specs.Stays.{kindsOf}
 use Rattle.recovery.specs.Among.{Own, Among, ownAfter, ownRun, planAmong, ownAnswer, ownAnswers, toComes, both-one, alone, alone-answers}
 use Rattle.recovery.specs.Written.{ruled, writtenTo, Goes, goes-from, goes-to, ofKind, ec20, goes-written}
-use Rattle.recovery.specs.SetUp.{SetUp, codes-at, reset-among, reset-own}
+use Rattle.recovery.specs.Installed.{Installed, codes-at, reset-among, reset-own}
 
 -- the host's own slots
 asked-slot : (v : Bool) → askedBy (slotEvent v) ≡ plan.Slot v
@@ -34,7 +34,7 @@ asked-slot true = refl
 asked-slot false = refl
 
 planned-slot : (v : Bool) (ks : List ℕ) → planAmong (slotEvent v) ks ≡ plan.Slot v
-unfolding planEvent levelsFit askedBy pick
+unfolding planEvent outsideFits askedBy pick
 planned-slot true ks = refl
 planned-slot false ks = refl
 
@@ -68,12 +68,12 @@ goes-answers (v ∷ vs) ks w u (s, g) =
 
 -- what a reset leaves
 reset-after : (L : List Whole) → afterOf resetEvent L ≡ map (actOf Reset) L
-unfolding afterOf planEvent levelsFit askedBy pick
+unfolding afterOf planEvent outsideFits askedBy pick
 reset-after L = refl
 
 -- what it answers where a chip is attached
 reset-answer : (i : ℕ) (L : List Whole) → i < length L → answerOf resetEvent L ≡ bit false
-unfolding answerOf planEvent levelsFit askedBy pick
+unfolding answerOf planEvent outsideFits askedBy pick
 reset-answer i [] h = absurd (not-suc-le-zero h)
 reset-answer i (w ∷ L) h = ap bit (presence (w ∷ L))
 
@@ -104,7 +104,7 @@ unfolding writtenTo
 written-same w u t bytes p q r m =
     λ j. whole (record { code = p j; kind = q j; rc = true; level = Memory (SendCrc 0 (crcOf poly16 0 (0x0F ∷ t % 256 ∷ t / 256 ∷ bytes))); registers = registers t 0x1F; switch = r j }) (m j) (ruled (m j) t bytes)
 
-module _ (i : ℕ) (L : List Whole) (s : SetUp i L) (code : ℕ) (e : at i L .chip .code ≡ code) (t : ℕ) (bytes : List ℕ) (g : Page t bytes) where
+module _ (i : ℕ) (L : List Whole) (s : Installed i L) (code : ℕ) (e : at i L .chip .code ≡ code) (t : ℕ) (bytes : List ℕ) (g : Page t bytes) where
   -- the bits after the reset
   abbrev sent : List Bool
   sent = opening code ++ writeBits t bytes

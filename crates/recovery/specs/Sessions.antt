@@ -32,7 +32,7 @@ toCome code [] (plan.Slot v) = []
 toCome code (b ∷ bs) (plan.Slot v) = bs
 toCome code bs plan.Reset = opening code
 toCome code bs plan.PowerOn = []
-toCome code bs (plan.Levels i l) = bs
+toCome code bs (plan.Outside i l) = bs
 toCome code bs (plan.Refused r) = bs
 
 -- a slot has the bit that is next to come
@@ -41,7 +41,7 @@ Next [] (plan.Slot v) = Unit
 Next (b ∷ bs) (plan.Slot v) = v ≡ b
 Next bs plan.Reset = Unit
 Next bs plan.PowerOn = Unit
-Next bs (plan.Levels i l) = Unit
+Next bs (plan.Outside i l) = Unit
 Next bs (plan.Refused r) = Unit
 
 -- with these bits of an opening to come, every session of a history opens by matching the code, or is cut inside its opening;

@@ -10,9 +10,9 @@ use borrow.Author.Tests.{eqb-true}
 use Rattle.base.specs.Pick.{pick-false, pick-both, pick-if}
 use Rattle.base.specs.Both.{both-holds}
 use Rattle.ds2413.specs.Switch.{phaseInRange}
-use Rattle.chip.specs.Kinds.{hasSwitch, takesLevels}
+use Rattle.chip.specs.Kinds.{hasSwitch, takesOutside}
 use Rattle.chip.specs.declared.ChipAfter.{ChipAfter}
-use Rattle.chip.specs.Chip.{Whole, romSlot, functionIn, functionSlot, memorySlot, levelTakes, takesOf, resetChip, resetOf, powerOnChip, powerOnOf, levelsOf}
+use Rattle.chip.specs.Chip.{Whole, romSlot, functionIn, functionSlot, memorySlot, levelTakes, takesOf, resetChip, resetOf, powerOnChip, powerOnOf, outsideOf}
 use Rattle.chip.specs.Range.{levelInRange}
 use Rattle.chip.specs.declared.Chip.{Chip}
 use Rattle.chip.specs.declared.Level.{Level}
@@ -21,9 +21,9 @@ use Rattle.line.specs.Line.{actOf}
 use Rattle.line.specs.declared.Act.{Act}
 use Rattle.line.specs.declared.Act.the-variants.{Take, Reset, PowerOn}
 use Rattle.line.specs.declared.Event.{Event}
-use Rattle.runs.specs.Runs.{at, run, codesOf}
-use Rattle.runs.specs.Keeps.{Good, act-good, act-named, levels-good, levels-named}
-use Rattle.runs.specs.Kept.{Each, each-at, each-map, run-kept}
+use Rattle.histories.specs.Histories.{at, run, codesOf}
+use Rattle.histories.specs.Keeps.{Good, act-good, act-named, outside-good, outside-named}
+use Rattle.histories.specs.Kept.{Each, each-at, each-map, run-kept}
 
 -- from a chip to the same chip later
 pub record Stays (w u : Whole) : Type 0 where
@@ -52,8 +52,8 @@ unfolding hasSwitch
 no-switch k e f = true≢false (sym f ∙ ap (λ (n : ℕ). eqb n 2) e)
 
 -- and event 4 does not take it
-pub not-both : (k : ℕ) → k ≡ 1 → takesLevels k ≡ true → ⊥
-unfolding takesLevels
+pub not-both : (k : ℕ) → k ≡ 1 → takesOutside k ≡ true → ⊥
+unfolding takesOutside
 not-both k e f = no-switch k e f
 
 -- a function command leaves the latches and levels of a DS28EC20
@@ -84,13 +84,13 @@ act-stays : (a : Act) (w : Whole) → Stays w (actOf a w)
 act-stays a w = record { code = act-named a w .0; kind = act-named a w .1; good = act-good a w; pins = act-pins a w }
 
 -- outside levels of a DS2413
-levels-stays : (l : ℕ) (w : Whole) → takesLevels (w .chip .kind) ≡ true → l ≤ 3 → Stays w (levelsOf l w)
-levels-stays l w e h =
-    record { code = levels-named l w .0; kind = levels-named l w .1; good = levels-good l w h; pins = λ g k. absurd (not-both (w .chip .kind) k e) }
+outside-stays : (l : ℕ) (w : Whole) → takesOutside (w .chip .kind) ≡ true → l ≤ 3 → Stays w (outsideOf l w)
+outside-stays l w e h =
+    record { code = outside-named l w .0; kind = outside-named l w .1; good = outside-good l w h; pins = λ g k. absurd (not-both (w .chip .kind) k e) }
 
 -- every chip over a history
 run-each : (es : List Event) (L : List Whole) → Each Stays L (run es L)
-run-each es L = run-kept Stays stays-same stays-onto act-stays levels-stays es L
+run-each es L = run-kept Stays stays-same stays-onto act-stays outside-stays es L
 
 -- chip i over a history
 pub run-stays : (i : ℕ) (es : List Event) (L : List Whole) → Stays (at i L) (at i (run es L))

@@ -12,7 +12,7 @@ use Rattle.chip.specs.declared.Chip.{Chip}
 use Rattle.chip.specs.Chip.{Whole}
 use Rattle.line.specs.Layout.{lineOf, lent}
 use Rattle.chip.specs.With.{noChip}
-use Rattle.line.specs.Event.{Answered, bit, refused, tableInRange, sizesFit, levelsFit, verdictOf, outcome, askedBy, planBy, planEvent, planIn, planOf, answerBy, doneOf, eventOf}
+use Rattle.line.specs.Event.{Answered, bit, refused, tableInRange, sizesFit, outsideFits, verdictOf, outcome, askedBy, planBy, planEvent, planIn, planOf, answerBy, doneOf, eventOf}
 use Rattle.line.specs.declared.Event.{Event}
 use Rattle.line.specs.declared.Verdict.{Verdict}
 use Rattle.line.specs.declared.Plan.{Plan}
@@ -34,7 +34,7 @@ module _ (n : ℕ) (cs : List Chip) (e : Event) (ms ss : List ℕ) where
   line = lineOf n cs ms ss
 
   abbrev fits : Bool
-  fits = levelsFit e (length (take n cs)) (getD (take n cs) (e .chip) noChip .kind)
+  fits = outsideFits e (length (take n cs)) (getD (take n cs) (e .chip) noChip .kind)
 
   -- what is answered where nothing is refused
   abbrev said : Answered
@@ -56,7 +56,7 @@ module _ (n : ℕ) (cs : List Chip) (e : Event) (ms ss : List ℕ) where
   done-answer (plan.Slot b) = refl
   done-answer plan.Reset = refl
   done-answer plan.PowerOn = refl
-  done-answer (plan.Levels i l) = refl
+  done-answer (plan.Outside i l) = refl
 
   answer-is : eventOf n cs e ms ss .answer ≡ judged
   unfolding eventOf planOf verdictOf planEvent
@@ -124,4 +124,4 @@ module _ (n : ℕ) (cs : List Chip) (e : Event) (ms ss : List ℕ) where
       go (plan.Slot b) h = absurd (no-bit _ r h)
       go plan.Reset h = absurd (no-bit _ r h)
       go plan.PowerOn h = absurd (no-bit _ r h)
-      go (plan.Levels i l) h = absurd (no-bit _ r h)
+      go (plan.Outside i l) h = absurd (no-bit _ r h)

@@ -50,8 +50,8 @@ matchBit code rc place v =
 
 -- steps 0 and 1 send the bit and its complement, step 2 takes one: "a different one means wait. After the 64th, RC = 1 and function level."
 unfoldable pub searchBit : ℕ → Bool → ℕ → ℕ → Bool → RomResult
-searchBit code rc place step v =
-    pick (ltb step 2) (rom (Step (Search place (step + 1))) rc)
+searchBit code rc place slot v =
+    pick (ltb slot 2) (rom (Step (Search place (slot + 1))) rc)
     (pick (same (bitOf code place) v)
     (pick (ltb place 63) (rom (Step (Search (place + 1) 0)) rc) (rom Function true))
     (rom Wait rc))
@@ -61,24 +61,24 @@ abbrev pub romTakes : ℕ → Bool → Bool → Knows → RomStep → RomResult
 romTakes code rc v k (Command count bits) = commandBit k rc count bits v
 romTakes code rc v k (Read place) = readBit rc place
 romTakes code rc v k (Match place) = matchBit code rc place v
-romTakes code rc v k (Search place step) = searchBit code rc place step v
+romTakes code rc v k (Search place slot) = searchBit code rc place slot v
 
 -- the bit, its complement, and nothing while the chip takes one
 unfoldable pub searchSends : ℕ → ℕ → ℕ → Bool
-searchSends code place step =
-    pick (eqb step 0) (bitOf code place)
-    (pick (eqb step 1) (not (bitOf code place)) true)
+searchSends code place slot =
+    pick (eqb slot 0) (bitOf code place)
+    (pick (eqb slot 1) (not (bitOf code place)) true)
 
 -- what a chip sends in a slot at each step
 abbrev pub romSends : ℕ → RomStep → Bool
 romSends code (Command count bits) = true
 romSends code (Read place) = bitOf code place
 romSends code (Match place) = true
-romSends code (Search place step) = searchSends code place step
+romSends code (Search place slot) = searchSends code place slot
 
 -- "every bit count and place inside its step"
 abbrev pub romInRange : RomStep → Bool
 romInRange (Command count bits) = ltb count 8
 romInRange (Read place) = ltb place 64
 romInRange (Match place) = ltb place 64
-romInRange (Search place step) = both (ltb place 64) (ltb step 3)
+romInRange (Search place slot) = both (ltb place 64) (ltb slot 3)

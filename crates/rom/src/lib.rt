@@ -11,7 +11,7 @@ pub enum RomStep {
     // Match ROM: the place of the bit to take
     Match { place: u8 },
     // Search ROM: the place, and at it 0 the bit, 1 its complement, 2 the bit to take
-    Search { place: u8, step: u8 },
+    Search { place: u8, slot: u8 },
 }
 
 // Where a slot leads from a step.
@@ -51,7 +51,7 @@ pub fn command(knows: Knows, rc: bool, b: u8) -> RomResult
     }
     if b == 0xF0 {
         return RomResult {
-            next: RomNext::Step(RomStep::Search { place: 0, step: 0 }),
+            next: RomNext::Step(RomStep::Search { place: 0, slot: 0 }),
             rc: false,
         };
     }
@@ -136,14 +136,14 @@ pub fn match_bit(code: u64, rc: bool, place: u8, v: bool) -> RomResult
 }
 
 // A slot of Search ROM.
-pub fn search_bit(code: u64, rc: bool, place: u8, step: u8, v: bool) -> RomResult
-    ensures { λ r. ⌜ r ≡ searchBit code rc place step v ⌝ }
+pub fn search_bit(code: u64, rc: bool, place: u8, slot: u8, v: bool) -> RomResult
+    ensures { λ r. ⌜ r ≡ searchBit code rc place slot v ⌝ }
 {
-    if step < 2 {
+    if slot < 2 {
         return RomResult {
             next: RomNext::Step(RomStep::Search {
                 place: place,
-                step: step + 1,
+                slot: slot + 1,
             }),
             rc: rc,
         };
@@ -154,7 +154,7 @@ pub fn search_bit(code: u64, rc: bool, place: u8, step: u8, v: bool) -> RomResul
             return RomResult {
                 next: RomNext::Step(RomStep::Search {
                     place: place + 1,
-                    step: 0,
+                    slot: 0,
                 }),
                 rc: rc,
             };
@@ -178,19 +178,19 @@ pub fn takes(code: u64, rc: bool, v: bool, knows: Knows, s: RomStep) -> RomResul
         RomStep::Command { count, bits } => command_bit(knows, rc, count, bits, v),
         RomStep::Read { place } => read_bit(rc, place),
         RomStep::Match { place } => match_bit(code, rc, place, v),
-        RomStep::Search { place, step } => search_bit(code, rc, place, step, v),
+        RomStep::Search { place, slot } => search_bit(code, rc, place, slot, v),
     }
 }
 
 // What Search ROM sends: the bit, its complement, and nothing while the chip takes one.
-pub fn search_sends(code: u64, place: u8, step: u8) -> bool
-    ensures { λ r. ⌜ r ≡ searchSends code place step ⌝ }
+pub fn search_sends(code: u64, place: u8, slot: u8) -> bool
+    ensures { λ r. ⌜ r ≡ searchSends code place slot ⌝ }
 {
     let own = base::bit_of(code, place);
-    if step == 0 {
+    if slot == 0 {
         return own;
     }
-    if step == 1 {
+    if slot == 1 {
         return !own;
     }
     true
@@ -204,7 +204,7 @@ pub fn sends(code: u64, s: RomStep) -> bool
         RomStep::Command { count: _, bits: _ } => true,
         RomStep::Read { place } => base::bit_of(code, place),
         RomStep::Match { place: _ } => true,
-        RomStep::Search { place, step } => search_sends(code, place, step),
+        RomStep::Search { place, slot } => search_sends(code, place, slot),
     }
 }
 
@@ -216,6 +216,6 @@ pub fn in_range(s: RomStep) -> bool
         RomStep::Command { count, bits: _ } => count < 8,
         RomStep::Read { place } => place < 64,
         RomStep::Match { place } => place < 64,
-        RomStep::Search { place, step } => base::are_both(place < 64, step < 3),
+        RomStep::Search { place, slot } => base::are_both(place < 64, slot < 3),
     }
 }

@@ -6,11 +6,11 @@ use Rattle.base.specs.Along.{along}
 use Rattle.scratchpad.specs.Scratchpad.{memoryTakes, memorySends, memoryReset, memoryInRange, handOf}
 use Rattle.scratchpad.specs.declared.Registers.{Registers}
 use Rattle.scratchpad.specs.declared.Sight.{Sight}
-use Rattle.scratchpad.specs.declared.MemoryStep.{MemoryStep}
+use Rattle.scratchpad.specs.declared.MemoryAfter.{MemoryAfter}
 use Rattle.scratchpad.specs.declared.Hand.{Hand}
 use Rattle.scratchpad.specs.declared.MemoryPhase.{MemoryPhase}
 
-pub takes-at : (r : Registers) (v : Bool) (see : Sight) (q p : MemoryPhase) (s : MemoryStep) → q ≡ p → s ≡ memoryTakes r v see p → s ≡ memoryTakes r v see q
+pub takes-at : (r : Registers) (v : Bool) (see : Sight) (q p : MemoryPhase) (s : MemoryAfter) → q ≡ p → s ≡ memoryTakes r v see p → s ≡ memoryTakes r v see q
 takes-at r v see q p s = along (λ (k : MemoryPhase). memoryTakes r v see k) q p s
 
 pub sends-at : (r : Registers) (see : Sight) (q p : MemoryPhase) (s : Bool) → q ≡ p → s ≡ memorySends r see p → s ≡ memorySends r see q

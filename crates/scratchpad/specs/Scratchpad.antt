@@ -9,7 +9,7 @@ use Rattle.crc.specs.Crc.{poly16, crcByte}
 use Rattle.scratchpad.specs.Registers.{registers, pf, withE, withPF, withAA, targetOf, ruleOfByte}
 use Rattle.scratchpad.specs.declared.Registers.{Registers}
 use Rattle.scratchpad.specs.declared.Sight.{Sight}
-use Rattle.scratchpad.specs.declared.MemoryStep.{MemoryStep}
+use Rattle.scratchpad.specs.declared.MemoryAfter.{MemoryAfter}
 use Rattle.scratchpad.specs.declared.Deed.{Deed}
 use Rattle.scratchpad.specs.declared.Deed.the-variants.{Nothing, Put, Copy}
 use Rattle.scratchpad.specs.declared.Hand.{Hand}
@@ -18,8 +18,8 @@ use Rattle.scratchpad.specs.declared.MemoryPhase.{MemoryPhase}
 use Rattle.scratchpad.specs.declared.MemoryPhase.the-variants.{Ones, WriteAddress, WriteData, SendCrc, ReadRegisters, ReadPad, CopyAddress, CopyEnd, Copied, ReadAddress, ReadMemory}
 
 -- where a slot leaves the part, and what it does to memory and scratchpad
-abbrev pub step : Registers → MemoryPhase → Deed → MemoryStep
-step r p d = record { registers = r; phase = p; deed = d }
+abbrev pub memoryAfter : Registers → MemoryPhase → Deed → MemoryAfter
+memoryAfter r p d = record { registers = r; phase = p; deed = d }
 
 -- the function command b, once its eight bits are in; "Any other, the sheet's Extended Read Memory (A5h) too: ones until reset (here)."
 unfoldable pub memoryFunction : ℕ → MemoryPhase
@@ -31,21 +31,21 @@ memoryFunction b =
     Ones)))
 
 -- where the function command b leaves the part at its eighth bit, and what it does there
-unfoldable pub memoryBegins : Registers → ℕ → MemoryStep
-memoryBegins r b = step r (memoryFunction b) Nothing
+unfoldable pub memoryBegins : Registers → ℕ → MemoryAfter
+memoryBegins r b = memoryAfter r (memoryFunction b) Nothing
 
 -- the CRC-16 of a command and the two bytes of T
 unfoldable pub crcOfAddress : ℕ → ℕ → ℕ
 crcOfAddress command t = crcByte poly16 (crcByte poly16 (crcByte poly16 0 command) (t % 256)) (t / 256)
 
 -- 0Fh: "When all 16 address bits are in, T is set, E = T mod 32, PF = AA = 0."
-unfoldable pub addressIn : ℕ → MemoryStep
-addressIn t = step (registers t (t % 32)) (WriteData (t % 32) 0 0 (crcOfAddress 0x0F t)) Nothing
+unfoldable pub addressIn : ℕ → MemoryAfter
+addressIn t = memoryAfter (registers t (t % 32)) (WriteData (t % 32) 0 0 (crcOfAddress 0x0F t)) Nothing
 
 -- 0Fh, a bit of the address: "A cut before that changes nothing."
-unfoldable pub writeAddress : Registers → ℕ → ℕ → Bool → MemoryStep
+unfoldable pub writeAddress : Registers → ℕ → ℕ → Bool → MemoryAfter
 writeAddress r count bits v =
-    pick (ltb count 15) (step r (WriteAddress (count + 1) (filled 0x8000 bits v)) Nothing)
+    pick (ltb count 15) (memoryAfter r (WriteAddress (count + 1) (filled 0x8000 bits v)) Nothing)
     (addressIn (targetOf (filled 0x8000 bits v)))
 
 -- 0Fh: "After offset 31 the chip sends the CRC-16"
@@ -54,15 +54,15 @@ afterByte offset crc = pick (ltb offset 31) (WriteData (offset + 1) 0 0 crc) (Se
 
 -- 0Fh: "Each whole byte passes the rule of a byte into the scratchpad and sets E to its offset"; the CRC-16 is
 -- "of command, address and data as it took them, before the rule of a byte"
-unfoldable pub byteIn : Registers → ℕ → ℕ → ℕ → Sight → MemoryStep
+unfoldable pub byteIn : Registers → ℕ → ℕ → ℕ → Sight → MemoryAfter
 byteIn r offset b crc see =
-    step (registers (r .t) (withE (r .es) offset)) (afterByte offset (crcByte poly16 crc b))
+    memoryAfter (registers (r .t) (withE (r .es) offset)) (afterByte offset (crcByte poly16 crc b))
     (Put offset (ruleOfByte (see .held) (see .falls) (see .memory) b))
 
 -- 0Fh, a bit of a data byte
-unfoldable pub writeData : Registers → ℕ → ℕ → ℕ → ℕ → Bool → Sight → MemoryStep
+unfoldable pub writeData : Registers → ℕ → ℕ → ℕ → ℕ → Bool → Sight → MemoryAfter
 writeData r offset count bits crc v see =
-    pick (ltb count 7) (step r (WriteData offset (count + 1) (filled 0x80 bits v) crc) Nothing)
+    pick (ltb count 7) (memoryAfter r (WriteData offset (count + 1) (filled 0x80 bits v) crc) Nothing)
     (byteIn r offset (filled 0x80 bits v) crc see)
 
 -- a bit of a CRC-16 was sent; "then ones"
@@ -103,16 +103,16 @@ carriedOut r address end see =
     both (both (eqb address (r .t)) (eqb end (r .es))) (both (not (pf (r .es))) (not (see .closed)))
 
 -- 55h, the three bytes are in: a copy from T mod 32 to E, "AA = 1; the chip sends 0, 1, 0, 1 until reset. Otherwise ones, and AA stays."
-unfoldable pub authorized : Registers → ℕ → ℕ → Sight → MemoryStep
+unfoldable pub authorized : Registers → ℕ → ℕ → Sight → MemoryAfter
 authorized r address end see =
     pick (carriedOut r address end see)
-    (step (registers (r .t) (withAA (r .es))) (Copied false) (Copy (r .t) (r .es % 32)))
-    (step r Ones Nothing)
+    (memoryAfter (registers (r .t) (withAA (r .es))) (Copied false) (Copy (r .t) (r .es % 32)))
+    (memoryAfter r Ones Nothing)
 
 -- 55h, a bit of the third byte
-unfoldable pub copyEnd : Registers → ℕ → ℕ → ℕ → Bool → Sight → MemoryStep
+unfoldable pub copyEnd : Registers → ℕ → ℕ → ℕ → Bool → Sight → MemoryAfter
 copyEnd r address count bits v see =
-    pick (ltb count 7) (step r (CopyEnd address (count + 1) (filled 0x80 bits v)) Nothing)
+    pick (ltb count 7) (memoryAfter r (CopyEnd address (count + 1) (filled 0x80 bits v)) Nothing)
     (authorized r address (filled 0x80 bits v) see)
 
 -- F0h: "bytes up to the last address, then ones"
@@ -132,18 +132,18 @@ memorySent address count see =
     (pick (ltb address (see .last)) (ReadMemory (address + 1) 0) Ones)
 
 -- what a slot of the value v does at each phase; a sending chip moves on whatever the value
-abbrev pub memoryTakes : Registers → Bool → Sight → MemoryPhase → MemoryStep
-memoryTakes r v see Ones = step r Ones Nothing
+abbrev pub memoryTakes : Registers → Bool → Sight → MemoryPhase → MemoryAfter
+memoryTakes r v see Ones = memoryAfter r Ones Nothing
 memoryTakes r v see (WriteAddress count bits) = writeAddress r count bits v
 memoryTakes r v see (WriteData offset count bits crc) = writeData r offset count bits crc v see
-memoryTakes r v see (SendCrc place crc) = step r (crcSent place crc) Nothing
-memoryTakes r v see (ReadRegisters place) = step r (registerSent r place see) Nothing
-memoryTakes r v see (ReadPad offset count crc) = step r (padSent offset count crc see) Nothing
-memoryTakes r v see (CopyAddress count bits) = step r (copyAddress count bits v) Nothing
+memoryTakes r v see (SendCrc place crc) = memoryAfter r (crcSent place crc) Nothing
+memoryTakes r v see (ReadRegisters place) = memoryAfter r (registerSent r place see) Nothing
+memoryTakes r v see (ReadPad offset count crc) = memoryAfter r (padSent offset count crc see) Nothing
+memoryTakes r v see (CopyAddress count bits) = memoryAfter r (copyAddress count bits v) Nothing
 memoryTakes r v see (CopyEnd address count bits) = copyEnd r address count bits v see
-memoryTakes r v see (Copied answer) = step r (Copied (not answer)) Nothing
-memoryTakes r v see (ReadAddress count bits) = step r (readAddress count bits v see) Nothing
-memoryTakes r v see (ReadMemory address count) = step r (memorySent address count see) Nothing
+memoryTakes r v see (Copied answer) = memoryAfter r (Copied (not answer)) Nothing
+memoryTakes r v see (ReadAddress count bits) = memoryAfter r (readAddress count bits v see) Nothing
+memoryTakes r v see (ReadMemory address count) = memoryAfter r (memorySent address count see) Nothing
 
 -- what a chip sends in a slot at each phase; a CRC-16 goes "inverted, low byte first"
 abbrev pub memorySends : Registers → Sight → MemoryPhase → Bool

@@ -1,7 +1,7 @@
 // 55h Copy.
 use crate::Deed;
+use crate::MemoryAfter;
 use crate::MemoryPhase;
-use crate::MemoryStep;
 use crate::Registers;
 use crate::Sight;
 use crate::fields;
@@ -39,7 +39,7 @@ pub fn is_carried_out(r: Registers, address: u16, end: u8, see: Sight) -> bool
 }
 
 // The three bytes are in.
-pub fn authorize(r: Registers, address: u16, end: u8, see: Sight) -> MemoryStep
+pub fn authorize(r: Registers, address: u16, end: u8, see: Sight) -> MemoryAfter
     ensures { λ s. ⌜ s ≡ authorized r address end see ⌝ }
 {
     let t = r.t;
@@ -47,7 +47,7 @@ pub fn authorize(r: Registers, address: u16, end: u8, see: Sight) -> MemoryStep
     let aa = fields::with_aa(es);
     if is_carried_out(r, address, end, see) {
         let after = Registers { t: t, es: aa };
-        return MemoryStep {
+        return MemoryAfter {
             registers: after,
             phase: MemoryPhase::Copied { answer: false },
             deed: Deed::Copy { t: t, e: es % 32 },
@@ -57,7 +57,7 @@ pub fn authorize(r: Registers, address: u16, end: u8, see: Sight) -> MemoryStep
 }
 
 // A bit of the third byte.
-pub fn copy_end(r: Registers, address: u16, count: u8, bits: u8, v: bool, see: Sight) -> MemoryStep
+pub fn copy_end(r: Registers, address: u16, count: u8, bits: u8, v: bool, see: Sight) -> MemoryAfter
     ensures { λ s. ⌜ s ≡ copyEnd r address count bits v see ⌝ }
 {
     let b = base::filled8(bits, v);

@@ -6,7 +6,7 @@ mod read;
 mod write;
 
 ghost use mathlib.Core.Path.{_≡_};
-ghost use Rattle.scratchpad.specs.Scratchpad.{step, memoryFunction, memoryBegins, memoryTakes, memorySends, memoryReset, memoryInRange, registersInRange, inPage, byteAtHand, pageAtHand, handOf};
+ghost use Rattle.scratchpad.specs.Scratchpad.{memoryAfter, memoryFunction, memoryBegins, memoryTakes, memorySends, memoryReset, memoryInRange, registersInRange, inPage, byteAtHand, pageAtHand, handOf};
 ghost use Rattle.scratchpad.specs.Registers.{powerOnRegisters, mark, ruleOfByte};
 
 // The registers: T, and E/S with E in bits 0 to 4, PF bit 5 and AA bit 7.
@@ -105,7 +105,7 @@ pub enum Deed {
 }
 
 // Where a slot leaves the part, and its deed.
-pub struct MemoryStep {
+pub struct MemoryAfter {
     pub registers: Registers,
     pub phase: MemoryPhase,
     pub deed: Deed,
@@ -161,10 +161,10 @@ pub fn function(b: u8) -> MemoryPhase
 }
 
 // Another phase, and nothing done.
-pub fn goes_on(r: Registers, p: MemoryPhase) -> MemoryStep
-    ensures { λ s. ⌜ s ≡ step r p Deed.Nothing ⌝ }
+pub fn goes_on(r: Registers, p: MemoryPhase) -> MemoryAfter
+    ensures { λ s. ⌜ s ≡ memoryAfter r p Deed.Nothing ⌝ }
 {
-    MemoryStep {
+    MemoryAfter {
         registers: r,
         phase: p,
         deed: Deed::Nothing,
@@ -172,7 +172,7 @@ pub fn goes_on(r: Registers, p: MemoryPhase) -> MemoryStep
 }
 
 // Where a function command leaves the part at its eighth bit, and its deed.
-pub fn begins(r: Registers, b: u8) -> MemoryStep
+pub fn begins(r: Registers, b: u8) -> MemoryAfter
     ensures { λ s. ⌜ s ≡ memoryBegins r b ⌝ }
 {
     let p = function(b);
@@ -180,7 +180,7 @@ pub fn begins(r: Registers, b: u8) -> MemoryStep
 }
 
 // What a slot of the value v does at a phase.
-pub fn takes(r: Registers, v: bool, see: Sight, p: MemoryPhase) -> MemoryStep
+pub fn takes(r: Registers, v: bool, see: Sight, p: MemoryPhase) -> MemoryAfter
     ensures { λ s. ⌜ s ≡ memoryTakes r v see p ⌝ }
 {
     match p {

@@ -1,7 +1,7 @@
 // 0Fh Write Scratchpad, and the CRC-16 that ends a write or a read.
 use crate::Deed;
+use crate::MemoryAfter;
 use crate::MemoryPhase;
-use crate::MemoryStep;
 use crate::Registers;
 use crate::Sight;
 use crate::fields;
@@ -18,7 +18,7 @@ pub fn crc_of_address(command: u8, t: u16) -> u16
 }
 
 // T is set, and the data begin.
-pub fn address_in(t: u16) -> MemoryStep
+pub fn address_in(t: u16) -> MemoryAfter
     ensures { λ r. ⌜ r ≡ addressIn t ⌝ }
 {
     let e = (t % 32) as u8;
@@ -36,7 +36,7 @@ pub fn address_in(t: u16) -> MemoryStep
 }
 
 // A bit of the address.
-pub fn write_address(r: Registers, count: u8, bits: u16, v: bool) -> MemoryStep
+pub fn write_address(r: Registers, count: u8, bits: u16, v: bool) -> MemoryAfter
     ensures { λ s. ⌜ s ≡ writeAddress r count bits v ⌝ }
 {
     let b = base::filled16(bits, v);
@@ -69,7 +69,7 @@ pub fn after_byte(offset: u8, crc: u16) -> MemoryPhase
 }
 
 // A whole byte: through the rule into the scratchpad.
-pub fn byte_in(r: Registers, offset: u8, b: u8, crc: u16, see: Sight) -> MemoryStep
+pub fn byte_in(r: Registers, offset: u8, b: u8, crc: u16, see: Sight) -> MemoryAfter
     ensures { λ s. ⌜ s ≡ byteIn r offset b crc see ⌝ }
 {
     let es = fields::with_e(r.es, offset);
@@ -77,7 +77,7 @@ pub fn byte_in(r: Registers, offset: u8, b: u8, crc: u16, see: Sight) -> MemoryS
     let phase = after_byte(offset, sum);
     let put = crate::rule_of_byte(see.held, see.falls, see.memory, b);
     let after = Registers { t: r.t, es: es };
-    MemoryStep {
+    MemoryAfter {
         registers: after,
         phase: phase,
         deed: Deed::Put {
@@ -96,7 +96,7 @@ pub fn write_data(
     crc: u16,
     v: bool,
     see: Sight,
-) -> MemoryStep
+) -> MemoryAfter
     ensures { λ s. ⌜ s ≡ writeData r offset count bits crc v see ⌝ }
 {
     let b = base::filled8(bits, v);

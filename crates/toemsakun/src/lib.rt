@@ -91,14 +91,14 @@ pub extern "C" fn tk_event(
     table: &mut [u8],
     event: u32,
     chip: u32,
-    levels: u32,
+    outside: u32,
     images: &mut [u8],
     pads: &mut [u8],
 ) -> i32
     ensures { λ r. ⌜ eventLeft r (now (table .exit)) (now (images .exit)) (now (pads .exit))
-        ≡ eventBytes (now (table .entry)) (eventWith event chip levels) (now (images .entry)) (now (pads .entry)) ⌝ }
+        ≡ eventBytes (now (table .entry)) (eventWith event chip outside) (now (images .entry)) (now (pads .entry)) ⌝ }
 {
-    let e = line::events::numbered(event, chip, levels);
+    let e = line::events::numbered(event, chip, outside);
     let answer = event::take_event(table, e, images, pads);
     answers::of_event(answer)
 }

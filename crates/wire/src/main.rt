@@ -14,7 +14,7 @@ use line::Table;
 enum Pending {
     Nothing,
     Chip,
-    Levels(u32),
+    Outside(u32),
 }
 
 // What a character gives: nothing yet, or an event; and what is then still to come.
@@ -64,8 +64,8 @@ fn read_char(pending: Pending, b: u8) -> Given {
     }
     match pending {
         Pending::Nothing => first(b),
-        Pending::Chip => Given::Awaited(Pending::Levels(hex_digit(b))),
-        Pending::Levels(i) => Given::Whole(line::events::outside_levels(i, hex_digit(b))),
+        Pending::Chip => Given::Awaited(Pending::Outside(hex_digit(b))),
+        Pending::Outside(i) => Given::Whole(line::events::outside(i, hex_digit(b))),
     }
 }
 
@@ -84,21 +84,21 @@ fn letter(answer: Answer) -> u8 {
 }
 
 // Where the process stands: the table, what of event 4 is still to come, and how many answers wait to be written.
-struct Standing {
+struct Progress {
     table: Table,
     pending: Pending,
     answers: usize,
 }
 
 // One character of input: at most one answer more.
-fn take(s: Standing, b: u8, out: &mut [u8], images: &mut [u8], pads: &mut [u8]) -> Standing {
+fn take(s: Progress, b: u8, out: &mut [u8], images: &mut [u8], pads: &mut [u8]) -> Progress {
     let table = s.table;
     let pending = s.pending;
     let answers = s.answers;
     let what = read_char(pending, b);
     match what {
         Given::Passed => s,
-        Given::Awaited(next) => Standing {
+        Given::Awaited(next) => Progress {
             table: table,
             pending: next,
             answers: answers,
@@ -108,7 +108,7 @@ fn take(s: Standing, b: u8, out: &mut [u8], images: &mut [u8], pads: &mut [u8]) 
             let answer = happened.answer;
             let after = happened.table;
             base::put_at(out, answers, letter(answer));
-            Standing {
+            Progress {
                 table: after,
                 pending: Pending::Nothing,
                 answers: more(answers),
@@ -124,12 +124,12 @@ fn more(n: usize) -> usize {
 
 // Every character that was read, with its answers put into out.
 fn take_all(
-    t: Standing,
+    t: Progress,
     input: &[u8],
     out: &mut [u8],
     images: &mut [u8],
     pads: &mut [u8],
-) -> Standing {
+) -> Progress {
     let mut s = t;
     let mut i: usize = 0;
     while i < input.len() {
@@ -148,23 +148,23 @@ fn write_answers(out: &[u8], n: usize) {
 }
 
 // Where the process stands after a turn, and whether the input goes on.
-struct Turn {
-    standing: Standing,
+struct Served {
+    progress: Progress,
     on: bool,
 }
 
 // Reads what has come and answers it, so that nothing is held back while the process waits for input.
 fn one_turn(
-    t: Standing,
+    t: Progress,
     input: &mut [u8],
     out: &mut [u8],
     images: &mut [u8],
     pads: &mut [u8],
-) -> Turn {
+) -> Served {
     let got = libc::read(STDIN_FILENO, input);
     if got <= 0 {
-        return Turn {
-            standing: t,
+        return Served {
+            progress: t,
             on: false,
         };
     }
@@ -173,13 +173,13 @@ fn one_turn(
     write_answers(out, s.answers);
     let table = s.table;
     let pending = s.pending;
-    let next = Standing {
+    let next = Progress {
         table: table,
         pending: pending,
         answers: 0,
     };
-    Turn {
-        standing: next,
+    Served {
+        progress: next,
         on: true,
     }
 }
@@ -194,7 +194,7 @@ fn turns_left(turns: u64, on: bool) -> u64
 
 // Answers events until the input ends. A proved loop has to end, so it counts its turns down from a number that no run uses up.
 fn serve(t: Table, input: &mut [u8], out: &mut [u8], images: &mut [u8], pads: &mut [u8]) {
-    let mut s = Standing {
+    let mut s = Progress {
         table: t,
         pending: Pending::Nothing,
         answers: 0,
@@ -202,7 +202,7 @@ fn serve(t: Table, input: &mut [u8], out: &mut [u8], images: &mut [u8], pads: &m
     let mut turns = u64::MAX;
     while 0 < turns {
         let r = one_turn(s, input, out, images, pads);
-        s = r.standing;
+        s = r.progress;
         turns = turns_left(turns, r.on);
     }
 }

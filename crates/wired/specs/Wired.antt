@@ -23,10 +23,10 @@ use Rattle.chip.specs.Chip.{Whole, whole, romSlot, memorySlot, switchSlot, leve
 use Rattle.chip.specs.declared.Level.{Level}
 use Rattle.chip.specs.declared.Level.the-variants.{Waiting, Rom, FunctionCommand, Memory, Pio}
 use Rattle.line.specs.Line.{valueOf}
-use Rattle.line.specs.Event.{askedBy, planEvent, levelsFit}
+use Rattle.line.specs.Event.{askedBy, planEvent, outsideFits}
 use Rattle.line.specs.Events.{slotEvent}
-use Rattle.runs.specs.Runs.{at, afterOf, run}
-use Rattle.runs.specs.Range.{both-true′}
+use Rattle.histories.specs.Histories.{at, afterOf, run}
+use Rattle.histories.specs.Range.{both-true′}
 
 -- every chip of a line sends 1
 abbrev pub AllSendOne : List Whole → Type 0
@@ -99,5 +99,5 @@ receiver = whole (withLevel (Rom (Command 0 0)) (setUpChip 2 1)) (replicate 2624
 
 -- "A receiving chip takes the slot's value, not the host's bit.": the host writes 1, the sender pulls it to 0, and the receiver has taken a 0
 pub receiver-takes-value : at 1 (run (slotEvent true ∷ []) (sender ∷ receiver ∷ [])) .chip .level ≡ Rom (Command 1 0)
-unfolding afterOf planEvent levelsFit askedBy sendsOf takesOf romSlot commandBit filled both pick setUpChip
+unfolding afterOf planEvent outsideFits askedBy sendsOf takesOf romSlot commandBit filled both pick setUpChip
 receiver-takes-value = refl

@@ -6,7 +6,7 @@ use Rattle.line.proofs.carrier.does_at.Tie as tie
 use Rattle.line.proofs.carrier.does_at.Reads as reads
 use Rattle.line.proofs.carrier.does_at.Lts as lts
 use Rattle.line.proofs.loops.act_at.Reads as act-at-reads
-use Rattle.line.proofs.carrier.levels_if.Reads as levels-if-reads
+use Rattle.line.proofs.carrier.outside_if.Reads as outside-if-reads
 
 -- src/carrier.rt:241:29
 enum-told : tie.Need-enum-told
@@ -41,8 +41,8 @@ enum-known-plan : tie.Need-enum-known-plan
 enum-known-plan c = search needs
 
 -- src/carrier.rt:245:43
-levels-if-requires : tie.Need-levels-if-requires
-levels-if-requires c κs = search needs
+outside-if-requires : tie.Need-outside-if-requires
+outside-if-requires c κs = search needs
 
 -- src/carrier.rt:237:1
 returns : tie.Need-returns
@@ -86,7 +86,7 @@ returns-4 c = search (cases, does-at, ← c .before .before .before .before .act
 
 -- src/carrier.rt:237:1
 returns-5 : tie.Need-returns-5
-returns-5 c = search (cases, does-at, c .levels-if .ensures)
+returns-5 c = search (cases, does-at, c .outside-if .ensures)
 
 pub does-at-spec : {M : Type 1} → statement M
 does-at-spec =
@@ -100,7 +100,7 @@ does-at-spec =
     enum-told-4
     act-at-requires-3
     enum-known-plan
-    levels-if-requires
+    outside-if-requires
     returns
     same-length
     same-length-2

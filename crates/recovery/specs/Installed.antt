@@ -9,8 +9,8 @@ use Rattle.chip.specs.Chip.{Whole, resetOf}
 use Rattle.line.specs.Line.{actOf}
 use Rattle.line.specs.declared.Act.the-variants.{Reset}
 use Rattle.line.specs.declared.Event.{Event}
-use Rattle.runs.specs.Runs.{at, run, codesOf}
-use Rattle.runs.specs.Keeps.{Good, act-named}
+use Rattle.histories.specs.Histories.{at, run, codesOf}
+use Rattle.histories.specs.Keeps.{Good, act-named}
 use Rattle.recovery.specs.Sessions.{opening}
 use Rattle.recovery.specs.Stays.{run-codes, run-length, run-stays}
 use Rattle.recovery.specs.Opening.{opening-silent}
@@ -32,7 +32,7 @@ Codes [] = Unit
 Codes (c ∷ cs) = (c < 2 ^ 64) × Codes cs
 
 -- a line whose codes all differ; chip i is a DS28EC20, in range, with a memory and a scratchpad of its sizes
-pub record SetUp (i : ℕ) (L : List Whole) : Type 0 where
+pub record Installed (i : ℕ) (L : List Whole) : Type 0 where
   pub attached : i < length L
   pub differ : Differ (codesOf L)
   pub codes : Codes (codesOf L)
@@ -40,8 +40,8 @@ pub record SetUp (i : ℕ) (L : List Whole) : Type 0 where
   pub good : Good (at i L)
 
 -- every history leaves a line so
-pub set-up-run : (i : ℕ) (es : List Event) (L : List Whole) → SetUp i L → SetUp i (run es L)
-set-up-run i es L s =
+pub installed-run : (i : ℕ) (es : List Event) (L : List Whole) → Installed i L → Installed i (run es L)
+installed-run i es L s =
     let k = run-stays i es L in
     record {
       attached = rw (run-length es L) (s .attached);
@@ -78,7 +78,7 @@ among-reset (suc i) (w ∷ L) l (n, d) (h, s) =
     there (other-reset (at i L .chip .code) (codes-at i L k s) w (λ e. without-at (w .chip .code) i L k n (sym e)) h) (among-reset i L k d s)
 
 -- after a reset, chip i stands among chips of other codes
-module _ (i : ℕ) (L : List Whole) (s : SetUp i L) where
+module _ (i : ℕ) (L : List Whole) (s : Installed i L) where
   -- on the line
   pub reset-among : Among (at i L .chip .code) (opening (at i L .chip .code)) (resetOf (at i L)) i (map (actOf Reset) L)
   reset-among = among-reset i L (s .attached) (s .differ) (s .codes)

@@ -13,16 +13,16 @@ use borrow.Author.Tests.{eqb-true, leb-true, le-leb, eq-eqb}
 use Rattle.base.specs.Pick.{pick, pick-true, pick-if}
 use Rattle.base.specs.Bits.{both}
 use Rattle.base.specs.Both.{both-holds}
-use Rattle.chip.specs.Kinds.{takesLevels}
+use Rattle.chip.specs.Kinds.{takesOutside}
 use Rattle.chip.specs.Chip.{Whole}
 use Rattle.chip.specs.Range.{inRange}
 use Rattle.chip.specs.Kinds.{imageSize, padSize}
 use Rattle.chip.specs.declared.Chip.{Chip}
-use Rattle.line.specs.Line.{valueOf, actOf, levelsAt, afterBy}
+use Rattle.line.specs.Line.{valueOf, actOf, outsideAt, afterBy}
 use Rattle.line.specs.Layout.{imagesSize, padsSize, split, chipsOf, imagesOf, padsOf, lent, lineOf, lentFrom}
 use Rattle.chip.specs.With.{noChip}
 use Rattle.line.specs.Event.{allInRange, tableInRange, sizesFit, verdictOf, askedBy, planIn, planBy, planOf, planOn, answerBy, doneOf, eventOf}
-use Rattle.line.specs.Refusals.{chips-split, images-split, pads-split, fit, in-range-few, well-judged, Comes, slot, reset, power-on, levels, refused, comes}
+use Rattle.line.specs.Refusals.{chips-split, images-split, pads-split, fit, in-range-few, well-judged, Comes, slot, reset, power-on, outside, refused, comes}
 use Rattle.line.specs.Prefix.{length-split, length-after}
 use Rattle.line.specs.declared.Event.{Event}
 use Rattle.line.specs.declared.Act.{Act}
@@ -31,9 +31,9 @@ use Rattle.line.specs.declared.Verdict.{Verdict}
 use Rattle.line.specs.declared.Plan.the-variants as plan
 use Rattle.line.specs.declared.Act.the-variants.{Take, Reset, PowerOn}
 use Rattle.search.specs.Search.{Attached, saysOf, leavesOf, leftBy}
-use Rattle.runs.specs.Runs.{at, answerOf, afterOf}
-use Rattle.runs.specs.Range.{both-true′}
-use Rattle.runs.specs.Keeps.{in-range, range-in, Good, act-good, levels-good}
+use Rattle.histories.specs.Histories.{at, answerOf, afterOf}
+use Rattle.histories.specs.Range.{both-true′}
+use Rattle.histories.specs.Keeps.{in-range, range-in, Good, act-good, outside-good}
 
 -- every chip of a line is good
 abbrev pub AllGood : List Whole → Type 0
@@ -59,10 +59,10 @@ map-good : (a : Act) (L : List Whole) → AllGood L → AllGood (map (actOf a) L
 map-good a [] g = tt
 map-good a (w ∷ L) (g, h) = (act-good a w g, map-good a L h)
 
-levels-all : (i l : ℕ) (L : List Whole) → l ≤ 3 → AllGood L → AllGood (levelsAt i l L)
-levels-all i l [] k g = tt
-levels-all zero l (w ∷ L) k (g, h) = (levels-good l w k g, h)
-levels-all (suc i) l (w ∷ L) k (g, h) = (g, levels-all i l L k h)
+outside-all : (i l : ℕ) (L : List Whole) → l ≤ 3 → AllGood L → AllGood (outsideAt i l L)
+outside-all i l [] k g = tt
+outside-all zero l (w ∷ L) k (g, h) = (outside-good l w k g, h)
+outside-all (suc i) l (w ∷ L) k (g, h) = (g, outside-all i l L k h)
 
 -- the chips of a line, and of its table
 pub at-chip : (i : ℕ) (L : List Whole) → at i L .chip ≡ getD (chipsOf L) i noChip
@@ -75,7 +75,7 @@ comes-good : {cs : List Chip} {p q : Plan} → Comes cs p q → (L : List Whole)
 comes-good (slot b) L g = map-good (Take (valueOf b L)) L g
 comes-good reset L g = map-good Reset L g
 comes-good power-on L g = map-good PowerOn L g
-comes-good (levels i l h k m) L g = levels-all i l L m g
+comes-good (outside i l h k m) L g = outside-all i l L m g
 comes-good (refused i l r) L g = g
 
 after-good : (e : Event) (L : List Whole) → AllGood L → AllGood (afterOf e L)
@@ -136,14 +136,14 @@ module _ (l : Attached) (s : Stands l) where
   done-answer (plan.Slot b) = refl
   done-answer plan.Reset = refl
   done-answer plan.PowerOn = refl
-  done-answer (plan.Levels i x) = refl
+  done-answer (plan.Outside i x) = refl
 
   done-leaves : (p : Plan) → leftBy (doneOf p (l .count) (l .lent .chips) (l .lent .images) (l .lent .pads)) ≡ withLine l (afterBy p (lineFrom l))
   done-leaves (plan.Refused r) = sym put-back
   done-leaves (plan.Slot b) = refl
   done-leaves plan.Reset = refl
   done-leaves plan.PowerOn = refl
-  done-leaves (plan.Levels i x) = refl
+  done-leaves (plan.Outside i x) = refl
 
   -- the public event answers what happens on the line of whole chips ..
   pub says-is : (e : Event) → saysOf e l ≡ answerOf e (lineFrom l)

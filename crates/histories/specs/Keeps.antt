@@ -16,13 +16,13 @@ use Rattle.scratchpad.specs.declared.Registers.{Registers}
 use Rattle.scratchpad.specs.Scratchpad.{memoryBegins}
 use Rattle.ds2413.specs.Switch.{switchBegins}
 use Rattle.memory.specs.declared.Seen.{Seen}
-use Rattle.runs.specs.Bounds.{sight-last, sight-end}
+use Rattle.histories.specs.Bounds.{sight-last, sight-end}
 use Rattle.chip.specs.Kinds.{hasMemory, hasSwitch, knowsOf}
 use Rattle.chip.specs.With.{withRc, withLevel}
 use Rattle.chip.specs.declared.ChipAfter.{ChipAfter}
 use Rattle.ds2413.specs.Switch.{switchInRange, phaseInRange, switchPowerOn}
 use Rattle.ds2413.specs.declared.Switch.{Switch}
-use Rattle.chip.specs.Chip.{Whole, chipMap, levelOf, levelSeen, romSlot, functionIn, functionSlot, memorySight, memorySlot, switchSlot, levelTakes, takesOf, levelReset, resetChip, resetOf, powerOnChip, powerOnOf, levelsChip, levelsOf}
+use Rattle.chip.specs.Chip.{Whole, chipMap, levelOf, levelSeen, romSlot, functionIn, functionSlot, memorySight, memorySlot, switchSlot, levelTakes, takesOf, levelReset, resetChip, resetOf, powerOnChip, powerOnOf, outsideChip, outsideOf}
 use Rattle.chip.specs.Range.{levelInRange, inRange}
 use Rattle.chip.specs.Kinds.{knownKind, imageSize, padSize}
 use Rattle.chip.specs.declared.Chip.{Chip}
@@ -32,7 +32,7 @@ use Rattle.line.specs.Line.{actOf}
 use Rattle.line.specs.Sizes.{act-sized}
 use Rattle.line.specs.declared.Act.{Act}
 use Rattle.line.specs.declared.Act.the-variants.{Take, Reset, PowerOn}
-use Rattle.runs.specs.Range.{both-true′, more-below, Clear, clear-of, of-clear, NextInRange, rom-leads, function-in-range, memory-in-range, reset-clear, pio-function, switch-in-range}
+use Rattle.histories.specs.Range.{both-true′, more-below, Clear, clear-of, of-clear, NextInRange, rom-leads, function-in-range, memory-in-range, reset-clear, pio-function, switch-in-range}
 
 -- a record in range, part by part
 pub record InRange (c : Chip) : Type 0 where
@@ -109,17 +109,17 @@ act-in-range PowerOn w h =
     }
   where
     powered : (s : Switch) → switchInRange s ≡ true → switchInRange (switchPowerOn s) ≡ true
-    powered s k = both-true′ _ _ refl (both-holds (leb (s .latches) 3) (leb (s .levels) 3) k .1)
+    powered s k = both-true′ _ _ refl (both-holds (leb (s .latches) 3) (leb (s .outside) 3) k .1)
 
 -- so do levels of two bits
-pub levels-in-range : (l : ℕ) (w : Whole) → l ≤ 3 → InRange (w .chip) → InRange (levelsOf l w .chip)
-unfolding levelsOf levelsChip switchInRange
-levels-in-range l w k h =
+pub outside-in-range : (l : ℕ) (w : Whole) → l ≤ 3 → InRange (w .chip) → InRange (outsideOf l w .chip)
+unfolding outsideOf outsideChip switchInRange
+outside-in-range l w k h =
     record {
       known = h .known;
       clear = h .clear;
       pins = pick-both (λ (s : Switch). switchInRange s ≡ true) _ _ _
-          (both-true′ _ _ (both-holds (leb (w .chip .switch .latches) 3) (leb (w .chip .switch .levels) 3) (h .pins) .0) (le-leb l 3 k)) (h .pins);
+          (both-true′ _ _ (both-holds (leb (w .chip .switch .latches) 3) (leb (w .chip .switch .outside) 3) (h .pins) .0) (le-leb l 3 k)) (h .pins);
       place = h .place;
     }
 
@@ -142,9 +142,9 @@ act-named (Take v) w = level-named w v (w .chip .level)
 act-named Reset w = (refl, refl)
 act-named PowerOn w = (refl, refl)
 
-pub levels-named : (l : ℕ) (w : Whole) → Named w (levelsOf l w)
-unfolding levelsOf levelsChip
-levels-named l w = (refl, refl)
+pub outside-named : (l : ℕ) (w : Whole) → Named w (outsideOf l w)
+unfolding outsideOf outsideChip
+outside-named l w = (refl, refl)
 
 -- a chip that is in range and has the memory and scratchpad that its kind asks for
 pub record Good (w : Whole) : Type 0 where
@@ -162,6 +162,6 @@ act-good a w g =
       pad = s .1 ∙ g .pad ∙ ap padSize (sym (n .1));
     }
 
-pub levels-good : (l : ℕ) (w : Whole) → l ≤ 3 → Good w → Good (levelsOf l w)
-unfolding levelsOf levelsChip
-levels-good l w k g = record { range = levels-in-range l w k (g .range); memory = g .memory; pad = g .pad }
+pub outside-good : (l : ℕ) (w : Whole) → l ≤ 3 → Good w → Good (outsideOf l w)
+unfolding outsideOf outsideChip
+outside-good l w k g = record { range = outside-in-range l w k (g .range); memory = g .memory; pad = g .pad }

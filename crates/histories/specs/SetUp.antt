@@ -24,8 +24,8 @@ use Rattle.records.specs.declared.Head.the-variants.{End, Short, Cut, Whole}
 use Rattle.card.specs.Card.{cutEntry, wholeEntry, entryOf, entryAt, Read, all, none, after, onward, readFrom, SetUp, fromRead, setUpOf}
 use Rattle.card.specs.declared.Entry.{Entry}
 use Rattle.card.specs.declared.Entry.the-variants as entry
-use Rattle.runs.specs.Range.{both-true′}
-use Rattle.runs.specs.Keeps.{range-in}
+use Rattle.histories.specs.Range.{both-true′}
+use Rattle.histories.specs.Keeps.{range-in}
 
 -- a chip as set-up leaves it
 set-up-range : (code kind : ℕ) → knownKind kind ≡ true → inRange (setUpChip code kind) ≡ true

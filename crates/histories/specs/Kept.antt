@@ -4,18 +4,18 @@ use Prim.Native.Nat.{ℕ, zero, suc, _≤_}
 use mathlib.Core.Bool.{true}
 use mathlib.Core.List.{List, [], _∷_, map}
 use mathlib.Core.Path.{_≡_, refl, _∙_, ap}
-use Rattle.chip.specs.Kinds.{takesLevels}
-use Rattle.chip.specs.Chip.{Whole, levelsOf}
-use Rattle.line.specs.Line.{valueOf, actOf, levelsAt, afterBy}
+use Rattle.chip.specs.Kinds.{takesOutside}
+use Rattle.chip.specs.Chip.{Whole, outsideOf}
+use Rattle.line.specs.Line.{valueOf, actOf, outsideAt, afterBy}
 use Rattle.line.specs.Layout.{chipsOf}
-use Rattle.line.specs.Refusals.{Comes, slot, reset, power-on, levels, refused, comes}
+use Rattle.line.specs.Refusals.{Comes, slot, reset, power-on, outside, refused, comes}
 use Rattle.chip.specs.declared.Chip.{Chip}
 use Rattle.line.specs.declared.Event.{Event}
 use Rattle.line.specs.declared.Act.{Act}
 use Rattle.line.specs.declared.Plan.{Plan}
 use Rattle.line.specs.declared.Act.the-variants.{Take, Reset, PowerOn}
-use Rattle.runs.specs.Runs.{noWhole, at, afterOf, run}
-use Rattle.runs.specs.Standing.{at-chip}
+use Rattle.histories.specs.Histories.{noWhole, at, afterOf, run}
+use Rattle.histories.specs.Standing.{at-chip}
 
 -- two lines of one length, chip by chip
 pub data Each (R : Whole → Whole → Type 0) : List Whole → List Whole → Type 0 where
@@ -34,7 +34,7 @@ each-map f k none = refl
 each-map f k (more {w = w} {u = u} r e) = λ j. k w u r j ∷ each-map f k e j
 
 module _ (R : Whole → Whole → Type 0) (same : (w : Whole) → R w w) (onto : (w u x : Whole) → R w u → R u x → R w x)
-    (act : (a : Act) (w : Whole) → R w (actOf a w)) (level : (l : ℕ) (w : Whole) → takesLevels (w .chip .kind) ≡ true → l ≤ 3 → R w (levelsOf l w)) where
+    (act : (a : Act) (w : Whole) → R w (actOf a w)) (level : (l : ℕ) (w : Whole) → takesOutside (w .chip .kind) ≡ true → l ≤ 3 → R w (outsideOf l w)) where
   -- a line and itself
   each-same : (L : List Whole) → Each R L L
   each-same [] = none
@@ -51,7 +51,7 @@ module _ (R : Whole → Whole → Type 0) (same : (w : Whole) → R w w) (onto :
   each-act a (w ∷ L) = more (act a w) (each-act a L)
 
   -- new levels of a DS2413
-  each-level : (i l : ℕ) (L : List Whole) → takesLevels (at i L .chip .kind) ≡ true → l ≤ 3 → Each R L (levelsAt i l L)
+  each-level : (i l : ℕ) (L : List Whole) → takesOutside (at i L .chip .kind) ≡ true → l ≤ 3 → Each R L (outsideAt i l L)
   each-level i l [] e h = none
   each-level zero l (w ∷ L) e h = more (level l w e h) (each-same L)
   each-level (suc i) l (w ∷ L) e h = more (same w) (each-level i l L e h)
@@ -61,7 +61,7 @@ module _ (R : Whole → Whole → Type 0) (same : (w : Whole) → R w w) (onto :
   comes-kept L (slot b) = each-act (Take (valueOf b L)) L
   comes-kept L reset = each-act Reset L
   comes-kept L power-on = each-act PowerOn L
-  comes-kept L (levels i l h k m) = each-level i l L (ap (λ (c : Chip). takesLevels (c .kind)) (at-chip i L) ∙ k) m
+  comes-kept L (outside i l h k m) = each-level i l L (ap (λ (c : Chip). takesOutside (c .kind)) (at-chip i L) ∙ k) m
   comes-kept L (refused i l r) = each-same L
 
   after-kept : (e : Event) (L : List Whole) → Each R L (afterOf e L)

@@ -20,12 +20,12 @@ use Rattle.scratchpad.specs.Registers.{withE, withPF, withAA}
 use Rattle.scratchpad.specs.Scratchpad.{memoryFunction, addressIn, writeAddress, afterByte, byteIn, writeData, crcSent, padFrom, padBegins, registerSent, padByteSent, padSent, copyAddress, authorized, copyEnd, readFrom, readAddress, memorySent, memoryTakes, memoryReset, cutOf, addressCut, memoryInRange}
 use Rattle.scratchpad.specs.declared.Registers.{Registers}
 use Rattle.scratchpad.specs.declared.Sight.{Sight}
-use Rattle.scratchpad.specs.declared.MemoryStep.{MemoryStep}
+use Rattle.scratchpad.specs.declared.MemoryAfter.{MemoryAfter}
 use Rattle.scratchpad.specs.declared.MemoryPhase.{MemoryPhase}
 use Rattle.scratchpad.specs.declared.MemoryPhase.the-variants as memory
 use Rattle.ds2413.specs.Switch.{switchFunction, statusSent, pairIn, pairBit, confirmed, shown, switchTakes, phaseInRange, switchInRange}
 use Rattle.ds2413.specs.declared.Switch.{Switch}
-use Rattle.ds2413.specs.declared.SwitchStep.{SwitchStep}
+use Rattle.ds2413.specs.declared.SwitchAfter.{SwitchAfter}
 use Rattle.ds2413.specs.declared.SwitchPhase.{SwitchPhase}
 use Rattle.ds2413.specs.declared.SwitchPhase.the-variants as pio
 
@@ -63,9 +63,9 @@ unfolding commandBit readBit matchBit searchBit
 rom-leads code rc v k (Command count bits) h = pick-if Leads _ _ _ (λ e. more-below count 7 e) (λ e. command-leads k rc _)
 rom-leads code rc v k (Read place) h = pick-if Leads _ _ _ (λ e. more-below place 63 e) (λ e. tt)
 rom-leads code rc v k (Match place) h = pick-both Leads _ _ _ (pick-if Leads _ _ _ (λ e. more-below place 63 e) (λ e. tt)) tt
-rom-leads code rc v k (Search place step) h =
-    let p = both-holds (ltb place 64) (ltb step 3) h in
-    pick-if Leads _ _ _ (λ e. both-true′ _ _ (p .0) (more-below step 2 e))
+rom-leads code rc v k (Search place slot) h =
+    let p = both-holds (ltb place 64) (ltb slot 3) h in
+    pick-if Leads _ _ _ (λ e. both-true′ _ _ (p .0) (more-below slot 2 e))
     (λ e. pick-both Leads _ _ _ (pick-if Leads _ _ _ (λ f. both-true′ _ _ (more-below place 63 f) refl) (λ f. tt)) tt)
 
 -- bit 6 of E/S stays 0
@@ -118,8 +118,8 @@ module _ (last : ℕ) where
   abbrev PhaseInRange : MemoryPhase → Type 0
   PhaseInRange p = memoryInRange last p ≡ true
 
-  abbrev StepInRange : MemoryStep → Type 0
-  StepInRange s = Clear (s .registers .es) × PhaseInRange (s .phase)
+  abbrev MemoryAfterInRange : MemoryAfter → Type 0
+  MemoryAfterInRange s = Clear (s .registers .es) × PhaseInRange (s .phase)
 
   pub function-in-range : (b : ℕ) → PhaseInRange (memoryFunction b)
   unfolding memoryFunction
@@ -132,30 +132,30 @@ module _ (last : ℕ) where
   offset-next : (offset : ℕ) → ltb offset 31 ≡ true → both (ltb (offset + 1) 32) (ltb 0 8) ≡ true
   offset-next offset e = both-true′ _ _ (more-below offset 31 e) refl
 
-  address-in : (t : ℕ) → StepInRange (addressIn t)
+  address-in : (t : ℕ) → MemoryAfterInRange (addressIn t)
   unfolding addressIn
   address-in t = (clear-t t, offset-in (t % 32) (mod-lt t (omega arith)))
 
-  byte-in : (r : Registers) (offset b crc : ℕ) (see : Sight) → Clear (r .es) → StepInRange (byteIn r offset b crc see)
+  byte-in : (r : Registers) (offset b crc : ℕ) (see : Sight) → Clear (r .es) → MemoryAfterInRange (byteIn r offset b crc see)
   unfolding byteIn afterByte
   byte-in r offset b crc see h =
       (clear-e (r .es) offset h, pick-if PhaseInRange _ _ _ (λ e. offset-next offset e) (λ e. refl))
 
-  authorized-in : (r : Registers) (address end : ℕ) (see : Sight) → Clear (r .es) → StepInRange (authorized r address end see)
+  authorized-in : (r : Registers) (address end : ℕ) (see : Sight) → Clear (r .es) → MemoryAfterInRange (authorized r address end see)
   unfolding authorized
-  authorized-in r address end see h = pick-both StepInRange _ _ _ (clear-aa (r .es) h, refl) (h, refl)
+  authorized-in r address end see h = pick-both MemoryAfterInRange _ _ _ (clear-aa (r .es) h, refl) (h, refl)
 
   module _ (see : Sight) (is-last : see .last ≡ last) (is-end : see .end < 32) where
     read-from : (address : ℕ) → PhaseInRange (readFrom address (see .last))
     unfolding readFrom
     read-from address = pick-if PhaseInRange _ _ _ (λ e. both-true′ _ _ (ap (leb address) (sym is-last) ∙ e) refl) (λ e. refl)
 
-    pub memory-in-range : (r : Registers) (v : Bool) (p : MemoryPhase) → Clear (r .es) → memoryInRange last p ≡ true → StepInRange (memoryTakes r v see p)
+    pub memory-in-range : (r : Registers) (v : Bool) (p : MemoryPhase) → Clear (r .es) → memoryInRange last p ≡ true → MemoryAfterInRange (memoryTakes r v see p)
     unfolding writeAddress writeData crcSent registerSent padBegins padFrom padSent padByteSent copyAddress copyEnd readAddress memorySent
     memory-in-range r v memory.Ones h k = (h, refl)
-    memory-in-range r v (memory.WriteAddress count bits) h k = pick-if StepInRange _ _ _ (λ e. (h, more-below count 15 e)) (λ e. address-in _)
+    memory-in-range r v (memory.WriteAddress count bits) h k = pick-if MemoryAfterInRange _ _ _ (λ e. (h, more-below count 15 e)) (λ e. address-in _)
     memory-in-range r v (memory.WriteData offset count bits crc) h k =
-        pick-if StepInRange _ _ _ (λ e. (h, both-true′ _ _ (both-holds (ltb offset 32) (ltb count 8) k .0) (more-below count 7 e))) (λ e. byte-in r offset _ crc see h)
+        pick-if MemoryAfterInRange _ _ _ (λ e. (h, both-true′ _ _ (both-holds (ltb offset 32) (ltb count 8) k .0) (more-below count 7 e))) (λ e. byte-in r offset _ crc see h)
     memory-in-range r v (memory.SendCrc place crc) h k = (h, pick-if PhaseInRange _ _ _ (λ e. more-below place 15 e) (λ e. refl))
     memory-in-range r v (memory.ReadRegisters place) h k =
         (h, pick-if PhaseInRange _ _ _ (λ e. more-below place 23 e) (λ e. pick-if PhaseInRange _ _ _ (λ f. offset-in (r .t % 32) (mod-lt (r .t) (omega arith))) (λ f. refl)))
@@ -165,7 +165,7 @@ module _ (last : ℕ) where
           (λ e. pick-if PhaseInRange _ _ _ (λ f. offset-in (offset + 1) (let g = ltb-true offset (see .end) f in omega arith)) (λ f. refl)),
     )
     memory-in-range r v (memory.CopyAddress count bits) h k = (h, pick-if PhaseInRange _ _ _ (λ e. more-below count 15 e) (λ e. refl))
-    memory-in-range r v (memory.CopyEnd address count bits) h k = pick-if StepInRange _ _ _ (λ e. (h, more-below count 7 e)) (λ e. authorized-in r address _ see h)
+    memory-in-range r v (memory.CopyEnd address count bits) h k = pick-if MemoryAfterInRange _ _ _ (λ e. (h, more-below count 7 e)) (λ e. authorized-in r address _ see h)
     memory-in-range r v (memory.Copied answer) h k = (h, refl)
     memory-in-range r v (memory.ReadAddress count bits) h k = (h, pick-if PhaseInRange _ _ _ (λ e. more-below count 15 e) (λ e. read-from _))
     memory-in-range r v (memory.ReadMemory address count) h k =
@@ -191,8 +191,8 @@ reset-clear r cut (memory.ReadAddress count bits) h = h
 reset-clear r cut (memory.ReadMemory address count) h = h
 
 -- a step of a DS2413 leaves its latches and levels two bits each and its phase in range
-abbrev SwitchStepInRange : SwitchStep → Type 0
-SwitchStepInRange s = (switchInRange (s .switch) ≡ true) × (phaseInRange (s .phase) ≡ true)
+abbrev SwitchAfterInRange : SwitchAfter → Type 0
+SwitchAfterInRange s = (switchInRange (s .switch) ≡ true) × (phaseInRange (s .phase) ≡ true)
 
 abbrev PioInRange : SwitchPhase → Type 0
 PioInRange p = phaseInRange p ≡ true
@@ -201,17 +201,17 @@ pub pio-function : (c : Switch) (b : ℕ) → PioInRange (switchFunction c b)
 unfolding switchFunction
 pio-function c b = pick-both PioInRange _ _ _ refl (pick-both PioInRange _ _ _ refl refl)
 
-pair-in : (c : Switch) (pair : ℕ) → switchInRange c ≡ true → SwitchStepInRange (pairIn c pair)
+pair-in : (c : Switch) (pair : ℕ) → switchInRange c ≡ true → SwitchAfterInRange (pairIn c pair)
 unfolding pairIn switchInRange
 pair-in c pair h =
-    pick-both SwitchStepInRange _ _ _
-    (both-true′ _ _ (le-leb (pair % 4) 3 (let m = mod-lt pair {m = 4} (omega arith) in omega arith)) (both-holds (leb (c .latches) 3) (leb (c .levels) 3) h .1), refl)
+    pick-both SwitchAfterInRange _ _ _
+    (both-true′ _ _ (le-leb (pair % 4) 3 (let m = mod-lt pair {m = 4} (omega arith) in omega arith)) (both-holds (leb (c .latches) 3) (leb (c .outside) 3) h .1), refl)
     (h, refl)
 
-pub switch-in-range : (c : Switch) (v : Bool) (p : SwitchPhase) → switchInRange c ≡ true → phaseInRange p ≡ true → SwitchStepInRange (switchTakes c v p)
+pub switch-in-range : (c : Switch) (v : Bool) (p : SwitchPhase) → switchInRange c ≡ true → phaseInRange p ≡ true → SwitchAfterInRange (switchTakes c v p)
 unfolding statusSent pairBit confirmed shown
 switch-in-range c v pio.Ones h k = (h, refl)
 switch-in-range c v (pio.Status count sample) h k = (h, pick-if PioInRange _ _ _ (λ e. more-below count 7 e) (λ e. refl))
-switch-in-range c v (pio.Take count bits) h k = pick-if SwitchStepInRange _ _ _ (λ e. (h, more-below count 15 e)) (λ e. pair-in c _ h)
+switch-in-range c v (pio.Take count bits) h k = pick-if SwitchAfterInRange _ _ _ (λ e. (h, more-below count 15 e)) (λ e. pair-in c _ h)
 switch-in-range c v (pio.Confirm count) h k = (h, pick-if PioInRange _ _ _ (λ e. more-below count 7 e) (λ e. refl))
 switch-in-range c v (pio.Show count sample) h k = (h, pick-if PioInRange _ _ _ (λ e. more-below count 7 e) (λ e. refl))
