@@ -2,14 +2,15 @@
 CRATE = 'lent'
 TYPES = {
     'Chip': 'chip', 'Spot': 'line', 'Survey': 'line', 'Bus': 'line', 'Plan': 'line', 'Turned': 'line',
-    'Act': 'line', 'Answer': 'line', 'Event': 'line', 'Verdict': 'line', 'CardAnswer': 'card', 'Ask': 'machine', 'Machine': 'machine', 'Told': 'machine',
+    'Act': 'line', 'Answer': 'line', 'Event': 'line', 'Table': 'line', 'CardAnswer': 'card', 'Carded': 'card', 'Found': 'search', 'SearchAnswer': 'search', 'Resets': 'search', 'Slots': 'search',
 }
-ENUMS = ['Act', 'Answer', 'CardAnswer', 'Verdict', 'Ask', 'Plan']
+ENUMS = ['Act', 'Answer', 'CardAnswer', 'SearchAnswer', 'Plan']
 STRUCTS = {
     'Event': [('number', 'u32'), ('chip', 'u32'), ('outside', 'u32')],
     'Bus': [('value', 'bool'), ('spot', 'Spot')],
     'Turned': [('chip', 'Chip'), ('spot', 'Spot')],
-    'Filled': [('chip', 'Chip'), ('fill', 'Fill')],
+    'Carded': [('answer', 'CardAnswer'), ('table', 'Table')],
+    'Found': [('answer', 'SearchAnswer'), ('listed', 'usize'), ('resets', 'Resets'), ('slots', 'Slots'), ('table', 'Table')],
 }
 WALK = 'Rattle.line.specs.Carrier.'
 NO_CHIP = 'Rattle.chip.specs.With.{noChip}'
@@ -19,10 +20,10 @@ AGREE = 'Rattle.lent.specs.Turning.'
 CHIP = 'Rattle.chip.specs.Chip.'
 RECORD, OWN = ('c', '&mut Chip'), [('m', '&mut [u8]'), ('s', '&mut [u8]')]
 LIST = ('list', '&mut [u64]')
-SEEK = 'Rattle.lent.specs.Seek.'
-RUN = 'Rattle.machine.specs.Run.'
-MACHINE = 'Rattle.machine.specs.Machine.'
-ATTACHED = 'Rattle.search.specs.Search.{attached, wire}'
+TABLES = 'Rattle.line.specs.Tables.'
+GATHERED = 'Rattle.lent.specs.Gathered.'
+BACK = 'Rattle.lent.specs.Back.'
+SEARCH = 'Rattle.search.specs.Search.{attached, searched, outcome as found, searchOf}'
 TABLE, BUFFERS = ('table', '&mut [Chip]'), [('ms', '&mut [u8]'), ('ss', '&mut [u8]')]
 
 FNS = [
@@ -83,45 +84,36 @@ FNS = [
     dict(name='lent::record::power_on', walk=True, params=[RECORD, ('s', '&mut [u8]')], result='unit', ensures='(c′ ≡ powerOnChip c) × (s′ ≡ powerOnPad (c .kind) s)', uses=[CHIP + '{powerOnChip, powerOnPad}']),
     dict(name='lent::record::set_outside', walk=True, params=[RECORD, ('outside', 'u8')], result='unit', ensures='c′ ≡ outsideChip outside c', uses=[CHIP + '{outsideChip}']),
 
-    # the search
-    dict(name='machine::asks', params=[('h', 'Machine')], result='Ask', ensures='r ≡ asksOf h'),
-    dict(name='machine::hears', params=[('h', 'Machine'), ('a', 'Answer'), LIST], result='Machine', ensures='stand r list′ ≡ hearsOf h (answered a) list'),
-    dict(name='machine::begin', params=[('places', 'usize')], result='Machine', ensures='r ≡ beginOf places'),
-    dict(name='line::carrier::verdict_by', params=[('l', 'Survey'), ('n', 'usize'), ('images', 'usize'), ('pads', 'usize')], result='Verdict', ensures='r ≡ verdictBy l n images pads'),
-    dict(name='lent::seeking::chip_of', params=[('ask', 'Ask')], result='u32', ensures='r ≡ chipOf ask'),
-    dict(name='lent::seeking::plan_ask', params=[('ask', 'Ask'), ('l', 'Survey'), ('n', 'usize'), ('images', 'usize'), ('pads', 'usize')], result='Plan', ensures='r ≡ planAsk ask l n images pads'),
-    dict(name='lent::seeking::turns_for', params=[('judged', 'Verdict')], result='usize', ensures='r ≡ turnsFor judged'),
-    dict(name='lent::seeking::tell_by', params=[('judged', 'Verdict'), ('h', 'Machine')], result='Told',
-         ensures='tale (searched (r .answer)) (r .listed) (r .resets .0) (r .slots .0) ≡ tellsBy judged h'),
-    dict(name='lent::seeking::ask_line', walk=True, params=[TABLE, ('ask', 'Ask')] + BUFFERS, result='Answer',
-         ensures='(answered r ≡ saysTo wire ask (attached (length table) table ms ss)) × (attached (length table′) table′ ms′ ss′ ≡ leavesTo wire ask (attached (length table) table ms ss))',
-         uses=[WALK + '{surveyed}', AGREE + '{planDone}', SEEK + '{chipOf, planAsk}', LENT, OUTCOME, RUN + '{saysTo, leavesTo}', ATTACHED, 'Rattle.lent.specs.Found.{asked}'],
-         proof='asked table ask ms ss r r2 r3 r4 (ws4 .0) (ws4 .1 .1 .0) (ws4 .1 .1 .1 .0) e e2 e3 e4'),
-    dict(name='lent::seeking::run_host', walk=True, params=[TABLE, ('turns', 'usize'), ('first', 'Machine'), LIST] + BUFFERS, result='Machine',
-         ensures='ran r list′ (attached (length table′) table′ ms′ ss′) ≡ machineRun wire turns first list (attached (length table) table ms ss)',
-         uses=[RUN + '{saysTo, leavesTo, ran, run as machineRun}', MACHINE + '{stand, asksOf, hearsOf}', ATTACHED, 'Rattle.line.specs.Event.{answered}', 'Rattle.lent.specs.Found.{run-on, run-over}'],
-         loop=dict(count='turns', state=[('host', 'Machine')],
-                   inv='machineRun wire k host list′ (attached (length table′) table′ ms′ ss′) ≡ machineRun wire turns first list (attached (length table) table ms ss)',
+    # set-up and search, by way of a table by value
+    dict(name='line::tables::blank', params=[('n', 'usize')], result='Table', ensures='r ≡ blankTable n'),
+    dict(name='line::tables::with_chip', params=[('t', 'Table'), ('c', 'Chip')], result='Table', ensures='r ≡ joined c t'),
+    dict(name='line::tables::chip_for', params=[('t', 'Table'), ('place', 'usize'), ('c', 'Chip')], result='Chip', ensures='r ≡ chipFor t place c'),
+    dict(name='card::set_up', params=[('s', '&[u8]'), ('places', 'usize'), ('t', 'Table')], result='Carded',
+         ensures='setUp (carded (r .answer)) (r .table .n) (r .table .chips) ≡ setUpOf places s (t .n) (t .chips)'),
+    dict(name='search::search_line', params=[('t', 'Table'), LIST] + BUFFERS, result='Found',
+         ensures='found (searched (r .answer)) (r .listed) list′ (r .resets .0) (r .slots .0) (attached (r .table .n) (r .table .chips) ms′ ss′) ≡ searchOf list (attached (t .n) (t .chips) ms ss)'),
+    dict(name='lent::gathered::told_of', params=[('f', 'Found')], result='Told', ensures='Tells r f'),
+    dict(name='lent::gathered::gather', walk=True, params=[('table', '&[Chip]')], result='Table', ensures='r ≡ gathered table',
+         uses=[WALK + '{over as overChips}', TABLES + '{blankTable, joined}', NO_CHIP, GATHERED + '{gathered}', BACK + '{gather-first}', AGREE + '{over-turn, over-none}'],
+         loop=dict(table='table', blank='noChip', state=[('t', 'Table')],
+                   inv='overChips joined k i table t ≡ gathered table',
+                   inv0='gather-first table r e',
+                   step='over-turn joined k i table t r e ∙ inv',
+                   done='over-none joined i table t ∙ inv')),
+    dict(name='lent::gathered::put_back', walk=True, params=[TABLE, ('t', 'Table')], result='unit', ensures='table′ ≡ puts t (length table) 0 table',
+         uses=[TABLES + '{chipFor}', NO_CHIP, GATHERED + '{puts}', BACK + '{puts-turn, puts-none}'],
+         loop=dict(table='table', blank='noChip', state=[],
+                   inv='puts t k i table′ ≡ puts t (length table) 0 table',
                    inv0='refl',
-                   step='run-on k host list′ (attached (length table′) table′ ms′ ss′) r r3 (answered r2) (ws3 .1 .1 .0) (attached (length (ws2 .0)) (ws2 .0) (ws2 .1 .1 .0) (ws2 .1 .1 .1 .0)) e (e2 .0) (e2 .1) e3 ∙ inv',
-                   done='run-over host list′ (attached (length table′) table′ ms′ ss′) ∙ inv')),
-    dict(name='lent::seeking::search_line', walk=True, params=[TABLE, LIST] + BUFFERS, result='Told',
-         ensures='found (searched (r .answer)) (r .listed) list′ (r .resets .0) (r .slots .0) (attached (length table′) table′ ms′ ss′) ≡ searchOf list (attached (length table) table ms ss)',
-         uses=[WALK + '{surveyed, verdictBy}', SEEK + '{turnsFor, tellsBy}', RUN + '{ran, run as machineRun}', MACHINE + '{beginOf, tale}', ATTACHED, 'Rattle.search.specs.Search.{searched, outcome as found, searchOf}', 'Rattle.lent.specs.Found.{searches}'],
-         proof='searches table list ms ss r r2 r3 r4 r5 (ws5 .1 .1 .1 .0) (attached (length (ws5 .0)) (ws5 .0) (ws5 .1 .1 .1 .1 .0) (ws5 .1 .1 .1 .1 .1 .0)) (searched (r6 .answer)) (r6 .listed) (r6 .resets .0) (r6 .slots .0) e e2 e3 e4 e5 e6'),
-
-    # set-up from a card
-    dict(name='lent::setting::judge', params=[('s', '&[u8]'), ('places', 'usize')], result='CardAnswer', ensures='carded r ≡ readAnswer (readFrom (capped places) s 0)'),
-    dict(name='lent::setting::fill_for', params=[('answer', 'CardAnswer')], result='Fill', ensures='r ≡ fillFor answer'),
-    dict(name='lent::setting::fill_turn', params=[('c', 'Chip'), ('f', 'Fill'), ('s', '&[u8]')], result='Filled', ensures='r ≡ fillTurn s c f'),
-    dict(name='lent::setting::fill_table', walk=True, params=[TABLE, ('answer', 'CardAnswer'), ('s', '&[u8]')], result='unit',
-         ensures='table′ ≡ fills s (length table) 0 (fillFor answer) table', uses=['Rattle.lent.specs.Fill.{fillFor, fillTurn, fills}', NO_CHIP],
-         loop=dict(table='table', blank='noChip', state=[('fill', 'Fill')],
-                   inv='fills s k i fill table′ ≡ fills s (length table) 0 (fillFor answer) table',
-                   inv0='ap (λ (f : Fill). fills s (length table) 0 f table) e',
-                   step='ap (λ (x : Filled). fills s k (suc i) (x .fill) (set table′ i (x .chip))) e ∙ inv')),
-    dict(name='lent::setting::set_up', walk=True, params=[('s', '&[u8]'), TABLE], result='CardAnswer',
+                   step='puts-turn t k i table′ r e ∙ inv',
+                   done='puts-none t i table′ ∙ inv')),
+    dict(name='lent::gathered::set_up', walk=True, params=[('s', '&[u8]'), TABLE], result='CardAnswer',
          ensures='(carded r ≡ setUpOf (length table) s 0 table .answer) × (table′ ≡ setUpOf (length table) s 0 table .table)',
-         uses=['Rattle.lent.specs.Fill.{readAnswer, fillFor, fills}', 'Rattle.lent.specs.Cards.{set-up-is}', 'Rattle.card.specs.Card.{carded, readFrom, setUpOf}', 'Rattle.line.specs.Layout.{capped}'],
-         proof='set-up-is s table (ws2 .0) r e e2'),
+         uses=[TABLES + '{blankTable}', GATHERED + '{puts}', BACK + '{sets-up}', 'Rattle.card.specs.Card.{carded, setUp, setUpOf}'],
+         proof='sets-up s table r r2 (ws3 .0) e e2 e3'),
+    dict(name='lent::gathered::table_left', params=[('f', 'Found')], result='Table', ensures='r ≡ f .table'),
+    dict(name='lent::gathered::search_line', walk=True, params=[TABLE, LIST] + BUFFERS, result='Told',
+         ensures='found (searched (r .answer)) (r .listed) list′ (r .resets .0) (r .slots .0) (attached (length table′) table′ ms′ ss′) ≡ searchOf list (attached (length table) table ms ss)',
+         uses=[GATHERED + '{gathered, puts, Tells}', BACK + '{searches}', SEARCH],
+         proof='searches table list ms ss r r2 r3 (ws2 .1 .0) (ws2 .1 .1 .0) (ws2 .1 .1 .1 .0) (ws4 .0) r5 e e2 e3 e4 e5'),
 ]

@@ -17,7 +17,7 @@ use Rattle.card.specs.declared.CardAnswer.{CardAnswer}
 use Rattle.search.specs.Prefix.{searchRest, search-rest}
 use Rattle.search.specs.Search.{searched, attached, Search, outcome as found, searchOf}
 use Rattle.search.specs.declared.SearchAnswer.{SearchAnswer}
-use Rattle.lent.specs.Cards.{read-fits}
+use Rattle.card.specs.Fits.{AtMost, read-fits}
 use Rattle.coincide.specs.Coincide.{answered-once, carded-once, searched-once}
 
 module _ (cs Z : List Chip) where
@@ -55,10 +55,8 @@ module _ (cs Z : List Chip) where
         ap (λ (o : Search). o .line .lent .pads) z,
       )
 
-  table-rest : (n : ℕ) (q : Read) → ((ds : List Chip) → q ≡ all ds → length ds ≤ length cs) → (fromRead n (cs ++ Z) q .answer ≡ fromRead 0 cs q .answer) × (fromRead n (cs ++ Z) q .table ≡ fromRead 0 cs q .table ++ Z)
-  table-rest n (all ds) f =
-      let l = f ds refl in
-      (refl, ap (λ (k : List Chip). ds ++ k) (drop-append-le (length ds) cs Z l) ∙ sym (append-assoc ds (drop (length ds) cs) Z))
+  table-rest : (n : ℕ) (q : Read) → AtMost (length cs) q → (fromRead n (cs ++ Z) q .answer ≡ fromRead 0 cs q .answer) × (fromRead n (cs ++ Z) q .table ≡ fromRead 0 cs q .table ++ Z)
+  table-rest n (all ds) l = (refl, ap (λ (k : List Chip). ds ++ k) (drop-append-le (length ds) cs Z l) ∙ sym (append-assoc ds (drop (length ds) cs) Z))
   table-rest n (none r at) f = (refl, refl)
 
   -- what `card::set_up` leaves of a table with as many places to fill, and `lent::set_up` of those places
@@ -68,7 +66,7 @@ module _ (cs Z : List Chip) where
       → (a ≡ b) × (ds ≡ ks ++ Z)
   unfolding setUpOf
   set-up-agrees s n m a b ds ks p q =
-      let t = table-rest n (readFrom (capped (length cs)) s 0) (λ (xs : List Chip) e. read-fits s (length cs) xs e) in (
+      let t = table-rest n (readFrom (capped (length cs)) s 0) (read-fits (length cs) s 0) in (
         carded-once a b (ap (λ (o : SetUp). o .answer) p ∙ t .0 ∙ sym (q .0)),
         ap (λ (o : SetUp). o .table) p ∙ t .1 ∙ ap (λ (k : List Chip). k ++ Z) (sym (q .1)),
       )

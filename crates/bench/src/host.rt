@@ -127,7 +127,7 @@ pub fn show_slot(table: Table, images: &mut [u8], pads: &mut [u8]) -> Table {
 
 // A line set up from a card: images of FFh, then event 3.
 pub fn set_up(card: &[u8], images: &mut [u8], pads: &mut [u8]) -> Table {
-    let carded = card::set_up(card, 16, terminal::no_chips());
+    let carded = card::set_up(card, 16, line::tables::blank(0));
     let answer = carded.answer;
     let table = carded.table;
     if terminal::refused_card(answer) {

@@ -21,9 +21,7 @@ use Rattle.line.specs.declared.Refusal.the-variants.{OutOfRange, WrongSize, NoS
 use Rattle.card.specs.Card.{Carded, chips, refused as refusedAt, carded, SetUp, setUp, setUpOf}
 use Rattle.card.specs.declared.CardAnswer.{CardAnswer}
 use Rattle.card.specs.declared.CardAnswer.the-variants.{Chips, TooMany, UnknownKind, WrongLength}
-use Rattle.machine.specs.Machine.{Stand, stand, hearsOf, Tale, tale, tellsOf}
-use Rattle.machine.specs.declared.Machine.{Machine}
-use Rattle.search.specs.Search.{Searched, complete, refused as refusedBy, searched, completeOr4, Attached, Search, outcome as found, searchOf}
+use Rattle.search.specs.Search.{Searched, complete, refused as refusedBy, searched, Attached, Search, outcome as found, searchOf}
 use Rattle.search.specs.declared.SearchAnswer.{SearchAnswer}
 use Rattle.line.specs.Carrier.{Turn, turned}
 use Rattle.line.specs.declared.Spot.{Spot}
@@ -172,26 +170,6 @@ tk-search table list ms ss a a′ l l′ t t′ is is′ ps ps′ r r′ s s′ 
       ap (λ (k : SearchLeft). k .slots) z,
     )
 
--- `search::answer_of`
-pub answer-of : (b : Bool) (a a′ : SearchAnswer) → searched a ≡ completeOr4 b → searched a′ ≡ completeOr4 b → a ≡ a′
-answer-of b a a′ p q = searched-once a a′ (one-answer (completeOr4 b) _ _ p q)
-
--- `machine::hears`: machine and list
-pub hears : (m : Machine) (x : Answered) (list : List ℕ) (n n′ : Machine) (k k′ : List ℕ) → stand n k ≡ hearsOf m x list → stand n′ k′ ≡ hearsOf m x list → (n ≡ n′) × (k ≡ k′)
-hears m x list n n′ k k′ p q =
-    let r = one-answer (hearsOf m x list) _ _ p q in (ap (λ (o : Stand). o .machine) r, ap (λ (o : Stand). o .list) r)
-
--- `machine::tells`: answer, number of codes, counts
-pub tells : (m : Machine) (a a′ : SearchAnswer) (n n′ r r′ s s′ : ℕ) → tale (searched a) n r s ≡ tellsOf m → tale (searched a′) n′ r′ s′ ≡ tellsOf m
-    → (a ≡ a′) × (n ≡ n′) × (r ≡ r′) × (s ≡ s′)
-tells m a a′ n n′ r r′ s s′ p q =
-    let z = one-answer (tellsOf m) _ _ p q in (
-      searched-once a a′ (ap (λ (o : Tale). o .answer) z),
-      ap (λ (o : Tale). o .listed) z,
-      ap (λ (o : Tale). o .resets) z,
-      ap (λ (o : Tale). o .slots) z,
-    )
-
 -- record, memory and scratchpad: `chip::takes` and `lent::record::takes` by `takesOf`, `line::act_at` by `actAt`, `line::carrier::does_at` by `doesAt`
 pub takes : (w : Whole) (c c′ : Chip) (m m′ s s′ : List ℕ) → whole c m s ≡ w → whole c′ m′ s′ ≡ w → (c ≡ c′) × (m ≡ m′) × (s ≡ s′)
 takes w c c′ m m′ s s′ p q =
@@ -201,7 +179,7 @@ takes w c c′ m m′ s s′ p q =
 pub carry-out : (M : Map) (m s : List ℕ) (d : Deed) (x x′ y y′ : List ℕ) → bytes x y ≡ done M m s d → bytes x′ y′ ≡ done M m s d → (x ≡ x′) × (y ≡ y′)
 carry-out M m s d x x′ y y′ p q = let r = one-answer (done M m s d) _ _ p q in (ap (λ (o : Bytes). o .memory) r, ap (λ (o : Bytes). o .pad) r)
 
--- two answers at once, as `chip::power_on` and `lent::record::power_on` (record and scratchpad) and `terminal::no_chips` (number and places) give them
+-- two answers at once, as `chip::power_on` and `lent::record::power_on` (record and scratchpad) give them
 pub two-answers : {A B : Type 0} (s : A) (t : B) (x x′ : A) (y y′ : B) → (x ≡ s) × (y ≡ t) → (x′ ≡ s) × (y′ ≡ t) → (x ≡ x′) × (y ≡ y′)
 two-answers s t x x′ y y′ p q = (one-answer s x x′ (p .0) (q .0), one-answer t y y′ (p .1) (q .1))
 

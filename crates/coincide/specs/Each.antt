@@ -33,15 +33,11 @@ use Rattle.memory.specs.declared.Look.the-variants as look
 use Rattle.memory.specs.declared.Seen.{Seen}
 use Rattle.ds28ec20.specs.Map.{closedToCopying, controlAddress, held, isControlOrLock, isData, isReadOnly, lockAddress, onlyFalls, padEnd}
 use Rattle.line.specs.Bridge.{bitAt}
-use Rattle.line.specs.Event.{numberOf, answered, outsideFits, verdictOf, planEvent, planBy}
+use Rattle.line.specs.Event.{numberOf, outsideFits, verdictOf, planEvent, planBy}
 use Rattle.line.specs.Layout.{capped, imagesAsked, imagesMost, padsAsked, padsMost}
 use Rattle.packed.specs.Packed.{packed, putRecord, putTable, sameBytes, tableFrom, unpacked}
-use Rattle.line.specs.declared.Answer.{Answer}
-use Rattle.machine.specs.Machine.{asksOf, beginOf}
-use Rattle.machine.specs.declared.Machine.{Machine}
 use Rattle.records.specs.Records.{headAt}
 use Rattle.rom.specs.Rom.{commandBit, commandOf, matchBit, readBit, romInRange, romSends, romTakes, searchBit, searchSends}
-use Rattle.search.specs.Host.{heard, wanted}
 use Rattle.scratchpad.specs.Registers.{mark, powerOnRegisters, ruleOfByte}
 use Rattle.scratchpad.specs.Map.{ruleBy}
 use Rattle.scratchpad.specs.Scratchpad.{byteAtHand, handOf, inPage, memoryBegins, memoryFunction, memoryInRange, memoryReset, memorySends, memoryTakes, pageAtHand, registersInRange, memoryAfter}
@@ -49,6 +45,7 @@ use Rattle.base.specs.Pick.{pick}
 use Rattle.line.specs.declared.Event.{Event}
 use Rattle.line.specs.Events.{eventWith, slotEvent, resetEvent, powerOnEvent, outsideEvent}
 use Rattle.line.specs.Line.{hostOf}
+use Rattle.line.specs.Tables.{blankTable, joined, chipFor}
 use Rattle.line.specs.Carrier.{firstSpot, spotAfter, firstSurvey, surveyChip, verdictBy, planSeen, happensBy, firstBus, putsAt, busWith, answerFor}
 use Rattle.line.specs.declared.Refusal.{Refusal}
 use Rattle.line.specs.declared.Verdict.{Verdict}
@@ -444,8 +441,8 @@ line-events-reset = one-answer resetEvent
 pub line-events-power-on : Settled powerOnEvent
 line-events-power-on = one-answer powerOnEvent
 
-pub line-events-outside-outside : (chip : ℕ) (outside : ℕ) → Settled (outsideEvent chip outside)
-line-events-outside-outside chip outside = one-answer (outsideEvent chip outside)
+pub line-events-outside : (chip : ℕ) (outside : ℕ) → Settled (outsideEvent chip outside)
+line-events-outside chip outside = one-answer (outsideEvent chip outside)
 
 -- the event, chip by chip
 
@@ -500,6 +497,17 @@ carrier-outside-if named c outside = one-answer (pick named (outsideChip outside
 pub carrier-answer-of : (p : Plan) (value : Bool) → Settled (answerFor p value)
 carrier-answer-of p value = one-answer (answerFor p value)
 
+-- a table by value, for chips that stand in another form
+
+pub tables-blank : (n : ℕ) → Settled (blankTable n)
+tables-blank n = one-answer (blankTable n)
+
+pub tables-with-chip : (t : Table) (c : Chip) → Settled (joined c t)
+tables-with-chip t c = one-answer (joined c t)
+
+pub tables-chip-for : (t : Table) (place : ℕ) (c : Chip) → Settled (chipFor t place c)
+tables-chip-for t place c = one-answer (chipFor t place c)
+
 -- lent; `lent::record::sends`, `reset` and `set_outside` have the contracts of the functions of their names in chip
 
 -- packed
@@ -532,22 +540,6 @@ toemsakun-images-size table = one-answer (imagesBytes table)
 
 pub toemsakun-pads-size : (table : List ℕ) → Settled (padsBytes table)
 toemsakun-pads-size table = one-answer (padsBytes table)
-
--- search
-
-pub search-bit-heard : (a : Answer) → Settled (heard (answered a))
-search-bit-heard a = one-answer (heard (answered a))
-
-pub search-wants : (last : ℕ) (path : ℕ) → Settled (wanted last path)
-search-wants last path = one-answer (wanted last path)
-
--- machine
-
-pub machine-begin : (places : ℕ) → Settled (beginOf places)
-machine-begin places = one-answer (beginOf places)
-
-pub machine-asks : (m : Machine) → Settled (asksOf m)
-machine-asks m = one-answer (asksOf m)
 
 -- terminal
 

@@ -1,5 +1,3 @@
-pub mod Cards
-pub mod Fill
-pub mod Found
-pub mod Seek
+pub mod Back
+pub mod Gathered
 pub mod Turning

@@ -1,15 +1,17 @@
 // The line over what a caller lends: a slice of chips with images and scratchpads, and one chip's record by `&mut`.
+mod gathered;
 pub mod record;
-mod seeking;
-mod setting;
 
 use chip::Chip;
+pub use gathered::search_line;
+pub use gathered::set_up;
 use line::Answer;
 use line::Event;
 use line::Plan;
 use line::Survey;
-pub use seeking::search_line;
-pub use setting::set_up;
+use search::Resets;
+use search::SearchAnswer;
+use search::Slots;
 ghost use mathlib.Core.Path.{_≡_};
 ghost use lib.ListN.{length};
 ghost use Rattle.line.specs.Event.{answered, outcome, eventOf};
@@ -17,16 +19,12 @@ ghost use Rattle.line.specs.Layout.{lent};
 ghost use Rattle.line.specs.Carrier.{firstSpot, surveyed, busOver, acts};
 ghost use Rattle.lent.specs.Turning.{planDone};
 
-// How many chips of a card are still to come, and where in the card the next one stands.
-pub struct Fill {
-    pub left: usize,
-    pub at: usize,
-}
-
-// A place after set-up came to it, and what is still to come.
-pub struct Filled {
-    pub chip: Chip,
-    pub fill: Fill,
+// What a search answers, how many codes it listed, and what it put on the line.
+pub struct Told {
+    pub answer: SearchAnswer,
+    pub listed: usize,
+    pub resets: Resets,
+    pub slots: Slots,
 }
 
 // A look over the table, before an event that names a chip.

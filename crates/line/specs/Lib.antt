@@ -5,6 +5,7 @@ pub mod Events
 pub mod Sizes
 pub mod Bridge
 pub mod Loops
+pub mod Tables
 pub mod Carrier
 pub mod Refusals
 pub mod Prefix

@@ -7,8 +7,8 @@ use mathlib.Core.Path.{_≡_, refl, _∙_, ap, sym}
 use lib.Dec.{eqb, ltb, leb}
 use lib.ListN.{length, take, drop, getD, length-append, length-drop, length-map, List·getD-append}
 use lib.Seq.{take-append-le, drop-append-le, length-take-le}
-use borrow.Author.Tests.{ltb-true, ltb-false}
-use Rattle.base.specs.Pick.{pick}
+use borrow.Author.Tests.{ltb-true, ltb-false, lt-leb}
+use Rattle.base.specs.Pick.{pick, pick-false}
 use Rattle.base.specs.Bits.{both}
 use Rattle.chip.specs.Kinds.{takesOutside}
 use Rattle.chip.specs.Chip.{Whole}
@@ -19,6 +19,8 @@ use Rattle.line.specs.Event.{allInRange, tableInRange, sizesFit, judge, 
 use Rattle.line.specs.declared.Event.{Event}
 use Rattle.line.specs.declared.Plan.{Plan}
 use Rattle.line.specs.declared.Plan.the-variants as plan
+use Rattle.line.specs.declared.Refusal.the-variants.{OutOfRange}
+use Rattle.line.specs.declared.Verdict.the-variants as verdict
 
 -- the same outcome on a table that has the places Z after its own
 abbrev pub withRest : List Chip → Outcome → Outcome
@@ -72,6 +74,11 @@ module _ (n : ℕ) (cs Z : List Chip) (l : n ≤ length cs) where
   pub event-rest : (e : Event) (ms ss : List ℕ) → eventOf n (cs ++ Z) e ms ss ≡ withRest Z (eventOf n cs e ms ss)
   unfolding eventOf
   event-rest e ms ss = ap (λ (p : Plan). doneOf p n (cs ++ Z) ms ss) (plan-rest e ms ss) ∙ done-rest (planOf n cs e ms ss) ms ss
+
+-- a table of over 16 chips is refused by 8, whatever is lent with it
+pub many-verdict : (n : ℕ) (cs : List Chip) (ms ss : List ℕ) → 16 < n → verdictOf n cs ms ss ≡ verdict.Refused OutOfRange
+unfolding verdictOf tableInRange pick
+many-verdict n cs ms ss h = ap (λ (b : Bool). judge (tableTests b (sizesFit n cs ms ss))) (pick-false (leb n 16) _ _ (lt-leb n 16 h))
 
 -- at most 16 places are used, and no more than there are
 pub capped-few : (places : ℕ) → (capped places ≤ 16) × (capped places ≤ places)

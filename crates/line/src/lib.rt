@@ -7,6 +7,7 @@ pub use judged::pads_asked;
 
 pub mod carrier;
 mod loops;
+pub mod tables;
 
 use chip::Chip;
 pub use loops::act_at;

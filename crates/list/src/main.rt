@@ -70,7 +70,7 @@ fn search_and_write(t: Table, images: &mut [u8], pads: &mut [u8]) {
 fn main() {
     let mut card = io::buffer();
     let n = io::read_full(STDIN_FILENO, &mut card);
-    let set_up = card::set_up(&card[..n], 16, terminal::no_chips());
+    let set_up = card::set_up(&card[..n], 16, line::tables::blank(0));
     let answer = set_up.answer;
     let table = set_up.table;
     if terminal::refused_card(answer) {

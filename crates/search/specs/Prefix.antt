@@ -1,17 +1,17 @@
 -- Laws: a search on a table goes by the places of its line alone, and leaves the places past them.
-use Prim.Native.Nat.{ℕ, _≤_}
+use Prim.Native.Nat.{ℕ, _≤_, _<_}
 use native.Mathlib.Omega.{arith}
 use mathlib.Core.List.{List, _++_}
 use mathlib.Core.Path.{_≡_, refl, _∙_, ap}
 use lib.ListN.{length}
 use Rattle.chip.specs.declared.Chip.{Chip}
 use Rattle.line.specs.Event.{Outcome, verdictOf}
-use Rattle.line.specs.Prefix.{verdict-rest, event-rest, event-holds}
+use Rattle.line.specs.Prefix.{verdict-rest, event-rest, event-holds, many-verdict}
 use Rattle.line.specs.declared.Event.{Event}
 use Rattle.line.specs.declared.Verdict.{Verdict}
 use Rattle.line.specs.declared.Verdict.the-variants as verdict
 use Rattle.search.specs.Host.{Host, done, ask, Played, Listed, played, more, resetsOf, slotsOf, play, searchHost}
-use Rattle.search.specs.Search.{Attached, attached, leftBy, saysOf, leavesOf, wire, Search, outcome, fromPlayed, searchBy, searchOf}
+use Rattle.search.specs.Search.{refused, Attached, attached, leftBy, saysOf, leavesOf, wire, Search, outcome, fromPlayed, searchBy, searchOf}
 
 -- the same table with the places Z after its own, and what was played or searched on it
 abbrev pub attachedRest : List Chip → Attached → Attached
@@ -27,6 +27,11 @@ searchRest Z s = outcome (s .answer) (s .number) (s .list) (s .resets) (s .slots
 pub record Has (n m : ℕ) (l : Attached) : Type 0 where
   pub chips : l .count ≡ n
   pub places : length (l .lent .chips) ≡ m
+
+-- a table of over 16 chips is refused by 8, without an event
+pub many-search : (list : List ℕ) (n : ℕ) (cs : List Chip) (ms ss : List ℕ) → 16 < n → searchOf list (attached n cs ms ss) ≡ outcome (refused 8) 0 list 0 0 (attached n cs ms ss)
+unfolding searchOf
+many-search list n cs ms ss h = ap (λ (v : Verdict). searchBy v list (attached n cs ms ss)) (many-verdict n cs ms ss h)
 
 module _ (n m : ℕ) (few : n ≤ m) where
   leaves-has : (e : Event) (l : Attached) → Has n m l → Has n m (leavesOf e l)

@@ -1,8 +1,6 @@
 // The host's search: it lists the codes of the line in branch order, by the answers to its events alone.
 mod host;
 
-pub use host::bit_heard;
-pub use host::wants;
 use line::Refusal;
 use line::Table;
 use line::Verdict;
@@ -134,7 +132,7 @@ fn seek_all(t: Table, list: &mut [u64], ms: &mut [u8], ss: &mut [u8]) -> Sought
 }
 
 // The answer of a search that was not refused before its first event.
-pub fn answer_of(complete: bool) -> SearchAnswer
+fn answer_of(complete: bool) -> SearchAnswer
     ensures { λ r. ⌜ searched r ≡ completeOr4 complete ⌝ }
 {
     if complete {

@@ -1,28 +1,15 @@
-// What the programs share: a table without chips, the room that it needs, the line that says why a card was
-// refused, and the word for the check of a code.
+// What the programs share: the room that a table needs, the line that says why a card was refused, and the word for the
+// check of a code.
 use card::CardAnswer;
 use crc::CodeCheck;
 use libc::STDOUT_FILENO;
 use line::IMAGES_MOST;
 use line::PADS_MOST;
-use line::Table;
 ghost use mathlib.Core.Path.{_≡_};
 ghost use lib.ListN.{length, replicate};
-ghost use Rattle.chip.specs.Chip.{setUpChip};
 ghost use Rattle.line.specs.Layout.{imagesMost, padsMost};
 ghost use Rattle.card.specs.Card.{carded};
 ghost use Rattle.terminal.specs.Words.{isRefused, wordOf};
-
-// A table without chips.
-pub fn no_chips() -> Table
-    ensures { λ r. ⌜ (r .n ≡ 0) × (r .chips ≡ replicate 16 (setUpChip 0 0)) ⌝ }
-{
-    let place = chip::set_up(0, 0);
-    Table {
-        n: 0,
-        chips: [place; 16],
-    }
-}
 
 // Writes `refused R at P`.
 fn say_refused(number: u64, at: usize) {

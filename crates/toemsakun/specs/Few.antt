@@ -1,4 +1,4 @@
--- Laws: a card gives at most as many chips as there are places, and a search lists at most 16 codes.
+-- Laws: a search lists at most 16 codes.
 use Prim.Native.Nat.{ℕ, zero, suc, _+_, _-_, _≤_}
 use native.Mathlib.Omega.{arith}
 use mathlib.Core.Bool.{Bool, true, false}
@@ -7,47 +7,15 @@ use mathlib.Core.Path.{sym, subst}
 use lib.Dec.{eqb}
 use lib.ListN.{length, length-append}
 use Rattle.base.specs.Pick.{pick}
-use Rattle.chip.specs.declared.Chip.{Chip}
 use Rattle.line.specs.Event.{verdictOf}
 use Rattle.line.specs.declared.Verdict.{Verdict}
 use Rattle.line.specs.declared.Verdict.the-variants as verdict
 use Rattle.line.specs.Layout.{capped}
-use Rattle.card.specs.Card.{Read, all, none, after, onward, readFrom, entryAt}
-use Rattle.card.specs.declared.Entry.{Entry}
-use Rattle.card.specs.declared.Entry.the-variants as entry
 use Rattle.line.specs.Prefix.{capped-few}
 use Rattle.line.specs.Events.{resetEvent}
 use Rattle.search.specs.Host.{Host, done, bind, Played, Listed, listed, End, write, pass, heard, play, passes, goOn, searchHost, upTo}
 use Rattle.search.specs.Counts.{play-bind}
 use Rattle.search.specs.Search.{Attached, saysOf, leavesOf, wire, searchBy, searchOf}
-
--- what was read holds at most m chips
-abbrev pub AtMost : ℕ → Read → Type 0
-AtMost m (all cs) = length cs ≤ m
-AtMost m (none r at) = Unit {0}
-
-one-more : (m : ℕ) (c : Chip) (r : Read) → AtMost m r → AtMost (suc m) (after (c ∷ []) r)
-one-more m c (all cs) h = omega arith
-one-more m c (none r at) h = tt
-
-no-more : (at : ℕ) (e : Entry) → AtMost 0 (onward at (λ next. none 1 at) e)
-no-more at entry.Done = omega arith
-no-more at (entry.Taken code kind next) = tt
-no-more at entry.TooMany = tt
-no-more at entry.UnknownKind = tt
-no-more at entry.WrongLength = tt
-
-read-on : (m at : ℕ) (go : ℕ → Read) (e : Entry) → ((next : ℕ) → AtMost m (go next)) → AtMost (suc m) (onward at go e)
-read-on m at go entry.Done f = omega arith
-read-on m at go (entry.Taken code kind next) f = one-more m _ (go next) (f next)
-read-on m at go entry.TooMany f = tt
-read-on m at go entry.UnknownKind f = tt
-read-on m at go entry.WrongLength f = tt
-
-pub read-few : (m : ℕ) (s : List ℕ) (at : ℕ) → AtMost m (readFrom m s at)
-unfolding readFrom
-read-few zero s at = no-more at (entryAt s at zero)
-read-few (suc m) s at = read-on m at (λ next. readFrom m s next) (entryAt s at (suc m)) (λ next. read-few m s next)
 
 -- what a host comes to after another, from what it comes to whatever the other came to
 result-bind : {A B : Type 0} (P : B → Type 0) (h : Host A) (g : A → Host B) (l : Attached) → ((a : A) (k : Attached) → P (play wire (g a) k .result)) → P (play wire (bind h g) l .result)

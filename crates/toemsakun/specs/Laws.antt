@@ -6,50 +6,26 @@ use mathlib.Core.List.{List, _++_, append-nil}
 use mathlib.Core.Path.{_≡_, refl, _∙_, ap, sym}
 use lib.Dec.{leb}
 use lib.IntN.{ℤ, pos}
-use lib.ListN.{length, drop, replicate, drop-of-length-le}
+use lib.ListN.{length, drop, drop-of-length-le}
 use lib.Seq.{take-at}
-use borrow.Author.Tests.{leb-true, leb-false, le-leb, lt-leb}
-use Rattle.base.specs.Pick.{pick, pick-true, pick-false}
-use Rattle.chip.specs.Chip.{setUpChip}
+use borrow.Author.Tests.{leb-true, leb-false, le-leb}
+use Rattle.base.specs.Pick.{pick, pick-true}
 use Rattle.chip.specs.declared.Chip.{Chip}
 use Rattle.line.specs.Layout.{capped, imagesAsked, padsAsked}
-use Rattle.line.specs.Event.{tableInRange, verdictOf}
-use Rattle.line.specs.declared.Refusal.the-variants.{OutOfRange}
-use Rattle.line.specs.declared.Verdict.{Verdict}
-use Rattle.line.specs.declared.Verdict.the-variants as verdict
-use Rattle.line.specs.Prefix.{images-rest, pads-rest}
+use Rattle.line.specs.Prefix.{capped-few, images-rest, pads-rest}
+use Rattle.line.specs.Carried.{images-none, pads-none}
+use Rattle.line.specs.Tables.{blankTable}
 use Rattle.line.specs.declared.Table.{Table}
 use Rattle.card.specs.Card.{Carded, chips, Read, all, none, readFrom, SetUp, setUp, fromRead, setUpOf}
-use Rattle.search.specs.Search.{Searched, refused as refusedBy, Attached, attached, Search, outcome as found, searchBy, searchOf}
-use Rattle.search.specs.Prefix.{Has, search-rest, search-has}
+use Rattle.search.specs.Search.{Searched, Attached, attached, Search, outcome as found, searchOf}
+use Rattle.search.specs.Prefix.{Has, many-search, search-rest, search-has}
 use Rattle.packed.specs.Packed.{recordSize, packedTable, unpackedTable, isTable, tableFrom, putTable}
 use Rattle.packed.specs.Laws.{table-is, table-length, from-length}
 use Rattle.packed.specs.Filling.{putting-many}
 use Rattle.toemsakun.specs.Library.{minus, imagesBytes, padsBytes, cardLeft, cardFrom, cardBytes, SearchLeft, searchLeft, searchNumber, packedSearch, searchBytes}
 use Rattle.toemsakun.specs.Answers.{cardNumber, cardOffset}
-use Rattle.line.specs.Prefix.{capped-few}
-use Rattle.toemsakun.specs.Few.{AtMost, read-few, search-few}
-
--- a table of over 16 chips is refused by 8, whatever is lent with it
-many-range : (n : ℕ) (cs : List Chip) → 16 < n → tableInRange n cs ≡ false
-unfolding tableInRange
-many-range n cs h = pick-false (leb n 16) _ _ (lt-leb n 16 h)
-
-many-verdict : (n : ℕ) (cs : List Chip) (ms ss : List ℕ) → 16 < n → verdictOf n cs ms ss ≡ verdict.Refused OutOfRange
-unfolding verdictOf
-many-verdict n cs ms ss h = pick-false (tableInRange n cs) _ _ (many-range n cs h)
-
-many-search : (list : List ℕ) (n : ℕ) (cs : List Chip) (ms ss : List ℕ) → 16 < n → searchOf list (attached n cs ms ss) ≡ found (refusedBy 8) 0 list 0 0 (attached n cs ms ss)
-unfolding searchOf
-many-search list n cs ms ss h = ap (λ (v : Verdict). searchBy v list (attached n cs ms ss)) (many-verdict n cs ms ss h)
-
-many-images : (n : ℕ) (cs : List Chip) → 16 < n → imagesAsked n cs ≡ 0
-unfolding imagesAsked
-many-images n cs h = pick-false (leb n 16) _ _ (lt-leb n 16 h)
-
-many-pads : (n : ℕ) (cs : List Chip) → 16 < n → padsAsked n cs ≡ 0
-unfolding padsAsked
-many-pads n cs h = pick-false (leb n 16) _ _ (lt-leb n 16 h)
+use Rattle.card.specs.Fits.{AtMost, read-few}
+use Rattle.toemsakun.specs.Few.{search-few}
 
 -- a table whose records are all the bytes, put back
 put-all : (n : ℕ) (cs Z : List Chip) (bs : List ℕ) → length cs ≡ n → n ≤ 16 → length bs ≡ n * recordSize → putTable n (cs ++ Z) bs ≡ packedTable cs
@@ -72,7 +48,7 @@ by-cases F G x false false cs t f g h = g
 
 -- a table that every call refuses by 8, or asks nothing for: it has 17 chips
 abbrev pub noTable : Table
-noTable = record { n = 17; chips = replicate 16 (setUpChip 0 0) }
+noTable = blankTable 17
 
 -- bytes that were unpacked, into a table that is refused where they are none
 module _ (bs : List ℕ) (u : Table) (u-is : u ≡ tableFrom bs noTable) where
@@ -100,16 +76,16 @@ module _ (bs : List ℕ) (u : Table) (u-is : u ≡ tableFrom bs noTable) where
   images-found =
       by-table imagesAsked (λ cs. imagesAsked (length cs) cs) 0
       (λ Z q l. images-rest (length (unpackedTable bs)) (unpackedTable bs) Z (omega arith))
-      many-images
-      (λ q l. many-images (length (unpackedTable bs)) (unpackedTable bs) l)
+      (λ n cs l. sym (images-none n cs l))
+      (λ q l. sym (images-none (length (unpackedTable bs)) (unpackedTable bs) l))
 
   pub pads-found : padsAsked (u .n) (u .chips) ≡ padsBytes bs
   unfolding padsBytes
   pads-found =
       by-table padsAsked (λ cs. padsAsked (length cs) cs) 0
       (λ Z q l. pads-rest (length (unpackedTable bs)) (unpackedTable bs) Z (omega arith))
-      many-pads
-      (λ q l. many-pads (length (unpackedTable bs)) (unpackedTable bs) l)
+      (λ n cs l. sym (pads-none n cs l))
+      (λ q l. sym (pads-none (length (unpackedTable bs)) (unpackedTable bs) l))
 
   -- all the bytes of a table
   all-bytes : isTable bs ≡ true → length bs ≡ length (unpackedTable bs) * recordSize

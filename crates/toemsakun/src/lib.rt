@@ -9,8 +9,6 @@ use line::Table;
 use packed::RECORD_SIZE;
 ghost use mathlib.Core.Path.{_≡_};
 ghost use Prim.Native.Nat.{_≤_};
-ghost use lib.ListN.{replicate};
-ghost use Rattle.chip.specs.Chip.{setUpChip};
 ghost use Rattle.line.specs.Layout.{imagesMost, padsMost};
 ghost use Rattle.line.specs.Events.{eventWith};
 ghost use Rattle.packed.specs.Packed.{tableFrom};
@@ -23,22 +21,11 @@ pub struct Judged {
     pub survey: Survey,
 }
 
-// A table for chips to be put in, with n for their number.
-fn blank(n: usize) -> Table
-    ensures { λ r. ⌜ (r .n ≡ n) × (r .chips ≡ replicate 16 (setUpChip 0 0)) ⌝ }
-{
-    let place = chip::set_up(0, 0);
-    Table {
-        n: n,
-        chips: [place; 16],
-    }
-}
-
 // The table that bytes are, or one that every call refuses.
 fn unpack(table: &[u8]) -> Table
     ensures { λ r. ⌜ r ≡ tableFrom (now (table .entry)) noTable ⌝ }
 {
-    let none = blank(17);
+    let none = line::tables::blank(17);
     packed::table_of(table, none)
 }
 
@@ -76,7 +63,7 @@ pub extern "C" fn tk_pads_size(table: &[u8]) -> usize
 pub extern "C" fn tk_card(card: &[u8], table: &mut [u8], offset: &mut usize) -> i32
     ensures { λ r. ⌜ cardLeft r (now (table .exit)) (now (offset .exit)) ≡ cardBytes (now (card .entry)) (now (table .entry)) ⌝ }
 {
-    let none = blank(0);
+    let none = line::tables::blank(0);
     let up = card::set_up(card, table.len() / RECORD_SIZE, none);
     let answer = up.answer;
     let t = up.table;

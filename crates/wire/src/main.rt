@@ -218,7 +218,7 @@ fn start(t: Table, images: &mut [u8], pads: &mut [u8]) {
 
 // Sets the line up from the bytes of a card, or says why it is refused.
 fn run(card: &[u8]) {
-    let set_up = card::set_up(card, 16, terminal::no_chips());
+    let set_up = card::set_up(card, 16, line::tables::blank(0));
     let answer = set_up.answer;
     let table = set_up.table;
     if terminal::refused_card(answer) {

@@ -13,7 +13,7 @@ use Rattle.line.proofs.images_asked.Reads as images-asked-reads
 use Rattle.line.proofs.pads_asked.Reads as pads-asked-reads
 use Rattle.list.proofs.search_and_write.Reads as search-and-write-reads
 use Rattle.terminal.proofs.image_room.Reads as image-room-reads
-use Rattle.terminal.proofs.no_chips.Reads as no-chips-reads
+use Rattle.line.proofs.tables.blank.Reads as blank-reads
 use Rattle.terminal.proofs.pad_room.Reads as pad-room-reads
 use Rattle.terminal.proofs.refused_card.Reads as refused-card-reads
 
@@ -38,8 +38,8 @@ slice-aggregate-set-up : tie.Need-slice-aggregate-set-up
 slice-aggregate-set-up c = search needs
 
 -- src/main.rt:90:47
-no-chips-requires : tie.Need-no-chips-requires
-no-chips-requires c κs = search needs
+blank-requires : tie.Need-blank-requires
+blank-requires c κs = search needs
 
 -- src/main.rt:90:9
 set-up-requires : tie.Need-set-up-requires
@@ -102,7 +102,7 @@ main-spec =
     read-full-requires
     array-share-prefix-card
     slice-aggregate-set-up
-    no-chips-requires
+    blank-requires
     set-up-requires
     refused-card-requires
     returns

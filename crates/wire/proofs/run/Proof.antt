@@ -10,14 +10,14 @@ use Rattle.card.proofs.set_up.Reads as set-up-reads
 use Rattle.line.proofs.images_asked.Reads as images-asked-reads
 use Rattle.line.proofs.pads_asked.Reads as pads-asked-reads
 use Rattle.terminal.proofs.image_room.Reads as image-room-reads
-use Rattle.terminal.proofs.no_chips.Reads as no-chips-reads
+use Rattle.line.proofs.tables.blank.Reads as blank-reads
 use Rattle.terminal.proofs.pad_room.Reads as pad-room-reads
 use Rattle.terminal.proofs.refused_card.Reads as refused-card-reads
 use Rattle.wire.proofs.start.Reads as start-reads
 
 -- src/main.rt:230:41
-no-chips-requires : tie.Need-no-chips-requires
-no-chips-requires c κs = search needs
+blank-requires : tie.Need-blank-requires
+blank-requires c κs = search needs
 
 -- src/main.rt:230:9
 set-up-requires : tie.Need-set-up-requires
@@ -75,7 +75,7 @@ pub run-spec : {M : Type 1} → statement M
 run-spec =
     tie.close
     (tie.spec
-    no-chips-requires
+    blank-requires
     set-up-requires
     refused-card-requires
     returns
