@@ -1,13 +1,14 @@
 -- Document 01, "Card and list program" and "Refusal numbers": reading a card, and set-up from it.
-use Prim.Native.Nat.{ℕ, zero, suc, _+_, _*_}
+use Prim.Native.Nat.{ℕ, zero, suc}
 use mathlib.Core.List.{List, [], _∷_, _++_}
 use lib.Dec.{eqb, ltb}
-use lib.ListN.{length, getD, drop}
+use lib.ListN.{length, drop}
 use Rattle.base.specs.Pick.{pick}
 use Rattle.chip.specs.Chip.{setUpChip}
 use Rattle.chip.specs.Kinds.{knownKind}
 use Rattle.chip.specs.declared.Chip.{Chip}
 use Rattle.line.specs.Layout.{capped}
+use Rattle.records.specs.Numbers.{numberAt}
 use Rattle.records.specs.Records.{headAt}
 use Rattle.records.specs.declared.Head.{Head}
 use Rattle.records.specs.declared.Head.the-variants.{End, Short, Cut, Whole}
@@ -27,37 +28,30 @@ carded (TooMany at) = refused 1 at
 carded (UnknownKind at) = refused 2 at
 carded (WrongLength at) = refused 3 at
 
--- "eight code bytes, family first", of the record at an offset: the 64 bits, least significant first
-unfoldable pub codeAt : List ℕ → ℕ → ℕ
-codeAt s at =
-    getD s (at + 4) 0 + 0x100 * getD s (at + 5) 0 + 0x10000 * getD s (at + 6) 0 + 0x1000000 * getD s (at + 7) 0
-    + 0x100000000 * getD s (at + 8) 0 + 0x10000000000 * getD s (at + 9) 0 + 0x1000000000000 * getD s (at + 10) 0
-    + 0x100000000000000 * getD s (at + 11) 0
-
 -- a record whose length runs past the end: "kind gives 2; wrong length or cut body gives 3"
 unfoldable pub cutEntry : ℕ → Entry
 cutEntry kind = pick (knownKind kind) entry.WrongLength entry.UnknownKind
 
--- a whole record: "kind gives 2; wrong length .. gives 3; one too many gives 1."
+-- a whole record: "kind gives 2; wrong length .. gives 3; one too many gives 1."; its body is "eight code bytes, family first"
 unfoldable pub wholeEntry : List ℕ → ℕ → ℕ → ℕ → ℕ → ℕ → Entry
-wholeEntry s at room size kind next =
+wholeEntry s room size kind body next =
     pick (knownKind kind)
     (pick (eqb size 10)
-    (pick (ltb 0 room) (entry.Taken (codeAt s at) kind next)
+    (pick (ltb 0 room) (entry.Taken (numberAt s body 8) kind next)
     entry.TooMany)
     entry.WrongLength)
     entry.UnknownKind
 
 -- "For a record at its first byte: fewer than 4 bytes left gives 3"
-abbrev pub entryOf : List ℕ → ℕ → ℕ → Head → Entry
-entryOf s at room End = entry.Done
-entryOf s at room Short = entry.WrongLength
-entryOf s at room (Cut size kind) = cutEntry kind
-entryOf s at room (Whole size kind next) = wholeEntry s at room size kind next
+abbrev pub entryOf : List ℕ → ℕ → Head → Entry
+entryOf s room End = entry.Done
+entryOf s room Short = entry.WrongLength
+entryOf s room (Cut size kind) = cutEntry kind
+entryOf s room (Whole size kind body next) = wholeEntry s room size kind body next
 
 -- the record at an offset, where room more chips may come
 unfoldable pub entryAt : List ℕ → ℕ → ℕ → Entry
-entryAt s at room = entryOf s at room (headAt s at)
+entryAt s at room = entryOf s room (headAt s at)
 
 -- what a card holds from an offset on: chips, or the first refusal
 pub data Read : Type 0 where

@@ -20,8 +20,8 @@ use Rattle.card.specs.Card.{Carded, chips, refused, cutEntry, wholeEntry
 use Rattle.card.specs.declared.Entry.{Entry}
 use Rattle.card.specs.declared.Entry.the-variants as entry
 
-pub entry-at : (s : List ℕ) (at room : ℕ) (q p : Head) (r : Entry) → q ≡ p → r ≡ entryOf s at room p → r ≡ entryOf s at room q
-entry-at s at room q p r e h = h ∙ ap (λ (k : Head). entryOf s at room k) (sym e)
+pub entry-at : (s : List ℕ) (room : ℕ) (q p : Head) (r : Entry) → q ≡ p → r ≡ entryOf s room p → r ≡ entryOf s room q
+entry-at s room q p r e h = h ∙ ap (λ (k : Head). entryOf s room k) (sym e)
 
 -- reading goes on by one record
 read-at : (m at : ℕ) (s : List ℕ) (e p : Entry) → e ≡ entryAt s at (suc m) → e ≡ p → readFrom (suc m) s at ≡ onward at (λ next. readFrom m s next) p
@@ -38,16 +38,16 @@ stops zero at s e p r h k f = read-none at s e p h k ∙ f (λ next. none 1 at)
 stops (suc m) at s e p r h k f = read-at m at s e p h k ∙ f (λ next. readFrom m s next)
 
 -- without room no chip is taken
-no-room : (s : List ℕ) (at : ℕ) (h : Head) (code kind next : ℕ) → entryOf s at 0 h ≡ entry.Taken code kind next → ⊥
+no-room : (s : List ℕ) (h : Head) (code kind next : ℕ) → entryOf s 0 h ≡ entry.Taken code kind next → ⊥
 unfolding cutEntry wholeEntry pick
-no-room s at End code kind next e = let z : _≡_ {A = ℕ} 0 1 = cc in omega arith
-no-room s at Short code kind next e = let z : _≡_ {A = ℕ} 0 1 = cc in omega arith
-no-room s at (Cut size k) code kind next e = cut (knownKind k) e
+no-room s End code kind next e = let z : _≡_ {A = ℕ} 0 1 = cc in omega arith
+no-room s Short code kind next e = let z : _≡_ {A = ℕ} 0 1 = cc in omega arith
+no-room s (Cut size k) code kind next e = cut (knownKind k) e
   where
     cut : (a : Bool) → pick a entry.WrongLength entry.UnknownKind ≡ entry.Taken code kind next → ⊥
     cut true f = let z : _≡_ {A = ℕ} 0 1 = cc in omega arith
     cut false f = let z : _≡_ {A = ℕ} 0 1 = cc in omega arith
-no-room s at (Whole size k to) code kind next e = whole (knownKind k) (eqb size 10) e
+no-room s (Whole size k body to) code kind next e = whole (knownKind k) (eqb size 10) e
   where
     whole : (a b : Bool) → pick a (pick b entry.TooMany entry.WrongLength) entry.UnknownKind ≡ entry.Taken code kind next → ⊥
     whole true true f = let z : _≡_ {A = ℕ} 0 1 = cc in omega arith
@@ -81,7 +81,7 @@ module _ (most : ℕ) (s : List ℕ) (cs₀ cs : List Chip) (n at : ℕ) (g : Ta
   room-left code kind next k = go (most - n) refl
     where
       go : (m : ℕ) → most - n ≡ m → n < most
-      go zero p = absurd (no-room s at (headAt s at) code kind next (ap (λ (j : ℕ). entryOf s at j (headAt s at)) (sym p) ∙ sym h ∙ k))
+      go zero p = absurd (no-room s (headAt s at) code kind next (ap (λ (j : ℕ). entryOf s j (headAt s at)) (sym p) ∙ sym h ∙ k))
       go (suc m) p = omega arith
 
   pub taking-next : (code kind next : ℕ) (c : Chip) → e ≡ entry.Taken code kind next → c ≡ setUpChip code kind → Taking most s cs₀ (set cs n c) (n + 1) next

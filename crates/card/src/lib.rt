@@ -3,10 +3,8 @@ use chip::Chip;
 use line::Table;
 use records::Head;
 ghost use mathlib.Core.Path.{_≡_};
-ghost use Prim.Native.Nat.{_+_};
-ghost use lib.ListN.{getD};
 ghost use Rattle.chip.specs.Kinds.{knownKind};
-ghost use Rattle.card.specs.Card.{carded, codeAt, cutEntry, wholeEntry, entryAt, setUp, setUpOf};
+ghost use Rattle.card.specs.Card.{carded, cutEntry, wholeEntry, entryAt, setUp, setUpOf};
 
 // What set-up answers: the number of chips, or a refusal with the offset of the record's first byte.
 pub enum CardAnswer {
@@ -36,41 +34,6 @@ pub enum Entry {
     WrongLength,
 }
 
-// The byte k places past an offset, 0 past the end.
-fn byte_past(s: &[u8], at: usize, k: usize) -> u8
-    ensures { λ r. ⌜ r ≡ getD (now (s .entry)) (at + k) 0 ⌝ }
-{
-    if at <= s.len() {
-        if k < s.len() - at {
-            return s[at + k];
-        }
-        return 0;
-    }
-    0
-}
-
-// The code of the record at an offset.
-fn code_at(s: &[u8], at: usize) -> u64
-    ensures { λ r. ⌜ r ≡ codeAt (now (s .entry)) at ⌝ }
-{
-    let b0 = byte_past(s, at, 4);
-    let b1 = byte_past(s, at, 5);
-    let b2 = byte_past(s, at, 6);
-    let b3 = byte_past(s, at, 7);
-    let b4 = byte_past(s, at, 8);
-    let b5 = byte_past(s, at, 9);
-    let b6 = byte_past(s, at, 10);
-    let b7 = byte_past(s, at, 11);
-    (b0 as u64)
-        + 0x100 * (b1 as u64)
-        + 0x10000 * (b2 as u64)
-        + 0x1000000 * (b3 as u64)
-        + 0x100000000 * (b4 as u64)
-        + 0x10000000000 * (b5 as u64)
-        + 0x1000000000000 * (b6 as u64)
-        + 0x100000000000000 * (b7 as u64)
-}
-
 // A kind that a card may name.
 fn is_known(kind: u16) -> bool
     ensures { λ r. ⌜ r ≡ knownKind kind ⌝ }
@@ -92,13 +55,13 @@ fn cut_entry(kind: u16) -> Entry
 }
 
 // A whole record.
-fn whole_entry(s: &[u8], at: usize, room: usize, size: u16, kind: u16, next: usize) -> Entry
-    ensures { λ r. ⌜ r ≡ wholeEntry (now (s .entry)) at room size kind next ⌝ }
+fn whole_entry(s: &[u8], room: usize, size: u16, kind: u16, body: usize, next: usize) -> Entry
+    ensures { λ r. ⌜ r ≡ wholeEntry (now (s .entry)) room size kind body next ⌝ }
 {
     if is_known(kind) {
         if size == 10 {
             if 0 < room {
-                let code = code_at(s, at);
+                let code = records::code_at(s, body);
                 return Entry::Taken {
                     code: code,
                     kind: kind as u8,
@@ -121,7 +84,12 @@ pub fn entry_at(s: &[u8], at: usize, room: usize) -> Entry
         Head::End => Entry::Done,
         Head::Short => Entry::WrongLength,
         Head::Cut { length: _, kind } => cut_entry(kind),
-        Head::Whole { length, kind, next } => whole_entry(s, at, room, length, kind, next),
+        Head::Whole {
+            length,
+            kind,
+            body,
+            next,
+        } => whole_entry(s, room, length, kind, body, next),
     }
 }
 

@@ -4,7 +4,7 @@ use lib.ListN.{replicate}
 use lib.Dec.{lit≤}
 use Rattle.base.specs.Bits.{bitOf, same, both, filled}
 use Rattle.base.specs.Pick.{pick}
-use Rattle.card.specs.Card.{codeAt, cutEntry, wholeEntry, entryAt, readFrom, setUpOf}
+use Rattle.card.specs.Card.{cutEntry, wholeEntry, entryAt, readFrom, setUpOf}
 use Rattle.chip.specs.Chip.{romSlot, functionIn, functionSlot, memoryLook, memorySight, memorySlot, switchSlot, takesOf, sendsOf, resetChip, resetOf, powerOnChip, powerOnPad, powerOnOf, outsideChip, outsideOf, setUpChip}
 use Rattle.chip.specs.Kinds.{knownKind, imageSize, padSize}
 use Rattle.crc.specs.Crc.{crcBit, crcByte, crcOf}
@@ -19,7 +19,7 @@ use Rattle.ds28ec20.specs.Map.{ds28ec20, lockAddress, padEnd}
 use Rattle.ds28ec20.specs.Map.{isData, controlAddress, isControlOrLock, isReadOnly, held, onlyFalls, closedToCopying}
 use Rattle.line.specs.Layout.{capped}
 use Rattle.line.specs.Event.{planEvent, askedBy, outsideFits}
-use Rattle.records.specs.Records.{pairAt, headAt}
+use Rattle.records.specs.Records.{headAt}
 use Rattle.rom.specs.Rom.{commandOf, commandBit, readBit, matchBit, searchBit, searchSends}
 use Rattle.line.specs.Event.{verdictOf}
 use Rattle.histories.specs.Histories.{answerOf, afterOf}
@@ -37,11 +37,11 @@ use Rattle.histories.specs.Joined.{search-joined}
 use Rattle.cases.specs.Cases.{Cases, fourTable}
 
 four-stands : Stands fourTable
-unfolding bitOf same both filled pick codeAt cutEntry wholeEntry entryAt readFrom setUpOf romSlot functionIn functionSlot memoryLook memorySight memorySlot mapOf ruleBy byteAtHand pageAtHand padFrom memoryBegins addressCut partOf hasMemory hasScratchpad hasRegisters hasSwitch takesOutside knowsOf switchBegins ds28ec20 lockAddress padEnd switchSlot takesOf sendsOf resetChip resetOf powerOnChip powerOnPad powerOnOf outsideChip outsideOf setUpChip knownKind imageSize padSize crcBit crcByte crcOf pinOf flag statusOf switchFunction statusSent pairIn pairBit confirmed shown ruleAt spanOf copied isData controlAddress isControlOrLock isReadOnly mark held onlyFalls closedToCopying capped planEvent outsideFits askedBy pairAt headAt commandOf commandBit readBit matchBit searchBit searchSends answerOf afterOf pf withE withPF withAA targetOf ruleOfByte memoryFunction crcOfAddress addressIn writeAddress afterByte byteIn writeData crcSent padBegins registerSent padByteSent padSent copyAddress carriedOut authorized copyEnd readAddress memorySent cutOf inPage bind play pass write upTo passes readMemoryFrom inRange registersInRange switchInRange tableInRange sizesFit
+unfolding bitOf same both filled pick cutEntry wholeEntry entryAt readFrom setUpOf romSlot functionIn functionSlot memoryLook memorySight memorySlot mapOf ruleBy byteAtHand pageAtHand padFrom memoryBegins addressCut partOf hasMemory hasScratchpad hasRegisters hasSwitch takesOutside knowsOf switchBegins ds28ec20 lockAddress padEnd switchSlot takesOf sendsOf resetChip resetOf powerOnChip powerOnPad powerOnOf outsideChip outsideOf setUpChip knownKind imageSize padSize crcBit crcByte crcOf pinOf flag statusOf switchFunction statusSent pairIn pairBit confirmed shown ruleAt spanOf copied isData controlAddress isControlOrLock isReadOnly mark held onlyFalls closedToCopying capped planEvent outsideFits askedBy headAt commandOf commandBit readBit matchBit searchBit searchSends answerOf afterOf pf withE withPF withAA targetOf ruleOfByte memoryFunction crcOfAddress addressIn writeAddress afterByte byteIn writeData crcSent padBegins registerSent padByteSent padSent copyAddress carriedOut authorized copyEnd readAddress memorySent cutOf inPage bind play pass write upTo passes readMemoryFrom inRange registersInRange switchInRange tableInRange sizesFit
 four-stands = record { range = refl; sizes = refl; places = lit≤ tt }
 
 pub cases : Cases
-unfolding bitOf same both filled pick codeAt cutEntry wholeEntry entryAt readFrom setUpOf romSlot functionIn functionSlot memoryLook memorySight memorySlot mapOf ruleBy byteAtHand pageAtHand padFrom memoryBegins addressCut partOf hasMemory hasScratchpad hasRegisters hasSwitch takesOutside knowsOf switchBegins ds28ec20 lockAddress padEnd switchSlot takesOf sendsOf resetChip resetOf powerOnChip powerOnPad powerOnOf outsideChip outsideOf setUpChip knownKind imageSize padSize crcBit crcByte crcOf pinOf flag statusOf switchFunction statusSent pairIn pairBit confirmed shown ruleAt spanOf copied isData controlAddress isControlOrLock isReadOnly mark held onlyFalls closedToCopying capped planEvent outsideFits askedBy pairAt headAt commandOf commandBit readBit matchBit searchBit searchSends answerOf afterOf pf withE withPF withAA targetOf ruleOfByte memoryFunction crcOfAddress addressIn writeAddress afterByte byteIn writeData crcSent padBegins registerSent padByteSent padSent copyAddress carriedOut authorized copyEnd readAddress memorySent cutOf inPage bind play pass write upTo passes readMemoryFrom
+unfolding bitOf same both filled pick cutEntry wholeEntry entryAt readFrom setUpOf romSlot functionIn functionSlot memoryLook memorySight memorySlot mapOf ruleBy byteAtHand pageAtHand padFrom memoryBegins addressCut partOf hasMemory hasScratchpad hasRegisters hasSwitch takesOutside knowsOf switchBegins ds28ec20 lockAddress padEnd switchSlot takesOf sendsOf resetChip resetOf powerOnChip powerOnPad powerOnOf outsideChip outsideOf setUpChip knownKind imageSize padSize crcBit crcByte crcOf pinOf flag statusOf switchFunction statusSent pairIn pairBit confirmed shown ruleAt spanOf copied isData controlAddress isControlOrLock isReadOnly mark held onlyFalls closedToCopying capped planEvent outsideFits askedBy headAt commandOf commandBit readBit matchBit searchBit searchSends answerOf afterOf pf withE withPF withAA targetOf ruleOfByte memoryFunction crcOfAddress addressIn writeAddress afterByte byteIn writeData crcSent padBegins registerSent padByteSent padSent copyAddress carriedOut authorized copyEnd readAddress memorySent cutOf inPage bind play pass write upTo passes readMemoryFrom
 cases =
     record {
       crc-8 = refl;

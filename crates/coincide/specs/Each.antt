@@ -36,6 +36,7 @@ use Rattle.line.specs.Bridge.{bitAt}
 use Rattle.line.specs.Event.{numberOf, outsideFits, verdictOf, planEvent, planBy}
 use Rattle.line.specs.Layout.{capped, imagesAsked, imagesMost, padsAsked, padsMost}
 use Rattle.packed.specs.Packed.{packed, putRecord, putTable, sameBytes, tableFrom, unpacked}
+use Rattle.records.specs.Numbers.{numberAt}
 use Rattle.records.specs.Records.{headAt}
 use Rattle.rom.specs.Rom.{commandBit, commandOf, matchBit, readBit, romInRange, romSends, romTakes, searchBit, searchSends}
 use Rattle.scratchpad.specs.Registers.{mark, powerOnRegisters, ruleOfByte}
@@ -400,6 +401,12 @@ pub chip-pad-size : (kind : ℕ) → Settled (padSize kind)
 chip-pad-size kind = one-answer (padSize kind)
 
 -- records
+
+pub records-pair-at : (s : List ℕ) (at : ℕ) → Settled (numberAt s at 2)
+records-pair-at s at = one-answer (numberAt s at 2)
+
+pub records-code-at : (s : List ℕ) (at : ℕ) → Settled (numberAt s at 8)
+records-code-at s at = one-answer (numberAt s at 8)
 
 pub records-head-at : (s : List ℕ) (at : ℕ) → Settled (headAt s at)
 records-head-at s at = one-answer (headAt s at)

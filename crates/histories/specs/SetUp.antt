@@ -40,19 +40,19 @@ GivesKnown entry.TooMany = Unit
 GivesKnown entry.UnknownKind = Unit
 GivesKnown entry.WrongLength = Unit
 
-gives-known : (s : List ℕ) (at room : ℕ) (h : Head) → GivesKnown (entryOf s at room h)
+gives-known : (s : List ℕ) (room : ℕ) (h : Head) → GivesKnown (entryOf s room h)
 unfolding cutEntry wholeEntry
-gives-known s at room End = tt
-gives-known s at room Short = tt
-gives-known s at room (Cut size kind) = pick-if GivesKnown _ _ _ (λ e. tt) (λ e. tt)
-gives-known s at room (Whole size kind next) =
+gives-known s room End = tt
+gives-known s room Short = tt
+gives-known s room (Cut size kind) = pick-if GivesKnown _ _ _ (λ e. tt) (λ e. tt)
+gives-known s room (Whole size kind body next) =
     pick-if GivesKnown _ _ _
     (λ k. pick-if GivesKnown _ _ _ (λ e. pick-if GivesKnown _ _ _ (λ f. k) (λ f. tt)) (λ e. tt))
     (λ k. tt)
 
 entry-known : (s : List ℕ) (at room : ℕ) → GivesKnown (entryAt s at room)
 unfolding entryAt
-entry-known s at room = gives-known s at room (headAt s at)
+entry-known s at room = gives-known s room (headAt s at)
 
 -- what was read is in range, and no more than there was room for
 abbrev Fine : ℕ → Read → Type 0

@@ -1,5 +1,5 @@
 -- include/toemsakun.h, "A chip's record": a chip as a run of bytes, numbers with the low byte first, and a table as a run of records.
-use Prim.Native.Nat.{ℕ, zero, suc, _+_, _-_, _*_, _/_, _%_}
+use Prim.Native.Nat.{ℕ, zero, suc, _-_, _*_, _/_, _%_}
 use mathlib.Core.Bool.{Bool, true, false}
 use mathlib.Core.List.{List, [], _∷_, _++_}
 use lib.Dec.{eqb, leb}
@@ -8,6 +8,7 @@ use Rattle.base.specs.Pick.{pick}
 use Rattle.base.specs.Bits.{both}
 use Rattle.chip.specs.declared.Chip.{Chip}
 use Rattle.line.specs.declared.Table.{Table}
+use Rattle.records.specs.Numbers.{numberAt}
 use Rattle.packed.specs.declared.Step.{Step}
 use Rattle.packed.specs.Step.{step, flag, levelPacked, levelUnpacked}
 
@@ -19,11 +20,6 @@ recordSize = 32
 abbrev pub bytesOf : ℕ → ℕ → List ℕ
 bytesOf zero x = x ∷ []
 bytesOf (suc n) x = x % 256 ∷ bytesOf n (x / 256)
-
--- the number whose low byte stands at a place, with n bytes above it
-abbrev pub numberAt : List ℕ → ℕ → ℕ → ℕ
-numberAt bs at zero = getD bs at 0
-numberAt bs at (suc n) = getD bs at 0 + 256 * numberAt bs (at + 1) n
 
 -- the bytes of a chip's record, by the step that its level is: from 21 on each is 0
 abbrev pub packedWith : Chip → Step → List ℕ
@@ -41,16 +37,16 @@ packed c = packedWith c (levelPacked (c .level))
 
 -- the step that a record's bytes name
 abbrev pub stepAt : List ℕ → Step
-stepAt bs = step (getD bs 15 0) (numberAt bs 16 1) (getD bs 18 0) (getD bs 19 0) (getD bs 20 0)
+stepAt bs = step (getD bs 15 0) (numberAt bs 16 2) (getD bs 18 0) (getD bs 19 0) (getD bs 20 0)
 
 -- the chip that any bytes stand for, as many as a record has: what the step does not name is passed over
 unfoldable pub unpacked : List ℕ → Chip
 unpacked bs = record {
-  code = numberAt bs 0 7;
+  code = numberAt bs 0 8;
   kind = getD bs 8 0;
   rc = eqb (getD bs 9 0) 1;
   level = levelUnpacked (stepAt bs);
-  registers = record { t = numberAt bs 10 1; es = getD bs 12 0 };
+  registers = record { t = numberAt bs 10 2; es = getD bs 12 0 };
   switch = record { latches = getD bs 13 0; outside = getD bs 14 0 };
 }
 

@@ -6,9 +6,9 @@ use chip::Chip;
 use ds2413::Switch;
 use scratchpad::Registers;
 ghost use mathlib.Core.Path.{_≡_};
-ghost use Prim.Native.Nat.{_+_, _*_, _<_, _≤_};
-ghost use lib.ListN.{length, getD};
-ghost use Rattle.packed.specs.Packed.{recordSize, numberAt, stepAt, packedWith, packed, unpacked, sameBytes, putRecord};
+ghost use Prim.Native.Nat.{_≤_};
+ghost use lib.ListN.{length};
+ghost use Rattle.packed.specs.Packed.{recordSize, stepAt, packedWith, packed, unpacked, sameBytes, putRecord};
 
 // The bytes of a chip's record, by the step that its level is.
 fn bytes_of(c: Chip, s: Step) -> [u8; RECORD_SIZE]
@@ -59,46 +59,12 @@ pub fn pack(c: Chip) -> [u8; RECORD_SIZE]
     bytes_of(c, s)
 }
 
-// The number of two bytes.
-fn pair(low: u8, high: u8) -> u16
-    ensures { λ r. ⌜ r ≡ low + 256 * high ⌝ }
-{
-    (low as u16) + 256 * (high as u16)
-}
-
-// The byte at a place.
-fn byte(s: &[u8], k: usize) -> u8
-    requires { ⌜ k < length (now s) ⌝ }
-    ensures { λ r. ⌜ r ≡ getD (now (s .entry)) k 0 ⌝ }
-{
-    s[k]
-}
-
-// The code that a record begins with.
-fn code_of(s: &[u8]) -> u64
-    requires { ⌜ recordSize ≤ length (now s) ⌝ }
-    ensures { λ r. ⌜ r ≡ numberAt (now (s .entry)) 0 7 ⌝ }
-{
-    let b0 = byte(s, 0);
-    let b1 = byte(s, 1);
-    let b2 = byte(s, 2);
-    let b3 = byte(s, 3);
-    let b4 = byte(s, 4);
-    let b5 = byte(s, 5);
-    let b6 = byte(s, 6);
-    let b7 = byte(s, 7);
-    let top = (b6 as u64) + 256 * (b7 as u64);
-    let upper = (b4 as u64) + 256 * ((b5 as u64) + 256 * top);
-    let lower = (b2 as u64) + 256 * ((b3 as u64) + 256 * upper);
-    (b0 as u64) + 256 * ((b1 as u64) + 256 * lower)
-}
-
 // The step that a record names.
 fn step_of(s: &[u8]) -> Step
     requires { ⌜ recordSize ≤ length (now s) ⌝ }
     ensures { λ r. ⌜ r ≡ stepAt (now (s .entry)) ⌝ }
 {
-    let w = pair(s[16], s[17]);
+    let w = records::pair_at(s, 16);
     Step {
         number: s[15],
         w: w,
@@ -113,8 +79,8 @@ fn unpack_whole(s: &[u8]) -> Chip
     requires { ⌜ recordSize ≤ length (now s) ⌝ }
     ensures { λ r. ⌜ r ≡ unpacked (now (s .entry)) ⌝ }
 {
-    let code = code_of(s);
-    let t = pair(s[10], s[11]);
+    let code = records::code_at(s, 0);
+    let t = records::pair_at(s, 10);
     let step = step_of(s);
     let level = level::unpack_level(step);
     let registers = Registers { t: t, es: s[12] };

@@ -1,8 +1,9 @@
 // Records, length first: their heads, whatever their kinds.
 ghost use mathlib.Core.Path.{_≡_};
-ghost use Prim.Native.Nat.{_+_, _<_};
-ghost use lib.ListN.{length};
-ghost use Rattle.records.specs.Records.{pairAt, headAt};
+ghost use Prim.Native.Nat.{_+_};
+ghost use lib.ListN.{getD};
+ghost use Rattle.records.specs.Numbers.{numberAt};
+ghost use Rattle.records.specs.Records.{headAt};
 
 // What starts at an offset of a run of records.
 pub enum Head {
@@ -11,19 +12,57 @@ pub enum Head {
     // fewer than 4 bytes
     Short,
     // a record whose length runs past the end
-    Cut { length: u16, kind: u16 },
-    // a whole record, and the offset of the next
-    Whole { length: u16, kind: u16, next: usize },
+    Cut {
+        length: u16,
+        kind: u16,
+    },
+    // a whole record, and the offsets of its body and of the next
+    Whole {
+        length: u16,
+        kind: u16,
+        body: usize,
+        next: usize,
+    },
 }
 
-// Two bytes, little-endian, that lie inside the slice.
-fn pair_at(s: &[u8], at: usize) -> u16
-    requires { ⌜ at + 1 < length (now s) ⌝ }
-    ensures { λ r. ⌜ r ≡ pairAt (now (s .entry)) at ⌝ }
+// The byte k places past an offset, 0 past the end.
+fn byte_past(s: &[u8], at: usize, k: usize) -> u8
+    ensures { λ r. ⌜ r ≡ getD (now (s .entry)) (at + k) 0 ⌝ }
 {
-    let low = base::byte_at(s, at);
-    let high = base::byte_at(s, at + 1);
+    if at <= s.len() {
+        if k < s.len() - at {
+            return s[at + k];
+        }
+        return 0;
+    }
+    0
+}
+
+// The number of the two bytes from an offset on.
+pub fn pair_at(s: &[u8], at: usize) -> u16
+    ensures { λ r. ⌜ r ≡ numberAt (now (s .entry)) at 2 ⌝ }
+{
+    let low = byte_past(s, at, 0);
+    let high = byte_past(s, at, 1);
     (low as u16) + 256 * (high as u16)
+}
+
+// The number of the eight bytes from an offset on.
+pub fn code_at(s: &[u8], at: usize) -> u64
+    ensures { λ r. ⌜ r ≡ numberAt (now (s .entry)) at 8 ⌝ }
+{
+    let b0 = byte_past(s, at, 0);
+    let b1 = byte_past(s, at, 1);
+    let b2 = byte_past(s, at, 2);
+    let b3 = byte_past(s, at, 3);
+    let b4 = byte_past(s, at, 4);
+    let b5 = byte_past(s, at, 5);
+    let b6 = byte_past(s, at, 6);
+    let b7 = byte_past(s, at, 7);
+    let top = (b6 as u64) + 256 * (b7 as u64);
+    let upper = (b4 as u64) + 256 * ((b5 as u64) + 256 * top);
+    let lower = (b2 as u64) + 256 * ((b3 as u64) + 256 * upper);
+    (b0 as u64) + 256 * ((b1 as u64) + 256 * lower)
 }
 
 // The head of the record at an offset.
@@ -45,6 +84,7 @@ pub fn head_at(s: &[u8], at: usize) -> Head
         return Head::Whole {
             length: length,
             kind: kind,
+            body: at + 4,
             next: at + size,
         };
     }

@@ -8,9 +8,10 @@ use lib.Dec.{eqb, ltb, leb}
 use lib.ListN.{length}
 use Rattle.base.specs.Pick.{pick, pick-of}
 use Rattle.chip.specs.Kinds.{knownKind}
-use Rattle.records.specs.Records.{pairAt, headAt}
+use Rattle.records.specs.Numbers.{numberAt}
+use Rattle.records.specs.Records.{headAt}
 use Rattle.records.specs.declared.Head.{Head}
-use Rattle.card.specs.Card.{codeAt, cutEntry, wholeEntry, entryOf, entryAt}
+use Rattle.card.specs.Card.{cutEntry, wholeEntry, entryOf, entryAt}
 use Rattle.card.specs.declared.Entry.{Entry}
 use Rattle.card.specs.declared.Entry.the-variants.{Done, Taken, TooMany, UnknownKind, WrongLength}
 use Rattle.refusals.specs.Exactly.{Iff, by-else, by-then, by-left, by-either, by-neither}
@@ -34,18 +35,18 @@ module _ (s : List ℕ) (at room : ℕ) where
 
   -- the kind is 1 or 2
   abbrev pub known : Bool
-  known = knownKind (pairAt s (at + 2))
+  known = knownKind (numberAt s (at + 2) 2)
 
   -- the record is not cut
   abbrev pub whole : Bool
-  whole = leb (pairAt s at + 2) (length s - at)
+  whole = leb (numberAt s at 2 + 2) (length s - at)
 
   -- its length is 10
   abbrev pub ten : Bool
-  ten = eqb (pairAt s at) 10
+  ten = eqb (numberAt s at 2) 10
 
   abbrev chip : Entry
-  chip = Taken (codeAt s at) (pairAt s (at + 2)) (at + (pairAt s at + 2))
+  chip = Taken (numberAt s (at + 4) 8) (numberAt s (at + 2) 2) (at + (numberAt s at 2 + 2))
 
   -- what the record gives, by what it is judged by
   abbrev pub judged : Entry
@@ -59,9 +60,9 @@ module _ (s : List ℕ) (at room : ℕ) where
   pub entry-is : entryAt s at room ≡ judged
   unfolding entryAt headAt wholeEntry cutEntry
   entry-is =
-      pick-of (entryOf s at room) _ _ _
+      pick-of (entryOf s room) _ _ _
       ∙ ap (λ (x : Entry). pick ended Done x)
-      (pick-of (entryOf s at room) _ _ _ ∙ ap (λ (x : Entry). pick short WrongLength x) (pick-of (entryOf s at room) _ _ _))
+      (pick-of (entryOf s room) _ _ _ ∙ ap (λ (x : Entry). pick short WrongLength x) (pick-of (entryOf s room) _ _ _))
 
   gives : (p : Entry) {B : Type 0} → Iff (judged ≡ p) B → Iff (entryAt s at room ≡ p) B
   gives p i = ((λ e. i .0 (sym entry-is ∙ e)), (λ b. entry-is ∙ i .1 b))

@@ -7,16 +7,16 @@ use Rattle.card.proofs.cut_entry.Reads as reads
 use Rattle.card.proofs.cut_entry.Lts as lts
 use Rattle.card.proofs.is_known.Reads as is-known-reads
 
--- src/lib.rt:88:8
+-- src/lib.rt:51:8
 is-known-requires : tie.Need-is-known-requires
 is-known-requires c κs = search needs
 
--- src/lib.rt:89:9
+-- src/lib.rt:52:9
 returns : tie.Need-returns
 unfolding cutEntry
 returns c = search (cases, ← c .before .is-known .ensures)
 
--- src/lib.rt:85:1
+-- src/lib.rt:48:1
 returns-2 : tie.Need-returns-2
 unfolding cutEntry
 returns-2 c = search (cases, ← c .before .is-known .ensures)

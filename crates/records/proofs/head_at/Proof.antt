@@ -1,4 +1,4 @@
-use Rattle.records.specs.Records.{headAt}
+use Rattle.records.specs.Records.{headAt, head-by}
 use Rattle.base.specs.Rules.{cases}
 use borrow.Author.Needs.{needs}
 use Rattle.records.proofs.head_at.Statement.{statement}
@@ -7,53 +7,55 @@ use Rattle.records.proofs.head_at.Reads as reads
 use Rattle.records.proofs.head_at.Lts as lts
 use Rattle.records.proofs.pair_at.Reads as pair-at-reads
 
--- src/lib.rt:35:9
+-- src/lib.rt:74:9
 returns : tie.Need-returns
 unfolding headAt
 returns c = search cases
 
--- src/lib.rt:37:16
+-- src/lib.rt:76:16
 sub-left : tie.Need-sub-left
 sub-left c = search needs
 
--- src/lib.rt:39:9
+-- src/lib.rt:78:9
 returns-2 : tie.Need-returns-2
 unfolding headAt
 returns-2 c = search cases
 
--- src/lib.rt:41:9
+-- src/lib.rt:80:9
 pair-at-requires : tie.Need-pair-at-requires
 pair-at-requires c κs = search needs
 
--- src/lib.rt:42:27
+-- src/lib.rt:81:27
 add-pair-at : tie.Need-add-pair-at
 add-pair-at c = search needs
 
--- src/lib.rt:42:9
+-- src/lib.rt:81:9
 pair-at-requires-2 : tie.Need-pair-at-requires-2
 pair-at-requires-2 c κs = search needs
 
--- src/lib.rt:43:17
+-- src/lib.rt:82:17
 cast-size : tie.Need-cast-size
 cast-size c = search needs
 
--- src/lib.rt:43:16
+-- src/lib.rt:82:16
 add-size : tie.Need-add-size
 add-size c = search needs
 
--- src/lib.rt:48:19
+-- src/lib.rt:87:19
 add-t10 : tie.Need-add-t10
 add-t10 c = search needs
 
--- src/lib.rt:45:9
-returns-3 : tie.Need-returns-3
-unfolding headAt
-returns-3 c = search (cases, ← c .before .pair-at2 .ensures, ← c .before .before .pair-at .ensures)
+-- src/lib.rt:88:19
+add-t11 : tie.Need-add-t11
+add-t11 c = search needs
 
--- src/lib.rt:30:1
+-- src/lib.rt:84:9
+returns-3 : tie.Need-returns-3
+returns-3 c = head-by _ _ _ _ _ (c .before .before .pair-at .ensures) (c .before .pair-at2 .ensures) (search cases)
+
+-- src/lib.rt:69:1
 returns-4 : tie.Need-returns-4
-unfolding headAt
-returns-4 c = search (cases, ← c .before .pair-at2 .ensures, ← c .before .before .pair-at .ensures)
+returns-4 c = head-by _ _ _ _ _ (c .before .before .pair-at .ensures) (c .before .pair-at2 .ensures) (search cases)
 
 pub head-at-spec : {M : Type 1} → statement M
 head-at-spec =
@@ -68,5 +70,6 @@ head-at-spec =
     cast-size
     add-size
     add-t10
+    add-t11
     returns-3
     returns-4)
