@@ -1,8 +1,7 @@
 -- Laws of the bits of a number, and of the path below a parting.
 use Prim.Native.Nat.{ℕ, _+_, _*_, _-_, _/_, _%_, _^_, _<_}
 use native.Mathlib.Omega.{arith}
-use native.Mathlib.Nat.{add-comm, div-eq-of-lt, mod-lt, two-pow-succ}
-use native.Mathlib.Numerals.{add-one}
+use native.Mathlib.Nat.{add-comm, div-eq-of-lt, mod-lt}
 use mathlib.Core.Bool.{true, false}
 use mathlib.Core.Path.{_≡_, _∙_, ap, sym}
 use lib.Dec.{eqb}
@@ -10,10 +9,6 @@ use lib.Pow.{pow-pos, field, mod-pow-add, mod-mod-pow, low, high}
 use borrow.Author.Tests.{eqb-true, eqb-false}
 use Rattle.base.specs.Bits.{bitOf}
 use Rattle.search.specs.Host.{upTo}
-
--- the worth of the next place
-pub pow-next : (k : ℕ) → 2 ^ (k + 1) ≡ 2 ^ k + 2 ^ k
-pow-next k = ap (λ (n : ℕ). 2 ^ n) (add-one k) ∙ two-pow-succ k
 
 -- a number has no bit past its highest
 pub bit-none : (n k : ℕ) → n < 2 ^ k → bitOf n k ≡ false
@@ -39,14 +34,7 @@ mod-next-zero x k h =
     let e : x / 2 ^ k % 2 ≡ 0 = omega arith in
     mod-next x k ∙ rw e (omega arith)
 
--- the path below a parting and a 1 there have no bit past the parting
-pub up-lt : (l c : ℕ) → upTo l c < 2 ^ (l + 1)
-unfolding upTo
-up-lt l c =
-    let h : c % 2 ^ l < 2 ^ l = mod-lt c (pow-pos l) in
-    omega (arith, pow-next l)
-
--- at the parting they have a 1
+-- the path below a parting and a 1 there have a 1 at the parting
 pub up-own : (l c : ℕ) → bitOf (upTo l c) l ≡ true
 unfolding upTo bitOf
 up-own l c =

@@ -10,6 +10,7 @@ use Rattle.base.specs.Bits.{bitOf, both}
 use Rattle.chip.specs.Chip.{Whole}
 use Rattle.search.specs.Host.{Host, Played, played, End, end, more, play, pass, turn, mark, put}
 use Rattle.search.specs.Counts.{more-more}
+use Rattle.search.specs.Pass.{mark-le}
 use Rattle.histories.specs.Histories.{lineWire, codesOf}
 use Rattle.listing.specs.Order.{branch, Codes}
 use Rattle.listing.specs.Branch.{isNil, branch-in, some-branch, Low, low-next}
@@ -64,13 +65,6 @@ turn-some true b t d k xs ea eb h e = rw (← e) (eb ∙ h)
 turn-some false true t d k xs ea eb h e = rw (← e) ea
 turn-some false false true d k xs ea eb h e = rw (← e) eb
 turn-some false false false d k xs ea eb h e = rw (← e) ea
-
--- a mark is that of a place gone by
-mark-le : (a b t : Bool) (k last : ℕ) → last ≤ k → mark a b t k last ≤ k + 1
-mark-le true b t k last h = omega arith
-mark-le false true t k last h = omega arith
-mark-le false false true k last h = omega arith
-mark-le false false false k last h = omega arith
 
 -- both bits are read as 1 only if nobody takes part
 answered : (k : ℕ) (xs : List ℕ) (a b : Bool) → isNil xs ≡ false → isNil (branch false k xs) ≡ a → isNil (branch true k xs) ≡ b → both a b ≡ false

@@ -27,7 +27,8 @@ hears b l = heard (saysOf (slotEvent b) l)
 abbrev slotLeaves : Bool → Attached → Attached
 slotLeaves b l = leavesOf (slotEvent b) l
 
-pow-next : (k : ℕ) → 2 ^ (k + 1) ≡ 2 ^ k + 2 ^ k
+-- the worth of the next place
+pub pow-next : (k : ℕ) → 2 ^ (k + 1) ≡ 2 ^ k + 2 ^ k
 pow-next k = ap (λ (n : ℕ). 2 ^ n) (add-one k) ∙ two-pow-succ k
 
 -- where the loop of a pass stands after k places
@@ -64,7 +65,8 @@ pub put-low : (d : Bool) (k path : ℕ) → path < 2 ^ k → put d k path < 2 ^ 
 put-low true k path h = omega (arith, pow-next k)
 put-low false k path h = omega (arith, pow-next k)
 
-mark-le : (a b t : Bool) (k last : ℕ) → last ≤ k → mark a b t k last ≤ k + 1
+-- a mark is that of a place gone by
+pub mark-le : (a b t : Bool) (k last : ℕ) → last ≤ k → mark a b t k last ≤ k + 1
 mark-le true b t k last h = omega arith
 mark-le false true t k last h = omega arith
 mark-le false false true k last h = omega arith
@@ -145,14 +147,15 @@ pub up-code : (last path : ℕ) → 0 < last → last ≤ 64 → path % (1 * 2 ^
 unfolding upTo
 up-code last path h l = rw (shl-one (last - 1) (omega arith))
 
-up-lt : (k path : ℕ) → upTo k path < 2 ^ k + 2 ^ k
+-- the path below a parting and a 1 there have no bit past the parting
+pub up-lt : (k path : ℕ) → upTo k path < 2 ^ (k + 1)
 unfolding upTo
-up-lt k path = omega (arith, mod-lt path (pow-pos k))
+up-lt k path = omega (arith, mod-lt path (pow-pos k), pow-next k)
 
 pub up-fits : (last path : ℕ) → 0 < last → last ≤ 64 → path % (1 * 2 ^ (last - 1) % 18446744073709551616) + 1 * 2 ^ (last - 1) % 18446744073709551616 < 18446744073709551616
 up-fits last path h l =
     let m : 2 ^ (last - 1 + 1) ≤ 2 ^ 64 = pow-mono {i = last - 1 + 1} {j = 64} (omega arith) in
-    rw (up-code last path h l) (omega (arith, up-lt (last - 1) path, pow-next (last - 1)))
+    rw (up-code last path h l) (omega (arith, up-lt (last - 1) path))
 
 pub wanted-up : (last path : ℕ) → (last ≡ 0 → ⊥) → last ≤ 64 → wanted last path ≡ upTo (last - 1) path
 unfolding wanted
