@@ -14,6 +14,10 @@ unfolding both pick
 both-true true = refl
 both-true false = refl
 
+pub true-both : (a : Bool) → both true a ≡ a
+unfolding both pick
+true-both a = refl
+
 -- what each says, where both hold
 pub both-holds : (a b : Bool) → both a b ≡ true → (a ≡ true) × (b ≡ true)
 unfolding both pick

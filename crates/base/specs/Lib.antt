@@ -3,4 +3,5 @@ pub mod Bits
 pub mod Rules
 pub mod Fill
 pub mod Both
+pub mod Same
 pub mod Along

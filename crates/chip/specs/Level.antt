@@ -12,7 +12,7 @@ use Rattle.memory.specs.declared.Seen.{Seen}
 use Rattle.memory.specs.Part.{mapOf}
 use Rattle.memory.specs.Memory.{Bytes, bytes, seenIn, done}
 use Rattle.chip.specs.Kinds.{partOf}
-use Rattle.chip.specs.Chip.{Whole, whole, levelOf, levelLooks, levelTakesBy, levelSendsBy, levelReset, looksOf, takesBy, sendsBy, takesOf, sendsOf}
+use Rattle.chip.specs.Chip.{Whole, whole, levelOf, levelLooks, levelTakesBy, levelSendsBy, levelReset, levelTakes, levelSends, looksOf, takesBy, sendsBy, takesOf, sendsOf}
 use Rattle.chip.specs.declared.Chip.{Chip}
 use Rattle.chip.specs.declared.ChipAfter.{ChipAfter}
 use Rattle.chip.specs.Range.{levelInRange}
@@ -35,6 +35,16 @@ reset-at c q p r = along (λ (k : Level). levelReset c k) q p r
 
 pub in-range-at : (kind : ℕ) (q p : Level) (r : Bool) → q ≡ p → r ≡ levelInRange kind p → r ≡ levelInRange kind q
 in-range-at kind q p r = along (λ (k : Level). levelInRange kind k) q p r
+
+-- what a slot does to a chip at a known level
+pub takes-in : (w : Whole) (v : Bool) (l : Level) → w .chip .level ≡ l → takesOf v w ≡ levelTakes w v l
+unfolding takesOf
+takes-in w v l e = ap (levelTakes w v) e
+
+-- what a chip at a known level sends
+pub sends-in : (w : Whole) (l : Level) → w .chip .level ≡ l → sendsOf w ≡ levelSends w l
+unfolding sendsOf
+sends-in w l e = ap (levelSends w) e
 
 -- a slot in a row: look, fetch, step, and the deed done
 pub takes-is : (c : Chip) (v : Bool) (m s m′ s′ : List ℕ) (k : Look) (x : Seen) (t : ChipAfter) (p : Part)

@@ -11,7 +11,7 @@ use lib.ListN.{length, take, drop, getD, set, take-append-drop, length-drop, len
 use lib.Seq.{take-at, drop-at, getD-at, set-at, set-getD, length-take-le}
 use Rattle.base.specs.Pick.{pick, pick-true, pick-false}
 use Rattle.base.specs.Bits.{both}
-use Rattle.base.specs.Both.{both-assoc, both-true}
+use Rattle.base.specs.Both.{both-assoc, both-true, true-both}
 use Rattle.chip.specs.Chip.{Whole, whole, sendsOf, outsideChip, outsideOf}
 use Rattle.chip.specs.Range.{inRange}
 use Rattle.chip.specs.Kinds.{imageMost, padMost, imageSize, padSize}
@@ -131,10 +131,6 @@ kind-is zero chip i (c ∷ cs) e =
 kind-is (suc k) chip i (c ∷ cs) e =
     ap (λ (x : ℕ). kindOn chip (i + 1) cs x) (pick-false (eqb i chip) (c .kind) 0 (ne-eqb i chip (λ (q : i ≡ chip). omega arith)))
     ∙ kind-is k chip (i + 1) cs (omega arith)
-
-true-both : (b : Bool) → both true b ≡ b
-unfolding both pick
-true-both b = refl
 
 -- a look over the first n places, where these are few
 abbrev pub Surveyed : ℕ → ℕ → List Chip → Survey → Type 0

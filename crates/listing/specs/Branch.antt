@@ -8,6 +8,7 @@ use mathlib.Core.Path.{_≡_, refl, _∙_, ap, ap₂, sym}
 use lib.ListN.{length, length-append}
 use Rattle.base.specs.Pick.{pick}
 use Rattle.base.specs.Bits.{bitOf, same}
+use Rattle.base.specs.Same.{same-bit, same-own}
 use Rattle.search.specs.Host.{put}
 use Rattle.listing.specs.Order.{branch, branchOrder}
 use Rattle.listing.specs.Bits.{mod-next-one, mod-next-zero}
@@ -48,20 +49,6 @@ branch-in d k y (x ∷ xs) m = go (branch-in d k y xs) (front-cases (same (bitOf
     go : (List·Memᴰ y (branch d k xs) → List·Memᴰ y xs) → ((same (bitOf x k) d ≡ true) × (y ≡ x)) ⊎ List·Memᴰ y (branch d k xs) → List·Memᴰ y (x ∷ xs)
     go f (inl e) = List·Memᴰ·head (e .1)
     go f (inr n) = List·Memᴰ·tail (f n)
-
--- bits that are found the same are equal
-same-bit : (b d : Bool) → same b d ≡ true → b ≡ d
-unfolding same pick
-same-bit true true e = refl
-same-bit true false e = sym e
-same-bit false true e = e
-same-bit false false e = refl
-
--- a bit is the same as itself
-same-own : (b : Bool) → same b b ≡ true
-unfolding same pick
-same-own true = refl
-same-own false = refl
 
 -- the codes of a branch have its bit
 pub branch-bit : (d : Bool) (k y : ℕ) (xs : List ℕ) → List·Memᴰ y (branch d k xs) → bitOf y k ≡ d

@@ -10,7 +10,8 @@ use Rattle.base.specs.Bits.{bitOf, same, filled}
 use Rattle.rom.specs.Rom.{rom, commandOf, commandBit, searchBit, searchSends}
 use Rattle.rom.specs.declared.RomNext.the-variants as next
 use Rattle.rom.specs.declared.RomStep.the-variants.{Search}
-use Rattle.chip.specs.Chip.{Whole, levelOf, romSlot, levelTakes, takesOf, levelSends, sendsOf, resetChip, resetOf}
+use Rattle.chip.specs.Chip.{Whole, levelOf, romSlot, levelTakes, takesOf, sendsOf, resetChip, resetOf}
+use Rattle.chip.specs.Level.{takes-in, sends-in}
 use Rattle.chip.specs.declared.Level.{Level}
 use Rattle.chip.specs.declared.Level.the-variants.{Waiting, Rom, FunctionCommand}
 use Rattle.line.specs.declared.Act.the-variants.{Take}
@@ -73,15 +74,9 @@ level-in : (k s : ℕ) (w : Whole) → k < 64 → Part k s w → w .chip .level 
 unfolding Part levelAt
 level-in k s w h e = e ∙ pick-true (ltb k 64) _ _ (lt-ltb k 64 h)
 
--- what a chip at a known level sends
-sends-in : (w : Whole) (l : Level) → w .chip .level ≡ l → sendsOf w ≡ levelSends w l
-unfolding sendsOf
-sends-in w l e = ap (levelSends w) e
-
 -- where a slot leads a chip at a known level
-takes-in : (w : Whole) (v : Bool) (l : Level) → w .chip .level ≡ l → takesOf v w .chip .level ≡ levelTakes w v l .chip .level
-unfolding takesOf
-takes-in w v l e = ap (λ (k : Level). levelTakes w v k .chip .level) e
+level-taken : (w : Whole) (v : Bool) (l : Level) → w .chip .level ≡ l → takesOf v w .chip .level ≡ levelTakes w v l .chip .level
+level-taken w v l e = ap (λ (u : Whole). u .chip .level) (takes-in w v l e)
 
 -- at slot 0 a chip sends its bit
 pub bit-sent : (k : ℕ) (w : Whole) → k < 64 → Part k 0 w → sendsOf w ≡ bitOf (w .chip .code) k
@@ -106,7 +101,7 @@ out-quiet w p = sends-in w Waiting p
 -- a slot after which the next slot comes
 slot-next : (k s : ℕ) (w : Whole) (v : Bool) → k < 64 → s < 2 → Part k s w → Part k (s + 1) (takesOf v w)
 unfolding Part romSlot searchBit levelAt pick
-slot-next k s w v h l p = takes-in w v (Rom (Search k s)) (level-in k s w h p) ∙ rw (lt-ltb s 2 l, lt-ltb k 64 h)
+slot-next k s w v h l p = level-taken w v (Rom (Search k s)) (level-in k s w h p) ∙ rw (lt-ltb s 2 l, lt-ltb k 64 h)
 
 -- after its bit a chip is at slot 1
 pub bit-taken : (k : ℕ) (v : Bool) (w : Whole) → k < 64 → Part k 0 w → Part k 1 (takesOf v w)
@@ -128,14 +123,14 @@ place-next k rc false false p q = refl
 -- a chip whose bit is written goes on to the next place
 pub goes-on : (k : ℕ) (v : Bool) (w : Whole) → k < 64 → Part k 2 w → same (bitOf (w .chip .code) k) v ≡ true → Part (k + 1) 0 (takesOf v w)
 unfolding Part romSlot searchBit levelAt pick
-goes-on k v w h p e = takes-in w v (Rom (Search k 2)) (level-in k 2 w h p) ∙ rw e (place-next k (w .chip .rc) (ltb k 63) (ltb (k + 1) 64) refl refl)
+goes-on k v w h p e = level-taken w v (Rom (Search k 2)) (level-in k 2 w h p) ∙ rw e (place-next k (w .chip .rc) (ltb k 63) (ltb (k + 1) 64) refl refl)
 
 -- another drops out
 pub drops-out : (k : ℕ) (v : Bool) (w : Whole) → k < 64 → Part k 2 w → same (bitOf (w .chip .code) k) v ≡ false → Out (takesOf v w)
 unfolding Out romSlot searchBit pick
-drops-out k v w h p e = takes-in w v (Rom (Search k 2)) (level-in k 2 w h p) ∙ rw e
+drops-out k v w h p e = level-taken w v (Rom (Search k 2)) (level-in k 2 w h p) ∙ rw e
 
 -- a chip that dropped out stays out
 pub out-stays : (v : Bool) (w : Whole) → Out w → Out (takesOf v w)
 unfolding Out
-out-stays v w p = takes-in w v Waiting p ∙ p
+out-stays v w p = level-taken w v Waiting p ∙ p

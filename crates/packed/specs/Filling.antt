@@ -11,13 +11,12 @@ use lib.Seq.{take-suc-set, take-suc, take-at, drop-at, drop-set-lt, drop-drop, l
 use borrow.Author.Tests.{eq-eqb, ne-eqb, le-leb, lt-leb}
 use Rattle.base.specs.Pick.{pick, pick-true, pick-false}
 use Rattle.base.specs.Bits.{both}
-use Rattle.base.specs.Both.{both-assoc}
+use Rattle.base.specs.Both.{both-assoc, true-both}
 use Rattle.chip.specs.declared.Chip.{Chip}
 use Rattle.chip.specs.With.{noChip}
 use Rattle.line.specs.declared.Table.{Table}
 use Rattle.packed.specs.Packed.{recordSize, packed, unpacked, sameBytes, packedTable, unpackedFrom, unpackedTable, isTable, putRecord, tableFrom, putTable}
 use Rattle.packed.specs.Laws.{packed-length, table-length, from-length}
-use Rattle.packed.specs.Loops.{true-both}
 
 -- two runs, each of two parts of the same lengths
 same-append : (xs xs′ ys ys′ : List ℕ) → length xs ≡ length ys → sameBytes (xs ++ xs′) (ys ++ ys′) ≡ both (sameBytes xs ys) (sameBytes xs′ ys′)

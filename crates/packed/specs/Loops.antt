@@ -21,10 +21,6 @@ unfolding both pick
 both-false true = refl
 both-false false = refl
 
-pub true-both : (a : Bool) → both true a ≡ a
-unfolding both pick
-true-both a = refl
-
 -- runs of two lengths differ
 pub same-other : (xs ys : List ℕ) → (length xs ≡ length ys → ⊥) → false ≡ sameBytes xs ys
 unfolding sameBytes

@@ -8,6 +8,7 @@ use Rattle.base.specs.Pick.{pick, pick-true}
 use Rattle.base.specs.Bits.{both}
 use Rattle.chip.specs.Kinds.{takesOutside}
 use Rattle.chip.specs.Chip.{Whole, takesOf, sendsOf, resetOf, powerOnChip, powerOnOf, outsideChip, outsideOf}
+use Rattle.chip.specs.Level.{sends-in}
 use Rattle.chip.specs.declared.Chip.{Chip}
 use Rattle.chip.specs.declared.Level.the-variants.{Waiting}
 use Rattle.line.specs.Line.{valueOf, absent, actOf, outsideAt, afterBy}
@@ -24,7 +25,7 @@ use Rattle.histories.specs.Keeps.{act-named}
 use Rattle.histories.specs.Standing.{at-chip, length-chips}
 use Rattle.recovery.specs.Sessions.{opening, toCome, Next, Addressed}
 use Rattle.recovery.specs.Stays.{not-both, kindsOf, length-kinds, run-kinds}
-use Rattle.recovery.specs.Opening.{Silent, Waits, sends-at, waiting-takes, opening-silent}
+use Rattle.recovery.specs.Opening.{Silent, Waits, waiting-takes, opening-silent}
 
 -- a chip that has another code, with these bits of an opening to come
 abbrev pub Other : ℕ → List Bool → Whole → Type 0
@@ -89,7 +90,7 @@ both-one a v e = pick-true a v false e
 
 -- none but the chip itself sends
 other-sends : (code : ℕ) (bs : List Bool) (x : Whole) → Other code bs x → sendsOf x ≡ true
-other-sends code [] x (n, h, s) = sends-at x Waiting (s n)
+other-sends code [] x (n, h, s) = sends-in x Waiting (s n)
 other-sends code (b ∷ bs) x (n, h, s) = silent-sends code b bs x s
 
 -- chips of other codes leave a slot the value that it has

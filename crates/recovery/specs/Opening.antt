@@ -10,11 +10,13 @@ use lib.Pow.{mod-pow-add}
 use borrow.Author.Tests.{ltb-false}
 use Rattle.base.specs.Pick.{pick, pick-if}
 use Rattle.base.specs.Bits.{bitOf, same, filled}
+use Rattle.base.specs.Same.{same-bit}
 use Rattle.rom.specs.Rom.{commandOf, commandBit, matchBit}
 use Rattle.rom.specs.declared.RomResult.{RomResult}
 use Rattle.rom.specs.declared.RomStep.the-variants.{Command, Match}
 use Rattle.chip.specs.With.{withRc, withLevel}
-use Rattle.chip.specs.Chip.{Whole, whole, levelOf, romSlot, levelTakes, takesOf, levelSends, sendsOf, resetChip, resetOf, outsideChip, outsideOf}
+use Rattle.chip.specs.Chip.{Whole, whole, levelOf, romSlot, takesOf, sendsOf, resetChip, resetOf, outsideChip, outsideOf}
+use Rattle.chip.specs.Level.{takes-in, sends-in}
 use Rattle.chip.specs.declared.Level.{Level}
 use Rattle.chip.specs.declared.Level.the-variants.{Waiting, Rom}
 use Rattle.recovery.specs.Sessions.{bitsFrom, opening}
@@ -44,19 +46,9 @@ Silent P (v ∷ vs) w = (ls : List ℕ) → (sendsOf (outsides ls w) ≡ true) �
 abbrev pub Waits : ℕ → Whole → Type 0
 Waits code w = (w .chip .code ≡ code → ⊥) → w .chip .level ≡ Waiting
 
--- what a chip sends at a level
-pub sends-at : (w : Whole) (l : Level) → w .chip .level ≡ l → sendsOf w ≡ levelSends w l
-unfolding sendsOf
-sends-at w l e = ap (levelSends w) e
-
--- what a slot does to a chip at a level
-takes-at : (w : Whole) (v : Bool) (l : Level) → w .chip .level ≡ l → takesOf v w ≡ levelTakes w v l
-unfolding takesOf
-takes-at w v l e = ap (levelTakes w v) e
-
 -- a slot does nothing to a chip that waits
 pub waiting-takes : (w : Whole) (v : Bool) → w .chip .level ≡ Waiting → takesOf v w ≡ w
-waiting-takes w v e = takes-at w v Waiting e
+waiting-takes w v e = takes-in w v Waiting e
 
 -- two numbers that have the same bit at a place
 bit-value : (a b p : ℕ) → bitOf a p ≡ bitOf b p → a / 2 ^ p % 2 ≡ b / 2 ^ p % 2
@@ -84,14 +76,6 @@ low-bits a b p e h =
     ∙ sym (mod-pow-add b 1 p)
     ∙ ap (λ (n : ℕ). b % 2 ^ n) (sym q)
 
--- bits that are the same are equal
-same-bit : (x y : Bool) → same x y ≡ true → x ≡ y
-unfolding same pick
-same-bit true true e = refl
-same-bit true false e = sym e
-same-bit false true e = e
-same-bit false false e = refl
-
 module _ (code : ℕ) where
   -- a chip that waits is silent
   waiting-silent : (bs : List Bool) (w : Whole) → w .chip .level ≡ Waiting → Silent (Waits code) bs w
@@ -99,7 +83,7 @@ module _ (code : ℕ) where
   waiting-silent (b ∷ bs) w e = λ ls.
       let u = outsides ls w in
       let f : u .chip .level ≡ Waiting = outsides-level ls w ∙ e in
-      (sends-at u Waiting f, rw (waiting-takes u b f) (waiting-silent bs u f))
+      (sends-in u Waiting f, rw (waiting-takes u b f) (waiting-silent bs u f))
 
   -- of a chip of the code nothing more is said
   own-silent : (bs : List Bool) (w : Whole) → w .chip .code ≡ code → bs ≡ [] → Silent (Waits code) bs w
@@ -140,7 +124,7 @@ module _ (code : ℕ) where
         let u = outsides ls w in
         let f : u .chip .level ≡ Rom (Match p) = outsides-level ls w ∙ q in
         let c = outsides-code ls w in
-        (sends-at u (Rom (Match p)) f, rw (takes-at u (bitOf code p) (Rom (Match p)) f) (match-bit k p u e (rw c h) (rw c s) (match-silent k (p + 1))))
+        (sends-in u (Rom (Match p)) f, rw (takes-in u (bitOf code p) (Rom (Match p)) f) (match-bit k p u e (rw c h) (rw c s) (match-silent k (p + 1))))
 
     -- a chip after a bit of the ROM command, and the bits of the opening from bit i of the command on
     abbrev heard : ℕ → ℕ → Bool → Whole → Whole
@@ -154,7 +138,7 @@ module _ (code : ℕ) where
     command-bit k b v vs w q h next = λ ls.
         let u = outsides ls w in
         let f : u .chip .level ≡ Rom (Command k b) = outsides-level ls w ∙ q in
-        (sends-at u (Rom (Command k b)) f, rw (takes-at u v (Rom (Command k b)) f) (next u (rw (outsides-code ls w) h)))
+        (sends-in u (Rom (Command k b)) f, rw (takes-in u v (Rom (Command k b)) f) (next u (rw (outsides-code ls w) h)))
 
     -- THEOREM: from a reset on, every chip is silent over the opening of a code, and all of other codes wait after it
     pub opening-silent : (w : Whole) → w .chip .code < 2 ^ 64 → Silent (Waits code) (opening code) (resetOf w)

@@ -10,7 +10,8 @@ use lib.ListN.{length, set, take, length-set, drop-of-length-le}
 use lib.Seq.{set-split, take-suc-set}
 use borrow.Author.Tests.{lt-ltb, le-ltb}
 use Rattle.base.specs.Pick.{pick}
-use Rattle.base.specs.Bits.{bitOf, same, filled}
+use Rattle.base.specs.Bits.{bitOf, filled}
+use Rattle.base.specs.Same.{same-own}
 use Rattle.crc.specs.Crc.{poly16, crcByte, crcOf}
 use Rattle.rom.specs.Rom.{commandOf, commandBit, matchBit}
 use Rattle.rom.specs.declared.RomStep.the-variants.{Command, Match}
@@ -64,12 +65,6 @@ goes-append : (xs ys : List Bool) (w u z : Whole) → Goes xs w u → Goes ys u 
 goes-append [] ys w u z e g = goes-from ys w u z e g
 goes-append (x ∷ xs) ys w u z (s, r) g = (s, goes-append xs ys (takesOf x w) u z r g)
 
--- a bit is the same as itself
-same-self : (b : Bool) → same b b ≡ true
-unfolding same pick
-same-self true = refl
-same-self false = refl
-
 -- the last data byte leads to the CRC-16
 after-last : (o crc : ℕ) → 31 ≤ o → afterByte o crc ≡ SendCrc 0 crc
 unfolding afterByte pick
@@ -107,12 +102,12 @@ module _ (c : Chip) (m : List ℕ) where
   -- a bit of its code
   own-bit : (p : ℕ) (r : Registers) (s : List ℕ) → p < 63 → takesOf (bitOf (c .code) p) (ec20 (Rom (Match p)) false r s) ≡ ec20 (Rom (Match (p + 1))) false r s
   unfolding takesOf romSlot matchBit pick
-  own-bit p r s h = simp (same-self, lt-ltb p 63 h)
+  own-bit p r s h = simp (same-own, lt-ltb p 63 h)
 
   -- the last bit of its code
   last-bit : (p : ℕ) (r : Registers) (s : List ℕ) → 63 ≤ p → takesOf (bitOf (c .code) p) (ec20 (Rom (Match p)) false r s) ≡ ec20 (FunctionCommand 0 0) true r s
   unfolding takesOf romSlot matchBit pick
-  last-bit p r s h = simp (same-self, le-ltb p 63 h)
+  last-bit p r s h = simp (same-own, le-ltb p 63 h)
 
   -- it sends nothing
   own-sends : (p : ℕ) (r : Registers) (s : List ℕ) → sendsOf (ec20 (Rom (Match p)) false r s) ≡ true

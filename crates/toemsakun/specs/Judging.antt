@@ -10,7 +10,7 @@ use lib.Seq.{take-length}
 use borrow.Author.Tests.{lt-leb}
 use Rattle.base.specs.Pick.{pick, pick-true, pick-false}
 use Rattle.base.specs.Bits.{both}
-use Rattle.base.specs.Both.{both-assoc}
+use Rattle.base.specs.Both.{both-assoc, true-both}
 use Rattle.chip.specs.declared.Chip.{Chip}
 use Rattle.line.specs.Event.{answered, outcome, verdictOf, tableInRange, Outcome, planIn, planBy, planOf, doneOf, eventOf}
 use Rattle.line.specs.Layout.{lent}
@@ -24,7 +24,6 @@ use Rattle.line.specs.declared.Plan.{Plan}
 use Rattle.line.specs.declared.Plan.the-variants as plan
 use Rattle.packed.specs.Packed.{recordSize, packed, unpacked, sameBytes, packedTable, unpackedFrom, unpackedTable, isTable}
 use Rattle.packed.specs.Laws.{from-length, table-is}
-use Rattle.packed.specs.Loops.{true-both}
 use Rattle.packed.specs.Filling.{one-chip, one-judged, table-judged}
 use Rattle.packed.specs.Places.{Table16}
 use Rattle.toemsakun.specs.Library.{minus, EventLeft, eventLeft, answerNumber, packedOutcome, eventBytes}

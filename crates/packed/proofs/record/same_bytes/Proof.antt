@@ -1,6 +1,7 @@
-use Rattle.packed.specs.Loops.{same-other, same-next, same-end, true-both}
+use Rattle.packed.specs.Loops.{same-other, same-next, same-end}
 use Rattle.packed.specs.Packed.{sameBytes}
 use Rattle.base.specs.Bits.{both}
+use Rattle.base.specs.Both.{true-both}
 use mathlib.Core.Path.{_≡_}
 use Prim.Native.Nat.{_≤_, _-_}
 use lib.ListN.{length, drop}
