@@ -1,128 +1,68 @@
-// The host: events put on the line, and bytes as runs of eight slots, least significant bit first.
+// The host at the terminal: what it does on a line, and what it writes out of that.
 use crate::text;
 use line::Answer;
+use line::Event;
 use line::Table;
 
-// What the host hears of an event, and the table that it leaves.
-pub struct Heard {
-    pub value: bool,
-    pub table: Table,
+// One thing that the host does: nothing, an event but for slots, eight slots that write a byte, a byte read, or a slot read.
+pub enum Action {
+    Rest,
+    Put(Event),
+    Write(u8),
+    // and whether it is written out
+    ReadByte(bool),
+    ReadSlot,
 }
 
-// A byte that the host read, and the table that is left.
-pub struct ReadByte {
-    pub byte: u8,
-    pub table: Table,
-}
-
-// The bit of an answer; a refusal carries none, and is written out.
-fn bit_heard(answer: Answer) -> bool {
+// Writes out a refusal, where an event was refused.
+fn say_refusal(answer: Answer) {
     match answer {
-        Answer::Bit(bit) => bit,
+        Answer::Bit(_) => {}
         Answer::Refused(r) => text::refused(line::number_of(r) as u64),
     }
 }
 
-// An event, with the chip and the levels that event 4 names.
-fn put_event(
-    table: Table,
-    number: u32,
-    chip: u32,
-    outside: u32,
-    images: &mut [u8],
-    pads: &mut [u8],
-) -> Heard {
-    let event = line::events::numbered(number, chip, outside);
+// An event; where it is refused, that is written out. A line that takes a reset or power on takes every slot too.
+fn put_event(table: Table, event: Event, images: &mut [u8], pads: &mut [u8]) -> Table {
     let happened = line::take_event(table, event, images, pads);
     let answer = happened.answer;
-    let left = happened.table;
-    let value = bit_heard(answer);
-    Heard {
-        value: value,
-        table: left,
-    }
+    say_refusal(answer);
+    happened.table
 }
 
-// Events 0 and 1: a slot in which the host writes a bit.
-fn slot(table: Table, bit: bool, images: &mut [u8], pads: &mut [u8]) -> Heard {
-    if bit {
-        return put_event(table, 1, 0, 0, images, pads);
-    }
-    put_event(table, 0, 0, 0, images, pads)
-}
-
-// Event 2: a reset.
-pub fn reset(table: Table, images: &mut [u8], pads: &mut [u8]) -> Table {
-    let heard = put_event(table, 2, 0, 0, images, pads);
-    heard.table
-}
-
-// Event 3: power on.
-pub fn power_on(table: Table, images: &mut [u8], pads: &mut [u8]) -> Table {
-    let heard = put_event(table, 3, 0, 0, images, pads);
-    heard.table
-}
-
-// Event 4: outside levels of one DS2413.
-pub fn set_outside(
-    table: Table,
-    chip: u32,
-    outside: u32,
-    images: &mut [u8],
-    pads: &mut [u8],
-) -> Table {
-    let heard = put_event(table, 4, chip, outside, images, pads);
-    heard.table
-}
-
-// Eight slots that write a byte.
-pub fn write_byte(table: Table, byte: u8, images: &mut [u8], pads: &mut [u8]) -> Table {
-    let mut current = table;
-    let mut place: u8 = 0;
-    while place < 8 {
-        let bit = base::bit_of(byte as u64, place);
-        let heard = slot(current, bit, images, pads);
-        current = heard.table;
-        place += 1;
-    }
-    current
-}
-
-// Eight read slots, and the byte that they make.
-fn read_byte(table: Table, images: &mut [u8], pads: &mut [u8]) -> ReadByte {
+// Eight read slots, and the byte that they make written out where it is to be shown.
+fn read_byte(table: Table, shown: bool, images: &mut [u8], pads: &mut [u8]) -> Table {
     let mut current = table;
     let mut byte: u8 = 0;
     let mut place: u8 = 0;
     while place < 8 {
-        let heard = slot(current, true, images, pads);
+        let heard = search::slot(current, true, images, pads);
         current = heard.table;
         byte = base::filled8(byte, heard.value);
         place += 1;
     }
-    ReadByte {
-        byte: byte,
-        table: current,
+    if shown {
+        text::say_byte(byte);
     }
-}
-
-// A byte read, and left out.
-pub fn skip_byte(table: Table, images: &mut [u8], pads: &mut [u8]) -> Table {
-    let read = read_byte(table, images, pads);
-    read.table
-}
-
-// A byte read, and written out.
-pub fn show_byte(table: Table, images: &mut [u8], pads: &mut [u8]) -> Table {
-    let read = read_byte(table, images, pads);
-    text::say_byte(read.byte);
-    read.table
+    current
 }
 
 // A slot read, and written out.
-pub fn show_slot(table: Table, images: &mut [u8], pads: &mut [u8]) -> Table {
-    let heard = slot(table, true, images, pads);
+fn read_slot(table: Table, images: &mut [u8], pads: &mut [u8]) -> Table {
+    let heard = search::slot(table, true, images, pads);
     text::say_bit(heard.value);
     heard.table
+}
+
+// What the host does, done on a line.
+pub fn act(table: Table, action: Action, images: &mut [u8], pads: &mut [u8]) -> Table {
+    match action {
+        Action::Rest => table,
+        Action::Put(event) => put_event(table, event, images, pads),
+        Action::Write(byte) => search::write_byte(table, byte, images, pads),
+        Action::ReadByte(shown) => read_byte(table, shown, images, pads),
+        Action::ReadSlot => read_slot(table, images, pads),
+    }
 }
 
 // A line set up from a card: images of FFh, then event 3.
@@ -134,5 +74,5 @@ pub fn set_up(card: &[u8], images: &mut [u8], pads: &mut [u8]) -> Table {
         return table;
     }
     base::fill(images, 0xFF);
-    power_on(table, images, pads)
+    put_event(table, line::events::power_on(), images, pads)
 }

@@ -17,19 +17,12 @@ fn say_codes(list: &[u64], listed: usize) {
     }
 }
 
-// The number of a search's refusal, 0 where it is complete.
-fn refusal_of(answer: SearchAnswer) -> u64 {
-    match answer {
-        SearchAnswer::Complete => 0,
-        SearchAnswer::TooFewPlaces => 4,
-        SearchAnswer::Refused(r) => line::number_of(r) as u64,
-    }
-}
-
 // Writes a search's refusal, where it was refused.
-fn say_refusal(number: u64) {
-    if number != 0 {
-        text::refused(number);
+fn say_refusal(answer: SearchAnswer) {
+    match answer {
+        SearchAnswer::Complete => {}
+        SearchAnswer::TooFewPlaces => text::refused(4),
+        SearchAnswer::Refused(r) => text::refused(line::number_of(r) as u64),
     }
 }
 
@@ -49,38 +42,23 @@ fn show_search(card: &[u8], list: &mut [u64], images: &mut [u8], pads: &mut [u8]
     let resets = found.resets;
     let slots = found.slots;
     say_codes(list, found.listed);
-    say_refusal(refusal_of(answer));
+    say_refusal(answer);
     say_counts(found.listed, resets, slots);
 }
 
-// Case 2: the four codes of document 002, with places for all of them.
-fn case_2(images: &mut [u8], pads: &mut [u8]) {
-    let mut list = [0u64; 16];
-    text::say(b"case 2: four chips, listed");
-    show_search(&cards::FOUR_CODES, &mut list, images, pads);
-}
-
-// Case 3: a line without chips.
-fn no_chips() {
-    let mut images = [0u8; 0];
-    let mut pads = [0u8; 0];
-    let mut list = [0u64; 16];
-    text::say(b"case 3: no chips, listed");
-    show_search(b"", &mut list, &mut images, &mut pads);
-}
-
-// Case 3: two places for the four codes.
-fn two_places(images: &mut [u8], pads: &mut [u8]) {
-    let mut list = [0u64; 2];
-    text::say(b"case 3: two places for four chips, listed");
-    show_search(&cards::FOUR_CODES, &mut list, images, pads);
-}
-
-// Cases 2 and 3.
+// Case 2, the four codes of document 002 with places for all of them, and case 3, a line without chips and then two places
+// for the four codes.
 pub fn cases_2_and_3() {
     let mut images = [0u8; 10496];
     let mut pads = [0u8; 128];
-    case_2(&mut images, &mut pads);
-    no_chips();
-    two_places(&mut images, &mut pads);
+    let mut no_images = [0u8; 0];
+    let mut no_pads = [0u8; 0];
+    let mut list = [0u64; 16];
+    let mut two_places = [0u64; 2];
+    text::say(b"case 2: four chips, listed");
+    show_search(&cards::FOUR_CODES, &mut list, &mut images, &mut pads);
+    text::say(b"case 3: no chips, listed");
+    show_search(b"", &mut list, &mut no_images, &mut no_pads);
+    text::say(b"case 3: two places for four chips, listed");
+    show_search(&cards::FOUR_CODES, &mut two_places, &mut images, &mut pads);
 }

@@ -1,11 +1,13 @@
-// A script: what the host types, between the words that the program writes. Five signs stand for what is put on the line:
+// A script: what the host types, between the words that the program writes. Six signs stand for what the host does:
 //   <CC 0F 06>  a reset, and then these bytes written, a ROM command first
 //   ?           a byte read, written out
 //   _           a byte read, and left out
 //   .           a slot read, written out
 //   !           power on
+//   ~           PIOA of the first chip held low outside
 // Every other character is written out as it is.
 use crate::host;
+use crate::host::Action;
 use crate::text;
 use line::Table;
 
@@ -58,59 +60,48 @@ fn after(typed: Typed, character: u8) -> Typed {
     }
 }
 
-// A character between < and >: the second digit of a byte has the byte written.
-fn type_inside(
-    table: Table,
-    first: u8,
-    character: u8,
-    images: &mut [u8],
-    pads: &mut [u8],
-) -> Table {
+// What a character between < and > asks for: the second digit of a byte has the byte written.
+fn asked_inside(first: u8, character: u8) -> Action {
     let second = digit_of(character);
     if first < 16 {
         if second < 16 {
-            return host::write_byte(table, first * 16 + second, images, pads);
+            return Action::Write(first * 16 + second);
         }
-        return table;
+        return Action::Rest;
     }
-    table
+    Action::Rest
 }
 
-// A character that is not between < and >: a sign, or part of the words.
-fn type_outside(table: Table, character: u8, images: &mut [u8], pads: &mut [u8]) -> Table {
+// What a character that is not between < and > asks for: what its sign stands for, or to be written out.
+fn asked_outside(character: u8) -> Action {
     if character == b'<' {
-        return host::reset(table, images, pads);
+        return Action::Put(line::events::reset());
     }
     if character == b'?' {
-        return host::show_byte(table, images, pads);
+        return Action::ReadByte(true);
     }
     if character == b'_' {
-        return host::skip_byte(table, images, pads);
+        return Action::ReadByte(false);
     }
     if character == b'.' {
-        return host::show_slot(table, images, pads);
+        return Action::ReadSlot;
     }
     if character == b'!' {
-        return host::power_on(table, images, pads);
+        return Action::Put(line::events::power_on());
     }
-    if character != b'>' {
-        text::say(&[character]);
+    if character == b'~' {
+        return Action::Put(line::events::outside(0, 2));
     }
-    table
+    text::say(&[character]);
+    Action::Rest
 }
 
-// One character of a script.
-fn type_character(
-    table: Table,
-    typed: Typed,
-    character: u8,
-    images: &mut [u8],
-    pads: &mut [u8],
-) -> Table {
+// What a character of a script asks for.
+fn asked(typed: Typed, character: u8) -> Action {
     if typed.inside {
-        return type_inside(table, typed.first, character, images, pads);
+        return asked_inside(typed.first, character);
     }
-    type_outside(table, character, images, pads)
+    asked_outside(character)
 }
 
 // A script, played on a line.
@@ -123,7 +114,8 @@ pub fn play(table: Table, script: &[u8], images: &mut [u8], pads: &mut [u8]) -> 
     let mut i: usize = 0;
     while i < script.len() {
         let character = script[i];
-        current = type_character(current, typed, character, images, pads);
+        let action = asked(typed, character);
+        current = host::act(current, action, images, pads);
         typed = after(typed, character);
         i += 1;
     }

@@ -6,11 +6,10 @@ pub fn say(words: &[u8]) {
     io::write_all(STDOUT_FILENO, words);
 }
 
-// Writes that something was refused, with the refusal's number, and answers true.
-pub fn refused(number: u64) -> bool {
+// Writes that something was refused, with the refusal's number.
+pub fn refused(number: u64) {
     say(b", refused ");
     io::print_decimal(STDOUT_FILENO, number);
-    true
 }
 
 // A hexadecimal digit in capitals.

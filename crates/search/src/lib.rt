@@ -1,6 +1,9 @@
 // The host's search: it lists the codes of the line in branch order, by the answers to its events alone.
 mod host;
 
+pub use host::Heard;
+pub use host::slot;
+pub use host::write_byte;
 use line::Refusal;
 use line::Table;
 use line::Verdict;

@@ -7,7 +7,8 @@ use Rattle.bench.proofs.script.play.Tie as tie
 use Rattle.bench.proofs.script.play.Reads as reads
 use Rattle.bench.proofs.script.play.Lts as lts
 use Rattle.bench.proofs.script.after.Reads as after-reads
-use Rattle.bench.proofs.script.type_character.Reads as type-character-reads
+use Rattle.bench.proofs.script.asked.Reads as asked-reads
+use Rattle.bench.proofs.host.act.Reads as act-reads
 
 abbrev Inv-loop : tie.InvT-loop
 Inv-loop script images₀ pads₀ current₀ typed₀ i₀ images pads current typed i = (i ≤ length script) × (length images ≡ length images₀) × (length pads ≡ length pads₀)
@@ -24,8 +25,12 @@ shared-slice-read-character : tie.Need-shared-slice-read-character Inv-loop μ-l
 shared-slice-read-character c = search needs
 
 -- src/script.rt:126:9
-type-character-requires : tie.Need-type-character-requires Inv-loop μ-loop
-type-character-requires c κs = search needs
+asked-requires : tie.Need-asked-requires Inv-loop μ-loop
+asked-requires c κs = search needs
+
+-- src/script.rt:126:9
+act-requires : tie.Need-act-requires Inv-loop μ-loop
+act-requires c κs = search needs
 
 -- src/script.rt:127:9
 after-requires : tie.Need-after-requires Inv-loop μ-loop
@@ -63,7 +68,8 @@ play-spec =
     μ-loop
     loop-holds
     shared-slice-read-character
-    type-character-requires
+    asked-requires
+    act-requires
     after-requires
     add-i
     loop-less
