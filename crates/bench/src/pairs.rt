@@ -6,10 +6,9 @@ use line::Table;
 
 // RC is kept over a reset, so that Resume chooses the chip of the last Match ROM, and no chip after Skip ROM, by which both
 // send together.
-fn resume(images: &mut [u8], pads: &mut [u8]) -> Table {
-    let line = host::set_up(&cards::TWO_MEMORIES, images, pads);
-    script::play(
-        line,
+fn resume(images: &mut [u8], pads: &mut [u8]) {
+    script::run(
+        &cards::TWO_MEMORIES,
         b"resume: first of two, write 0000 3C<55 43 01 00 00 00 00 00 B7 0F 00 00 3C>, \
         copy 00 00 00 answers<A5 55 00 00 00>...., memory 0000<A5 F0 00 00>?\n\
         resume: second, write 0000 5A<55 43 02 00 00 00 00 00 EE 0F 00 00 5A>, \
@@ -19,7 +18,7 @@ fn resume(images: &mut [u8], pads: &mut [u8]) -> Table {
         resume: Skip ROM, memory 0000<CC F0 00 00>?, Resume, memory 0000<A5 F0 00 00>?\n",
         images,
         pads,
-    )
+    );
 }
 
 // The first chip of one table, and the second of another.
@@ -31,13 +30,25 @@ fn mixed(first: Table, second: Table) -> Table {
     Table { n: 2, chips: chips }
 }
 
-// The second chip takes what the first sends, not the host's FFh, on a table that a caller may lend and that chips reset
-// together never come to: the first chip as Read Memory leaves it, the second as Write Scratchpad does.
-fn slot_value(table: Table, images: &mut [u8], pads: &mut [u8]) {
-    let sending = script::play(table, b"<CC F0 00 00>", images, pads);
+// A table that a caller may lend and that chips reset together never come to: the first chip, with 3C in its memory, as Read
+// Memory leaves it, the second as Write Scratchpad does.
+fn one_sends(images: &mut [u8], pads: &mut [u8]) -> Table {
+    let line = host::set_up(&cards::TWO_MEMORIES, images, pads);
+    let sending = script::play(
+        line,
+        b"<55 43 01 00 00 00 00 00 B7 0F 00 00 3C><A5 55 00 00 00><CC F0 00 00>",
+        images,
+        pads,
+    );
     let taking = script::play(sending, b"<CC 0F 00 00>", images, pads);
+    mixed(sending, taking)
+}
+
+// The second chip takes what the first sends, not the host's FFh.
+fn slot_value(images: &mut [u8], pads: &mut [u8]) {
+    let line = one_sends(images, pads);
     script::play(
-        mixed(sending, taking),
+        line,
         b"slot value: first sends, second takes, host FF, line?, \
         second, E/S<55 43 02 00 00 00 00 00 EE AA>__?, scratchpad?\n",
         images,
@@ -49,6 +60,6 @@ fn slot_value(table: Table, images: &mut [u8], pads: &mut [u8]) {
 pub fn two_memories() {
     let mut images = [0u8; 5248];
     let mut pads = [0u8; 64];
-    let line = resume(&mut images, &mut pads);
-    slot_value(line, &mut images, &mut pads);
+    resume(&mut images, &mut pads);
+    slot_value(&mut images, &mut pads);
 }
