@@ -9,7 +9,8 @@
 //   status 0F                        PIO Access Read: the byte that the DS2413 sent
 //   switch FE 01 answers AA 3C       PIO Access Write: the pair that the host wrote, and the two bytes that it read after it
 // The label, what the host wrote and the addresses are words of the script; all else was computed, or read on the line.
-// An event or a card that is refused writes `refused` and the refusal's number where it happened.
+// A card, a reset, a power on or outside levels that are refused write `refused` and the refusal's number where it happened.
+// A slot is never refused where a reset or a power on was not.
 mod cards;
 mod host;
 mod listing;
