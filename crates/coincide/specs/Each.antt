@@ -1,7 +1,7 @@
 -- For each public function whose contract is `r ≡ definition`: two answers that it permits for one input are equal.
 use Prim.Native.Nat.{ℕ, _%_}
 use mathlib.Core.Bool.{Bool}
-use mathlib.Core.List.{List}
+use mathlib.Core.List.{List, [], _∷_}
 use mathlib.Core.Path.{_≡_}
 use lib.ListN.{length, getD, set, replicate}
 use Rattle.card.specs.declared.CardAnswer.{CardAnswer}
@@ -404,8 +404,11 @@ chip-pad-size kind = one-answer (padSize kind)
 
 -- records
 
-pub records-pair-at : (s : List ℕ) (at : ℕ) → Settled (numberAt s at 2)
-records-pair-at s at = one-answer (numberAt s at 2)
+pub records-pair : (low high : ℕ) → Settled (numberAt (low ∷ high ∷ []) 0 2)
+records-pair low high = one-answer (numberAt (low ∷ high ∷ []) 0 2)
+
+pub records-code : (b0 b1 b2 b3 b4 b5 b6 b7 : ℕ) → Settled (numberAt (b0 ∷ b1 ∷ b2 ∷ b3 ∷ b4 ∷ b5 ∷ b6 ∷ b7 ∷ []) 0 8)
+records-code b0 b1 b2 b3 b4 b5 b6 b7 = one-answer (numberAt (b0 ∷ b1 ∷ b2 ∷ b3 ∷ b4 ∷ b5 ∷ b6 ∷ b7 ∷ []) 0 8)
 
 pub records-code-at : (s : List ℕ) (at : ℕ) → Settled (numberAt s at 8)
 records-code-at s at = one-answer (numberAt s at 8)

@@ -6,8 +6,9 @@ use chip::Chip;
 use ds2413::Switch;
 use scratchpad::Registers;
 ghost use mathlib.Core.Path.{_≡_};
-ghost use Prim.Native.Nat.{_≤_};
-ghost use lib.ListN.{length};
+ghost use Prim.Native.Nat.{_<_, _≤_};
+ghost use lib.ListN.{length, getD};
+ghost use Rattle.records.specs.Numbers.{numberAt};
 ghost use Rattle.packed.specs.Packed.{recordSize, stepAt, packedWith, packed, unpacked, sameBytes, putRecord};
 
 // The bytes of a chip's record, by the step that its level is.
@@ -59,12 +60,36 @@ pub fn pack(c: Chip) -> [u8; RECORD_SIZE]
     bytes_of(c, s)
 }
 
+// The byte at a place.
+fn byte(s: &[u8], k: usize) -> u8
+    requires { ⌜ k < length (now s) ⌝ }
+    ensures { λ r. ⌜ r ≡ getD (now (s .entry)) k 0 ⌝ }
+{
+    s[k]
+}
+
+// The code that a record begins with, read without a test.
+fn code_of(s: &[u8]) -> u64
+    requires { ⌜ recordSize ≤ length (now s) ⌝ }
+    ensures { λ r. ⌜ r ≡ numberAt (now (s .entry)) 0 8 ⌝ }
+{
+    let b0 = byte(s, 0);
+    let b1 = byte(s, 1);
+    let b2 = byte(s, 2);
+    let b3 = byte(s, 3);
+    let b4 = byte(s, 4);
+    let b5 = byte(s, 5);
+    let b6 = byte(s, 6);
+    let b7 = byte(s, 7);
+    records::code(b0, b1, b2, b3, b4, b5, b6, b7)
+}
+
 // The step that a record names.
 fn step_of(s: &[u8]) -> Step
     requires { ⌜ recordSize ≤ length (now s) ⌝ }
     ensures { λ r. ⌜ r ≡ stepAt (now (s .entry)) ⌝ }
 {
-    let w = records::pair_at(s, 16);
+    let w = records::pair(s[16], s[17]);
     Step {
         number: s[15],
         w: w,
@@ -79,8 +104,8 @@ fn unpack_whole(s: &[u8]) -> Chip
     requires { ⌜ recordSize ≤ length (now s) ⌝ }
     ensures { λ r. ⌜ r ≡ unpacked (now (s .entry)) ⌝ }
 {
-    let code = records::code_at(s, 0);
-    let t = records::pair_at(s, 10);
+    let code = code_of(s);
+    let t = records::pair(s[10], s[11]);
     let step = step_of(s);
     let level = level::unpack_level(step);
     let registers = Registers { t: t, es: s[12] };

@@ -1,4 +1,5 @@
 // Records, length first: their heads, whatever their kinds.
+ghost use mathlib.Core.List.{[], _∷_};
 ghost use mathlib.Core.Path.{_≡_};
 ghost use Prim.Native.Nat.{_+_};
 ghost use lib.ListN.{getD};
@@ -38,13 +39,30 @@ fn byte_past(s: &[u8], at: usize, k: usize) -> u8
     0
 }
 
+// The number of two bytes.
+pub fn pair(low: u8, high: u8) -> u16
+    ensures { λ r. ⌜ r ≡ numberAt (low ∷ high ∷ []) 0 2 ⌝ }
+{
+    (low as u16) + 256 * (high as u16)
+}
+
+// The number of eight bytes.
+pub fn code(b0: u8, b1: u8, b2: u8, b3: u8, b4: u8, b5: u8, b6: u8, b7: u8) -> u64
+    ensures { λ r. ⌜ r ≡ numberAt (b0 ∷ b1 ∷ b2 ∷ b3 ∷ b4 ∷ b5 ∷ b6 ∷ b7 ∷ []) 0 8 ⌝ }
+{
+    let top = (b6 as u64) + 256 * (b7 as u64);
+    let upper = (b4 as u64) + 256 * ((b5 as u64) + 256 * top);
+    let lower = (b2 as u64) + 256 * ((b3 as u64) + 256 * upper);
+    (b0 as u64) + 256 * ((b1 as u64) + 256 * lower)
+}
+
 // The number of the two bytes from an offset on.
-pub fn pair_at(s: &[u8], at: usize) -> u16
+fn pair_at(s: &[u8], at: usize) -> u16
     ensures { λ r. ⌜ r ≡ numberAt (now (s .entry)) at 2 ⌝ }
 {
     let low = byte_past(s, at, 0);
     let high = byte_past(s, at, 1);
-    (low as u16) + 256 * (high as u16)
+    pair(low, high)
 }
 
 // The number of the eight bytes from an offset on.
@@ -59,10 +77,7 @@ pub fn code_at(s: &[u8], at: usize) -> u64
     let b5 = byte_past(s, at, 5);
     let b6 = byte_past(s, at, 6);
     let b7 = byte_past(s, at, 7);
-    let top = (b6 as u64) + 256 * (b7 as u64);
-    let upper = (b4 as u64) + 256 * ((b5 as u64) + 256 * top);
-    let lower = (b2 as u64) + 256 * ((b3 as u64) + 256 * upper);
-    (b0 as u64) + 256 * ((b1 as u64) + 256 * lower)
+    code(b0, b1, b2, b3, b4, b5, b6, b7)
 }
 
 // The head of the record at an offset.

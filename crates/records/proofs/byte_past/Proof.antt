@@ -7,27 +7,27 @@ use Rattle.records.proofs.byte_past.Tie as tie
 use Rattle.records.proofs.byte_past.Reads as reads
 use Rattle.records.proofs.byte_past.Lts as lts
 
--- src/lib.rt:33:16
+-- src/lib.rt:34:16
 sub-if2 : tie.Need-sub-if2
 sub-if2 c = search needs
 
--- src/lib.rt:34:22
+-- src/lib.rt:35:22
 add-result : tie.Need-add-result
 add-result c = search needs
 
--- src/lib.rt:34:20
+-- src/lib.rt:35:20
 shared-slice-read-result : tie.Need-shared-slice-read-result
 shared-slice-read-result c = search needs
 
--- src/lib.rt:34:13
+-- src/lib.rt:35:13
 returns : tie.Need-returns
 returns c = search needs
 
--- src/lib.rt:36:9
+-- src/lib.rt:37:9
 returns-2 : tie.Need-returns-2
 returns-2 c = let a = c .before .before .args in sym (List·getD-eq-default (now (a .s)) 0 (search needs))
 
--- src/lib.rt:29:1
+-- src/lib.rt:30:1
 returns-3 : tie.Need-returns-3
 returns-3 c = let a = c .before .args in sym (List·getD-eq-default (now (a .s)) 0 (search needs))
 

@@ -6,19 +6,19 @@ use Rattle.packed.proofs.record.is_packed.Lts as lts
 use Rattle.packed.proofs.record.pack.Reads as pack-reads
 use Rattle.packed.proofs.record.same_bytes.Reads as same-bytes-reads
 
--- src/record.rt:133:13
+-- src/record.rt:158:13
 pack-requires : tie.Need-pack-requires
 pack-requires c κs = search needs
 
--- src/record.rt:134:16
+-- src/record.rt:159:16
 slice-aggregate-same-bytes : tie.Need-slice-aggregate-same-bytes
 slice-aggregate-same-bytes c = search needs
 
--- src/record.rt:134:5
+-- src/record.rt:159:5
 same-bytes-requires : tie.Need-same-bytes-requires
 same-bytes-requires c κs = search needs
 
--- src/record.rt:130:1
+-- src/record.rt:155:1
 returns : tie.Need-returns
 returns c = cc
 

@@ -18,39 +18,39 @@ Inv-loop a b same₀ i₀ same i = (i ≤ length a) × (length a ≡ length b) �
 abbrev μ-loop : tie.MeasureT-loop
 μ-loop a b same₀ i₀ same i = length a - i
 
--- src/record.rt:118:9
+-- src/record.rt:143:9
 returns : tie.Need-returns Inv-loop μ-loop
 returns c = same-other _ _ (c .if1 .taken)
 
--- src/record.rt:122:5
+-- src/record.rt:147:5
 loop-holds : tie.Need-loop-holds Inv-loop μ-loop
 loop-holds c = (search needs, search needs, true-both _)
 
--- src/record.rt:123:37
+-- src/record.rt:148:37
 shared-slice-read-are-both : tie.Need-shared-slice-read-are-both Inv-loop μ-loop
 shared-slice-read-are-both c = search needs
 
--- src/record.rt:123:45
+-- src/record.rt:148:45
 shared-slice-read-are-both-2 : tie.Need-shared-slice-read-are-both-2 Inv-loop μ-loop
 shared-slice-read-are-both-2 c = search needs
 
--- src/record.rt:123:9
+-- src/record.rt:148:9
 are-both-requires : tie.Need-are-both-requires Inv-loop μ-loop
 are-both-requires c κs = search needs
 
--- src/record.rt:124:9
+-- src/record.rt:149:9
 add-i : tie.Need-add-i Inv-loop μ-loop
 add-i c = search needs
 
--- src/record.rt:122:5
+-- src/record.rt:147:5
 loop-less : tie.Need-loop-less Inv-loop μ-loop
 loop-less c = search needs
 
--- src/record.rt:122:5
+-- src/record.rt:147:5
 loop-again : tie.Need-loop-again Inv-loop μ-loop
 loop-again c = let s = c .before .before .before .before .before .before .before .before .args in let l = c .before .before .before .before .loop in (search needs, search needs, same-next (s .a .now) (s .b .now) (l .i) (l .same) _ (c .are-both .result) (c .before .before .before .loop-test .taken) (l .inv .1) (l .inv .2) (c .are-both .ensures))
 
--- src/record.rt:114:1
+-- src/record.rt:139:1
 returns-2 : tie.Need-returns-2 Inv-loop μ-loop
 returns-2 c = let s = c .before .before .before .before .before .args in let l = c .before .loop in same-end (s .a .now) (s .b .now) (l .i) (l .same) _ (c .loop-test .left) (l .inv .1) (l .inv .2)
 

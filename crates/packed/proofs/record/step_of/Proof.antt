@@ -4,29 +4,37 @@ use Rattle.packed.proofs.record.step_of.Statement.{statement}
 use Rattle.packed.proofs.record.step_of.Tie as tie
 use Rattle.packed.proofs.record.step_of.Reads as reads
 use Rattle.packed.proofs.record.step_of.Lts as lts
-use Rattle.records.proofs.pair_at.Reads as pair-at-reads
+use Rattle.records.proofs.pair.Reads as pair-reads
 
--- src/record.rt:67:9
-pair-at-requires : tie.Need-pair-at-requires
-pair-at-requires c κs = search needs
+-- src/record.rt:92:18
+shared-slice-read-pair : tie.Need-shared-slice-read-pair
+shared-slice-read-pair c = search needs
 
--- src/record.rt:69:17
+-- src/record.rt:92:25
+shared-slice-read-pair-2 : tie.Need-shared-slice-read-pair-2
+shared-slice-read-pair-2 c = search needs
+
+-- src/record.rt:92:9
+pair-requires : tie.Need-pair-requires
+pair-requires c κs = search needs
+
+-- src/record.rt:94:17
 shared-slice-read-t4 : tie.Need-shared-slice-read-t4
 shared-slice-read-t4 c = search needs
 
--- src/record.rt:71:12
+-- src/record.rt:96:12
 shared-slice-read-t6 : tie.Need-shared-slice-read-t6
 shared-slice-read-t6 c = search needs
 
--- src/record.rt:72:12
-shared-slice-read-t8 : tie.Need-shared-slice-read-t8
-shared-slice-read-t8 c = search needs
-
--- src/record.rt:73:12
+-- src/record.rt:97:12
 shared-slice-read-t10 : tie.Need-shared-slice-read-t10
 shared-slice-read-t10 c = search needs
 
--- src/record.rt:63:1
+-- src/record.rt:98:12
+shared-slice-read-t12 : tie.Need-shared-slice-read-t12
+shared-slice-read-t12 c = search needs
+
+-- src/record.rt:88:1
 returns : tie.Need-returns
 returns c = cc
 
@@ -34,9 +42,11 @@ pub step-of-spec : {M : Type 1} → statement M
 step-of-spec =
     tie.close
     (tie.spec
-    pair-at-requires
+    shared-slice-read-pair
+    shared-slice-read-pair-2
+    pair-requires
     shared-slice-read-t4
     shared-slice-read-t6
-    shared-slice-read-t8
     shared-slice-read-t10
+    shared-slice-read-t12
     returns)

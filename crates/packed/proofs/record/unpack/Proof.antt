@@ -8,31 +8,31 @@ use Rattle.packed.proofs.record.unpack.Lts as lts
 use Rattle.bytes.proofs.copy.Reads as copy-reads
 use Rattle.packed.proofs.record.unpack_whole.Reads as unpack-whole-reads
 
--- src/record.rt:106:9
+-- src/record.rt:131:9
 unpack-whole-requires : tie.Need-unpack-whole-requires
 unpack-whole-requires c κs = search needs
 
--- src/record.rt:106:9
+-- src/record.rt:131:9
 returns : tie.Need-returns
 returns c = search needs
 
--- src/record.rt:109:20
+-- src/record.rt:134:20
 slice-aggregate-copy : tie.Need-slice-aggregate-copy
 slice-aggregate-copy c = search needs
 
--- src/record.rt:109:5
+-- src/record.rt:134:5
 copy-requires : tie.Need-copy-requires
 copy-requires c κs = search needs
 
--- src/record.rt:110:18
+-- src/record.rt:135:18
 slice-aggregate-unpack-whole : tie.Need-slice-aggregate-unpack-whole
 slice-aggregate-unpack-whole c = search needs
 
--- src/record.rt:110:5
+-- src/record.rt:135:5
 unpack-whole-requires-2 : tie.Need-unpack-whole-requires-2
 unpack-whole-requires-2 c κs = search needs
 
--- src/record.rt:102:1
+-- src/record.rt:127:1
 returns-2 : tie.Need-returns-2
 returns-2 c = c .unpack-whole2 .ensures ∙ zeros-unpacked _ _ (c .before .before .before .copy .ensures .1)
 
