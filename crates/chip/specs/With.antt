@@ -21,6 +21,9 @@ newChip code kind r w = chip code kind false Waiting r w
 abbrev pub noChip : Chip
 noChip = newChip 0 0 (registers 0 0) (switch 0 0)
 
+abbrev pub withKind : ℕ → Chip → Chip
+withKind kind c = chip (c .code) kind (c .rc) (c .level) (c .registers) (c .switch)
+
 abbrev pub withRc : Bool → Chip → Chip
 withRc rc c = chip (c .code) (c .kind) rc (c .level) (c .registers) (c .switch)
 

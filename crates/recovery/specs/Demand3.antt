@@ -39,5 +39,5 @@ demand-3 i L s start left right p q t bytes g =
     ∙ ap (λ (M : List Whole). at i M .memory) (sym (run-append start right L)) in
     same-memory i (run (start ++ left) L) (run (start ++ right) L) (installed-run i (start ++ left) L s) (installed-run i (start ++ right) L s)
     (at i L .chip .code) t bytes g (k .code) (n .code)
-    (k .pins (s .good) (s .kind) ∙ sym (n .pins (s .good) (s .kind)))
+    (k .rest (s .good) (s .kind) ∙ sym (n .rest (s .good) (s .kind)))
     memory (run-kinds (start ++ left) L ∙ sym (run-kinds (start ++ right) L))

@@ -6,7 +6,7 @@ use Rattle.chip.specs.Chip.{Whole}
 use Rattle.line.specs.declared.Event.{Event}
 use Rattle.histories.specs.Histories.{at, afterOf, run, answers}
 use Rattle.recovery.specs.Sessions.{Addressed, write, Page}
-use Rattle.recovery.specs.Stays.{kindsOf, run-kinds}
+use Rattle.recovery.specs.Stays.{bare, kindsOf, run-kinds}
 use Rattle.recovery.specs.Among.{among-at, ownRun, ownAnswers, alone, alone-answers}
 use Rattle.recovery.specs.Written.{writtenTo}
 use Rattle.recovery.specs.Installed.{Installed}
@@ -20,9 +20,9 @@ pub record Recovered (i code : ℕ) (again : List Event) (A B : List Whole) : Ty
   pub answers-on : (rest : List Event) → Addressed code [] rest → answers rest (run again A) ≡ answers rest (run again B)
   pub state-on : (rest : List Event) → Addressed code [] rest → at i (run rest (run again A)) ≡ at i (run rest (run again B))
 
--- two lines on which chip i has one code, one kind, the same latches and levels and the same memory, and all kinds are the same
+-- two lines on which chip i has one code, the same record but for what a session sets, and the same memory, and all kinds are the same
 module _ (i : ℕ) (A B : List Whole) (a : Installed i A) (b : Installed i B) (code t : ℕ) (bytes : List ℕ) (g : Page t bytes)
-    (p : at i A .chip .code ≡ code) (q : at i B .chip .code ≡ code) (pins : at i A .chip .switch ≡ at i B .chip .switch)
+    (p : at i A .chip .code ≡ code) (q : at i B .chip .code ≡ code) (same : bare (at i A .chip) ≡ bare (at i B .chip))
     (memory : at i A .memory ≡ at i B .memory) (kinds : kindsOf A ≡ kindsOf B) where
   -- the write
   abbrev again : List Event
@@ -30,7 +30,7 @@ module _ (i : ℕ) (A B : List Whole) (a : Installed i A) (b : Installed i B) (c
 
   -- the state that both come to
   one : writtenTo (at i A) t bytes ≡ writtenTo (at i B) t bytes
-  one = written-same (at i A) (at i B) t bytes (p ∙ sym q) (a .kind ∙ sym (b .kind)) pins memory
+  one = written-same (at i A) (at i B) t bytes same memory
 
   -- both lines are of the same kinds after it
   one-kinds : kindsOf (run again A) ≡ kindsOf (run again B)

@@ -22,7 +22,7 @@ use Rattle.histories.specs.Histories.{at, answerOf, afterOf, run, answers}
 use Rattle.line.specs.declared.Plan.{Plan}
 use Rattle.line.specs.declared.Plan.the-variants as plan
 use Rattle.recovery.specs.Sessions.{opening, toCome, Addressed, slots, writeBits, write, Page}
-use Rattle.recovery.specs.Stays.{kindsOf}
+use Rattle.recovery.specs.Stays.{bare, kindsOf}
 use Rattle.recovery.specs.Among.{Own, Among, ownAfter, ownRun, planAmong, ownAnswer, ownAnswers, toComes, both-one, alone, alone-answers}
 use Rattle.recovery.specs.Written.{ruled, writtenTo, Goes, goes-from, goes-to, ofKind, ec20, goes-written}
 use Rattle.recovery.specs.Installed.{Installed, codes-at, reset-among, reset-own}
@@ -98,11 +98,9 @@ module _ (w : Whole) (e : w .chip .kind ≡ 1) where
   pad-size = rw e
 
 -- the write depends on these alone
-pub written-same : (w u : Whole) (t : ℕ) (bytes : List ℕ) → w .chip .code ≡ u .chip .code → w .chip .kind ≡ u .chip .kind → w .chip .switch ≡ u .chip .switch → w .memory ≡ u .memory
-    → writtenTo w t bytes ≡ writtenTo u t bytes
+pub written-same : (w u : Whole) (t : ℕ) (bytes : List ℕ) → bare (w .chip) ≡ bare (u .chip) → w .memory ≡ u .memory → writtenTo w t bytes ≡ writtenTo u t bytes
 unfolding writtenTo
-written-same w u t bytes p q r m =
-    λ j. whole (record { code = p j; kind = q j; rc = true; level = Memory (SendCrc 0 (crcOf poly16 0 (0x0F ∷ t % 256 ∷ t / 256 ∷ bytes))); registers = registers t 0x1F; switch = r j }) (m j) (ruled (m j) t bytes)
+written-same w u t bytes e m = λ j. writtenTo (whole (e j) (m j) []) t bytes
 
 module _ (i : ℕ) (L : List Whole) (s : Installed i L) (code : ℕ) (e : at i L .chip .code ≡ code) (t : ℕ) (bytes : List ℕ) (g : Page t bytes) where
   -- the bits after the reset

@@ -1,4 +1,4 @@
--- What no event changes: a chip's code and kind, its good standing, and the latches and levels of a DS28EC20.
+-- What no event changes: a chip's code and kind, its good standing, and all of a DS28EC20's record that a session does not set.
 use Prim.Native.Nat.{ℕ, suc, _≤_}
 use native.Mathlib.Omega.{arith}
 use mathlib.Core.Bool.{Bool, true, false, true≢false}
@@ -10,7 +10,10 @@ use borrow.Author.Tests.{eqb-true}
 use Rattle.base.specs.Pick.{pick-false, pick-both, pick-if}
 use Rattle.base.specs.Both.{both-holds}
 use Rattle.ds2413.specs.Switch.{phaseInRange}
+use Rattle.ds2413.specs.declared.Switch.{Switch}
+use Rattle.scratchpad.specs.Registers.{registers}
 use Rattle.chip.specs.Kinds.{hasSwitch, takesOutside}
+use Rattle.chip.specs.With.{withRc, withLevel, withRegisters, withSwitch}
 use Rattle.chip.specs.declared.ChipAfter.{ChipAfter}
 use Rattle.chip.specs.Chip.{Whole, romSlot, functionIn, functionSlot, memorySlot, levelTakes, takesOf, resetChip, resetOf, powerOnChip, powerOnOf, outsideOf}
 use Rattle.chip.specs.Range.{levelInRange}
@@ -25,16 +28,20 @@ use Rattle.histories.specs.Histories.{at, run, codesOf}
 use Rattle.histories.specs.Keeps.{Good, act-good, act-named, outside-good, outside-named}
 use Rattle.histories.specs.Kept.{Each, each-at, each-map, run-kept}
 
+-- a chip's record without what a session sets: its level, RC, T and E/S
+abbrev pub bare : Chip → Chip
+bare c = withLevel Waiting (withRc false (withRegisters (registers 0 0) c))
+
 -- from a chip to the same chip later
 pub record Stays (w u : Whole) : Type 0 where
   pub code : u .chip .code ≡ w .chip .code
   pub kind : u .chip .kind ≡ w .chip .kind
   pub good : Good w → Good u
-  pub pins : Good w → w .chip .kind ≡ 1 → u .chip .switch ≡ w .chip .switch
+  pub rest : Good w → w .chip .kind ≡ 1 → bare (u .chip) ≡ bare (w .chip)
 
 -- a chip stays what it is
 stays-same : (w : Whole) → Stays w w
-stays-same w = record { code = refl; kind = refl; good = λ g. g; pins = λ g e. refl }
+stays-same w = record { code = refl; kind = refl; good = λ g. g; rest = λ g e. refl }
 
 -- and from one time to the next
 stays-onto : (w u x : Whole) → Stays w u → Stays u x → Stays w x
@@ -43,7 +50,7 @@ stays-onto w u x p q =
       code = q .code ∙ p .code;
       kind = q .kind ∙ p .kind;
       good = λ g. q .good (p .good g);
-      pins = λ g e. q .pins (p .good g) (p .kind ∙ e) ∙ p .pins g e;
+      rest = λ g e. q .rest (p .good g) (p .kind ∙ e) ∙ p .rest g e;
     }
 
 -- a DS28EC20 has no latches
@@ -56,37 +63,37 @@ pub not-both : (k : ℕ) → k ≡ 1 → takesOutside k ≡ true → ⊥
 unfolding takesOutside
 not-both k e f = no-switch k e f
 
--- a function command leaves the latches and levels of a DS28EC20
-function-pins : (c : Chip) (b : ℕ) → c .kind ≡ 1 → functionIn c b .chip .switch ≡ c .switch
+-- a function command leaves the rest of a DS28EC20
+function-rest : (c : Chip) (b : ℕ) → c .kind ≡ 1 → bare (functionIn c b .chip) ≡ bare c
 unfolding functionIn
-function-pins c b e =
-    pick-both (λ (t : ChipAfter). t .chip .switch ≡ c .switch) _ _ _ refl
-    (pick-if (λ (t : ChipAfter). t .chip .switch ≡ c .switch) _ _ _ (λ f. absurd (no-switch (c .kind) e f)) (λ f. refl))
+function-rest c b e =
+    pick-both (λ (t : ChipAfter). bare (t .chip) ≡ bare c) _ _ _ refl
+    (pick-if (λ (t : ChipAfter). bare (t .chip) ≡ bare c) _ _ _ (λ f. absurd (no-switch (c .kind) e f)) (λ f. refl))
 
--- a slot leaves the latches and levels of a DS28EC20
-level-pins : (w : Whole) (v : Bool) (l : Level) → levelInRange (w .chip .kind) l ≡ true → w .chip .kind ≡ 1 → levelTakes w v l .chip .switch ≡ w .chip .switch
+-- a slot leaves the rest of a DS28EC20
+level-rest : (w : Whole) (v : Bool) (l : Level) → levelInRange (w .chip .kind) l ≡ true → w .chip .kind ≡ 1 → bare (levelTakes w v l .chip) ≡ bare (w .chip)
 unfolding romSlot functionSlot memorySlot
-level-pins w v Waiting h e = refl
-level-pins w v (Rom s) h e = refl
-level-pins w v (FunctionCommand count bits) h e = pick-both (λ (t : ChipAfter). t .chip .switch ≡ w .chip .switch) _ _ _ refl (function-pins (w .chip) _ e)
-level-pins w v (Memory p) h e = refl
-level-pins w v (Pio p) h e = absurd (no-switch (w .chip .kind) e (both-holds (hasSwitch (w .chip .kind)) (phaseInRange p) h .0))
+level-rest w v Waiting h e = refl
+level-rest w v (Rom s) h e = refl
+level-rest w v (FunctionCommand count bits) h e = pick-both (λ (t : ChipAfter). bare (t .chip) ≡ bare (w .chip)) _ _ _ refl (function-rest (w .chip) _ e)
+level-rest w v (Memory p) h e = refl
+level-rest w v (Pio p) h e = absurd (no-switch (w .chip .kind) e (both-holds (hasSwitch (w .chip .kind)) (phaseInRange p) h .0))
 
 -- so does every act
-act-pins : (a : Act) (w : Whole) → Good w → w .chip .kind ≡ 1 → actOf a w .chip .switch ≡ w .chip .switch
+act-rest : (a : Act) (w : Whole) → Good w → w .chip .kind ≡ 1 → bare (actOf a w .chip) ≡ bare (w .chip)
 unfolding takesOf resetOf resetChip powerOnOf powerOnChip hasSwitch
-act-pins (Take v) w g e = level-pins w v (w .chip .level) (g .range .place) e
-act-pins Reset w g e = refl
-act-pins PowerOn w g e = pick-false (hasSwitch (w .chip .kind)) _ _ (ap (λ (k : ℕ). eqb k 2) e)
+act-rest (Take v) w g e = level-rest w v (w .chip .level) (g .range .place) e
+act-rest Reset w g e = refl
+act-rest PowerOn w g e = ap (λ (s : Switch). bare (withSwitch s (w .chip))) (pick-false (hasSwitch (w .chip .kind)) _ _ (ap (λ (k : ℕ). eqb k 2) e))
 
 -- every act
 act-stays : (a : Act) (w : Whole) → Stays w (actOf a w)
-act-stays a w = record { code = act-named a w .0; kind = act-named a w .1; good = act-good a w; pins = act-pins a w }
+act-stays a w = record { code = act-named a w .0; kind = act-named a w .1; good = act-good a w; rest = act-rest a w }
 
 -- outside levels of a DS2413
 outside-stays : (l : ℕ) (w : Whole) → takesOutside (w .chip .kind) ≡ true → l ≤ 3 → Stays w (outsideOf l w)
 outside-stays l w e h =
-    record { code = outside-named l w .0; kind = outside-named l w .1; good = outside-good l w h; pins = λ g k. absurd (not-both (w .chip .kind) k e) }
+    record { code = outside-named l w .0; kind = outside-named l w .1; good = outside-good l w h; rest = λ g k. absurd (not-both (w .chip .kind) k e) }
 
 -- every chip over a history
 run-each : (es : List Event) (L : List Whole) → Each Stays L (run es L)

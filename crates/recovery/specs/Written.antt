@@ -25,7 +25,7 @@ use Rattle.scratchpad.specs.Scratchpad.{byteAtHand, memoryBegins}
 use Rattle.memory.specs.Part.{mapOf}
 use Rattle.memory.specs.Memory.{ruleAt}
 use Rattle.chip.specs.Kinds.{partOf, hasMemory, knowsOf}
-use Rattle.chip.specs.With.{withRc, withLevel, withRegisters}
+use Rattle.chip.specs.With.{withKind, withRc, withLevel, withRegisters}
 use Rattle.chip.specs.Chip.{Whole, whole, romSlot, functionIn, functionSlot, memoryLook, memorySight, memorySlot, takesOf, sendsOf}
 use Rattle.chip.specs.declared.Chip.{Chip}
 use Rattle.chip.specs.declared.Level.{Level}
@@ -88,7 +88,7 @@ in-page t o h = omega arith
 module _ (c : Chip) (m : List ℕ) where
   -- a chip of this kind and c's code at a level, with these registers
   abbrev pub ofKind : ℕ → Level → Bool → Registers → List ℕ → Whole
-  ofKind kind l rc r s = whole (record { code = c .code; kind = kind; rc = rc; level = l; registers = r; switch = c .switch }) m s
+  ofKind kind l rc r s = whole (withLevel l (withRc rc (withRegisters r (withKind kind c)))) m s
 
   -- a DS28EC20
   abbrev pub ec20 : Level → Bool → Registers → List ℕ → Whole
