@@ -33,7 +33,7 @@ enum-told-5 c = search needs
 
 -- src/carrier.rt:197:1
 returns : tie.Need-returns
-returns c = search needs
+returns c = search (cases, puts-at)
 
 -- src/carrier.rt:197:1
 returns-2 : tie.Need-returns-2
@@ -41,11 +41,11 @@ returns-2 c = search (cases, puts-at, c .bit-at .ensures)
 
 -- src/carrier.rt:197:1
 returns-3 : tie.Need-returns-3
-returns-3 c = search needs
+returns-3 c = search (cases, puts-at)
 
 -- src/carrier.rt:197:1
 returns-4 : tie.Need-returns-4
-returns-4 c = search needs
+returns-4 c = search (cases, puts-at)
 
 -- src/carrier.rt:197:1
 returns-5 : tie.Need-returns-5
