@@ -7,6 +7,7 @@ use Rattle.line.specs.Line.{afterBy}
 use Rattle.chip.specs.With.{noChip}
 use Rattle.line.specs.Event.{Answered, planOn, answerBy}
 use Rattle.line.specs.declared.Event.{Event}
+use Rattle.line.specs.declared.Plan.{Plan}
 use Rattle.search.specs.Host.{Wire}
 
 -- what is at a place past the line
@@ -36,6 +37,11 @@ run (e ∷ es) L = run es (afterOf e L)
 abbrev pub answers : List Event → List Whole → List Answered
 answers [] L = []
 answers (e ∷ es) L = answerOf e L ∷ answers es (afterOf e L)
+
+-- what each event of a history comes to
+abbrev pub came : List Event → List Whole → List Plan
+came [] L = []
+came (e ∷ es) L = planOn e L ∷ came es (afterOf e L)
 
 -- a line of whole chips as something that answers events
 abbrev pub lineWire : Wire

@@ -57,12 +57,12 @@ module _ (R : Whole → Whole → Type 0) (same : (w : Whole) → R w w) (onto :
   each-level (suc i) l (w ∷ L) e h = more (same w) (each-level i l L e h)
 
   -- one event
-  comes-kept : (L : List Whole) {p q : Plan} → Comes (chipsOf L) p q → Each R L (afterBy q L)
+  comes-kept : (L : List Whole) {q : Plan} → Comes (chipsOf L) q → Each R L (afterBy q L)
   comes-kept L (slot b) = each-act (Take (valueOf b L)) L
   comes-kept L reset = each-act Reset L
   comes-kept L power-on = each-act PowerOn L
   comes-kept L (outside i l h k m) = each-level i l L (ap (λ (c : Chip). takesOutside (c .kind)) (at-chip i L) ∙ k) m
-  comes-kept L (refused i l r) = each-same L
+  comes-kept L (refused r) = each-same L
 
   after-kept : (e : Event) (L : List Whole) → Each R L (afterOf e L)
   unfolding afterOf

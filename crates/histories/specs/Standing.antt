@@ -71,12 +71,12 @@ at-chip (suc i) [] = refl
 at-chip zero (w ∷ L) = refl
 at-chip (suc i) (w ∷ L) = at-chip i L
 
-comes-good : {cs : List Chip} {p q : Plan} → Comes cs p q → (L : List Whole) → AllGood L → AllGood (afterBy q L)
+comes-good : {cs : List Chip} {q : Plan} → Comes cs q → (L : List Whole) → AllGood L → AllGood (afterBy q L)
 comes-good (slot b) L g = map-good (Take (valueOf b L)) L g
 comes-good reset L g = map-good Reset L g
 comes-good power-on L g = map-good PowerOn L g
 comes-good (outside i l h k m) L g = outside-all i l L m g
-comes-good (refused i l r) L g = g
+comes-good (refused r) L g = g
 
 after-good : (e : Event) (L : List Whole) → AllGood L → AllGood (afterOf e L)
 unfolding afterOf

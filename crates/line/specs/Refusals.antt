@@ -1,13 +1,13 @@
 -- Laws: what the code knows of a table and an event that are not refused, and what it puts together of an event.
-use Prim.Native.Nat.{ℕ, zero, suc, _<_, _≤_}
+use Prim.Native.Nat.{ℕ, _<_, _≤_}
 use native.Mathlib.Omega.{arith}
 use mathlib.Core.Bool.{Bool, true, false, true≢false}
 use mathlib.Core.List.{List, [], _∷_, _++_}
 use mathlib.Core.Path.{_≡_, refl, _∙_, ap, sym}
 use lib.Dec.{eqb, ltb, leb}
-use borrow.Author.Tests.{eqb-true, ltb-true, leb-true, eq-eqb, ne-eqb, le-ltb, lt-leb}
+use borrow.Author.Tests.{eqb-true, eqb-false, ltb-true, ltb-false, leb-true, eq-eqb}
 use lib.ListN.{length, take, drop, getD, take-append-drop, length-drop}
-use Rattle.base.specs.Pick.{pick, pick-true}
+use Rattle.base.specs.Pick.{pick, pick-true, pick-if}
 use Rattle.base.specs.Bits.{both}
 use Rattle.base.specs.Both.{both-holds}
 use Rattle.chip.specs.Chip.{Whole}
@@ -16,7 +16,7 @@ use Rattle.chip.specs.declared.Chip.{Chip}
 use Rattle.line.specs.Line.{absent, busFrom, busOf}
 use Rattle.line.specs.Layout.{imagesSize, padsSize, split, chipsOf, imagesOf, padsOf}
 use Rattle.chip.specs.With.{noChip}
-use Rattle.line.specs.Event.{tableInRange, allInRange, sizesFit, Fits, outsideFits, verdictOf, askedBy, planEvent, planIn}
+use Rattle.line.specs.Event.{tableInRange, allInRange, sizesFit, Fits, outsideFits, verdictOf, judge, eventTests, askedBy, planBy, planEvent, planIn}
 use Rattle.line.specs.declared.Event.{Event}
 use Rattle.line.specs.declared.Refusal.{Refusal}
 use Rattle.line.specs.declared.Refusal.the-variants.{OutOfRange, WrongSize, NoSuchEvent, NoSuchOutside}
@@ -100,52 +100,51 @@ well-judged n cs ms ss h k = simp (h, k, pick-true)
 pub judged-fit : (n : ℕ) (cs : List Chip) (ms ss : List ℕ) → verdict.Well ≡ verdictOf n cs ms ss → Fits n cs ms ss
 judged-fit n cs ms ss h = let b = judged-well n cs ms ss h in fit n cs ms ss (b .0) (b .1)
 
--- event 4 that fits has two bits
-pub fit-small : (e : Event) (n kind : ℕ) → outsideFits e n kind ≡ true → e .number ≡ 4 → e .outside ≤ 3
+-- event 4 that fits names a chip that takes it, and two bits
+outside-fit : (e : Event) (n kind : ℕ) → outsideFits e n kind ≡ true → e .number ≡ 4 → (e .chip < n) × ((takesOutside kind ≡ true) × (e .outside ≤ 3))
 unfolding outsideFits
-fit-small e n kind h p =
+outside-fit e n kind h p =
     let x = both (takesOutside kind) (leb (e .outside) 3) in
     let k = sym (pick-true (eqb (e .number) 4) (both (ltb (e .chip) n) x) true (eq-eqb (e .number) 4 p)) ∙ h in
-    leb-true (e .outside) 3 (both-holds (takesOutside kind) (leb (e .outside) 3) (both-holds (ltb (e .chip) n) x k .1) .1)
+    let a = both-holds (ltb (e .chip) n) x k in
+    let b = both-holds (takesOutside kind) (leb (e .outside) 3) (a .1) in
+    (ltb-true (e .chip) n (a .0), (b .0, leb-true (e .outside) 3 (b .1)))
 
--- what an event comes to, by what it asks: a refusal more is a clause more
-pub data Comes (cs : List Chip) : Plan → Plan → Type 0 where
-  slot : (b : Bool) → Comes cs (plan.Slot b) (plan.Slot b)
-  reset : Comes cs plan.Reset plan.Reset
-  power-on : Comes cs plan.PowerOn plan.PowerOn
-  outside : (i l : ℕ) → i < length cs → takesOutside (getD cs i noChip .kind) ≡ true → l ≤ 3 → Comes cs (plan.Outside i l) (plan.Outside i l)
-  refused : (i l : ℕ) (r : Refusal) → Comes cs (plan.Outside i l) (plan.Refused r)
+pub fit-small : (e : Event) (n kind : ℕ) → outsideFits e n kind ≡ true → e .number ≡ 4 → e .outside ≤ 3
+fit-small e n kind h p = outside-fit e n kind h p .1 .1
+
+-- what an event can come to: what it asks, with levels that fit; or a refusal, whatever it asks and whichever refusal
+pub data Comes (cs : List Chip) : Plan → Type 0 where
+  slot : (b : Bool) → Comes cs (plan.Slot b)
+  reset : Comes cs plan.Reset
+  power-on : Comes cs plan.PowerOn
+  outside : (i l : ℕ) → i < length cs → takesOutside (getD cs i noChip .kind) ≡ true → l ≤ 3 → Comes cs (plan.Outside i l)
+  refused : (r : Refusal) → Comes cs (plan.Refused r)
 
 module _ (cs : List Chip) (e : Event) where
-  abbrev Come : Type 0
-  Come = Comes cs (askedBy e) (planIn cs e)
+  abbrev kind : ℕ
+  kind = getD cs (e .chip) noChip .kind
 
-  four-comes : (a b c : Bool) → ltb (e .chip) (length cs) ≡ a → takesOutside (getD cs (e .chip) noChip .kind) ≡ b → leb (e .outside) 3 ≡ c → e .number ≡ 4 → Come
-  unfolding askedBy planEvent outsideFits both pick
-  four-comes true true true p q r h =
-      rw (h, p, q, r) (outside (e .chip) (e .outside) (ltb-true (e .chip) (length cs) p) q (leb-true (e .outside) 3 r))
-  four-comes true true false p q r h = rw (h, p, q, r) (refused (e .chip) (e .outside) NoSuchOutside)
-  four-comes true false c p q r h = rw (h, p, q) (refused (e .chip) (e .outside) NoSuchOutside)
-  four-comes false b c p q r h = rw (h, p) (refused (e .chip) (e .outside) NoSuchOutside)
+  -- where nothing refuses it
+  asked-comes : leb (e .number) 4 ≡ true → outsideFits e (length cs) kind ≡ true → Comes cs (askedBy e)
+  unfolding askedBy
+  asked-comes h k =
+      pick-if (Comes cs) _ _ _ (λ a. slot _)
+      (λ a. pick-if (Comes cs) _ _ _ (λ b. reset)
+      (λ b. pick-if (Comes cs) _ _ _ (λ c. power-on)
+      (λ c. let f = outside-fit e (length cs) kind k (four (leb-true (e .number) 4 h) (ltb-false (e .number) 2 a) (eqb-false (e .number) 2 b) (eqb-false (e .number) 3 c)) in
+      outside (e .chip) (e .outside) (f .0) (f .1 .0) (f .1 .1))))
+    where
+      four : {n : ℕ} → n ≤ 4 → 2 ≤ n → (n ≡ 2 → ⊥) → (n ≡ 3 → ⊥) → n ≡ 4
+      four p q r s = omega arith
 
-  many-comes : 4 < e .number → Come
-  unfolding askedBy planEvent pick
-  many-comes h =
-      rw (
-        lt-leb (e .number) 4 h,
-        le-ltb (e .number) 2 (omega arith),
-        ne-eqb (e .number) 2 (λ (q : e .number ≡ 2). omega arith),
-        ne-eqb (e .number) 3 (λ (q : e .number ≡ 3). omega arith),
-      ) (refused (e .chip) (e .outside) NoSuchEvent)
+  -- by what its tests come to
+  judged-comes : (v : Verdict) → v ≡ judge (eventTests e (length cs) kind) → Comes cs (planBy v (askedBy e))
+  judged-comes (verdict.Refused r) h = refused r
+  judged-comes verdict.Well h =
+      let a = held (leb (e .number) 4) _ NoSuchEvent h in
+      asked-comes (a .0) (held (outsideFits e (length cs) kind) _ NoSuchOutside (a .1) .0)
 
-  by-number : (k : ℕ) → e .number ≡ k → Come
-  unfolding askedBy planEvent outsideFits pick
-  by-number zero p = rw p (slot false)
-  by-number (suc zero) p = rw p (slot true)
-  by-number (suc (suc zero)) p = rw p reset
-  by-number (suc (suc (suc zero))) p = rw p power-on
-  by-number (suc (suc (suc (suc zero)))) p = four-comes (ltb (e .chip) (length cs)) (takesOutside (getD cs (e .chip) noChip .kind)) (leb (e .outside) 3) refl refl refl p
-  by-number (suc (suc (suc (suc (suc k))))) p = many-comes (omega arith)
-
-  pub comes : Come
-  comes = by-number (e .number) refl
+  pub comes : Comes cs (planIn cs e)
+  unfolding planEvent
+  comes = judged-comes (judge (eventTests e (length cs) kind)) refl

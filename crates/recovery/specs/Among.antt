@@ -15,12 +15,12 @@ use Rattle.line.specs.Line.{valueOf, absent, actOf, outsideAt, afterBy}
 use Rattle.line.specs.Layout.{chipsOf}
 use Rattle.line.specs.Refusals.{presence, Comes, slot, reset, power-on, outside, refused, comes}
 use Rattle.chip.specs.With.{noChip}
-use Rattle.line.specs.Event.{Answered, bit, refused as says, numberOf, askedBy, planEvent, planOn, answerBy}
+use Rattle.line.specs.Event.{Answered, bit, refused as says, numberOf, planEvent, planOn, answerBy}
 use Rattle.line.specs.declared.Event.{Event}
 use Rattle.line.specs.declared.Plan.{Plan}
 use Rattle.line.specs.declared.Plan.the-variants as plan
 use Rattle.line.specs.declared.Act.the-variants.{Take, Reset, PowerOn}
-use Rattle.histories.specs.Histories.{at, answerOf, afterOf, run, answers}
+use Rattle.histories.specs.Histories.{at, answerOf, afterOf, run, answers, came}
 use Rattle.histories.specs.Keeps.{act-named}
 use Rattle.histories.specs.Standing.{at-chip, length-chips}
 use Rattle.recovery.specs.Sessions.{opening, toCome, Next, Addressed}
@@ -63,9 +63,9 @@ ownAfter (plan.Outside i l) w = w
 ownAfter (plan.Refused r) w = w
 
 -- the chip alone, over a history
-abbrev pub ownRun : List Event → Whole → Whole
+abbrev pub ownRun : List Plan → Whole → Whole
 ownRun [] w = w
-ownRun (e ∷ es) w = ownRun es (ownAfter (askedBy e) w)
+ownRun (p ∷ ps) w = ownRun ps (ownAfter p w)
 
 -- what silence says of the next bit, and of outside levels
 module _ (code : ℕ) (b : Bool) (bs : List Bool) (x : Whole) (s : Silent (Waits code) (b ∷ bs) x) where
@@ -173,8 +173,8 @@ own-after code bs (plan.Outside j l) w a o = o
 own-after code bs (plan.Refused r) w a o = o
 
 -- one event, on the line
-among-after : (code : ℕ) (bs : List Bool) (w : Whole) (i : ℕ) (L : List Whole) {p q : Plan} → Comes (chipsOf L) p q → Next bs p → Own code bs w → Among code bs w i L
-    → Among code (toCome code bs p) (ownAfter p w) i (afterBy q L)
+among-after : (code : ℕ) (bs : List Bool) (w : Whole) (i : ℕ) (L : List Whole) {q : Plan} → Comes (chipsOf L) q → Next bs q → Own code bs w → Among code bs w i L
+    → Among code (toCome code bs q) (ownAfter q w) i (afterBy q L)
 among-after code [] w i L (slot v) a o m =
     rw (among-value v m) (among-map code [] [] (actOf (Take (ownValue w v))) (other-slot code (ownValue w v)) m)
 among-after code (b ∷ bs) w i L (slot v) a (c, h, k, s) m =
@@ -184,25 +184,26 @@ among-after code bs w i L reset a (c, h, k, s) m =
     among-map code bs (opening code) (actOf Reset) (λ x o. other-reset code (rw c at h) x (o .0) (o .1)) m
 among-after code bs w i L power-on a o m = among-map code bs [] (actOf PowerOn) (other-power code bs) m
 among-after code bs w i L (outside j l f g n) a (c, h, k, s) m = among-outside j l k (ap (λ (c : Chip). takesOutside (c .kind)) (at-chip j L) ∙ g) m
-among-after code bs w i L (refused j l r) a o m = m
+among-after code bs w i L (refused r) a o m = m
 
 -- what is to come after a history
-abbrev pub toComes : ℕ → List Bool → List Event → List Bool
+abbrev pub toComes : ℕ → List Bool → List Plan → List Bool
 toComes code bs [] = bs
-toComes code bs (e ∷ es) = toComes code (toCome code bs (askedBy e)) es
+toComes code bs (p ∷ ps) = toComes code (toCome code bs p) ps
 
--- one event, by its number
-event-after : (code : ℕ) (bs : List Bool) (e : Event) (w : Whole) (i : ℕ) (L : List Whole) → Next bs (askedBy e) → Own code bs w → Among code bs w i L
-    → Among code (toCome code bs (askedBy e)) (ownAfter (askedBy e) w) i (afterOf e L)
+-- one event, by what it comes to
+event-after : (code : ℕ) (bs : List Bool) (e : Event) (w : Whole) (i : ℕ) (L : List Whole) → Next bs (planOn e L) → Own code bs w → Among code bs w i L
+    → Among code (toCome code bs (planOn e L)) (ownAfter (planOn e L) w) i (afterOf e L)
 unfolding afterOf
 event-after code bs e w i L a o m = among-after code bs w i L (comes (chipsOf L) e) a o m
 
 -- THEOREM: while each session matches its code, the chip goes as if it were alone, and the others are silent
-pub alone : (code : ℕ) (bs : List Bool) (es : List Event) (w : Whole) (i : ℕ) (L : List Whole) → Addressed code bs es → Own code bs w → Among code bs w i L
-    → Among code (toComes code bs es) (ownRun es w) i (run es L)
+pub alone : (code : ℕ) (bs : List Bool) (es : List Event) (w : Whole) (i : ℕ) (L : List Whole) → Addressed code bs (came es L) → Own code bs w → Among code bs w i L
+    → Among code (toComes code bs (came es L)) (ownRun (came es L) w) i (run es L)
 alone code bs [] w i L a o m = m
 alone code bs (e ∷ es) w i L (a, r) o m =
-    alone code (toCome code bs (askedBy e)) es (ownAfter (askedBy e) w) i (afterOf e L) r (own-after code bs (askedBy e) w a o) (event-after code bs e w i L a o m)
+    let p = planOn e L in
+    alone code (toCome code bs p) es (ownAfter p w) i (afterOf e L) r (own-after code bs p w a o) (event-after code bs e w i L a o m)
 
 -- the kind of chip i
 kind-at : (i : ℕ) (L : List Whole) → getD (chipsOf L) i noChip .kind ≡ getD (kindsOf L) i 0
@@ -211,11 +212,19 @@ kind-at zero (w ∷ L) = refl
 kind-at (suc i) (w ∷ L) = kind-at i L
 
 -- what an event comes to goes by the kinds of a line alone
-abbrev pub planAmong : Event → List ℕ → Plan
+abbrev planAmong : Event → List ℕ → Plan
 planAmong e ks = planEvent e (length ks) (getD ks (e .chip) 0)
 
 plan-among : (e : Event) (L : List Whole) → planOn e L ≡ planAmong e (kindsOf L)
 plan-among e L = λ j. planEvent e ((length-chips L ∙ sym (length-kinds L)) j) (kind-at (e .chip) L j)
+
+-- and so does what a history comes to
+pub came-alike : (es : List Event) (A B : List Whole) → kindsOf A ≡ kindsOf B → came es A ≡ came es B
+came-alike [] A B k = refl
+came-alike (e ∷ es) A B k =
+    let one = plan-among e A ∙ ap (planAmong e) k ∙ sym (plan-among e B) in
+    let rest = came-alike es (afterOf e A) (afterOf e B) (run-kinds (e ∷ []) A ∙ k ∙ sym (run-kinds (e ∷ []) B)) in
+    λ j. one j ∷ rest j
 
 -- the answers of the chip alone
 abbrev pub ownAnswer : Plan → Whole → Answered
@@ -225,10 +234,10 @@ ownAnswer plan.PowerOn w = bit true
 ownAnswer (plan.Outside i l) w = bit true
 ownAnswer (plan.Refused r) w = says (numberOf r)
 
--- and over a history, on a line of these kinds
-abbrev pub ownAnswers : List Event → List ℕ → Whole → List Answered
-ownAnswers [] ks w = []
-ownAnswers (e ∷ es) ks w = ownAnswer (planAmong e ks) w ∷ ownAnswers es ks (ownAfter (askedBy e) w)
+-- and over a history
+abbrev pub ownAnswers : List Plan → Whole → List Answered
+ownAnswers [] w = []
+ownAnswers (p ∷ ps) w = ownAnswer p w ∷ ownAnswers ps (ownAfter p w)
 
 -- a line with the chip on it is not empty
 among-present : {code : ℕ} {bs : List Bool} {w : Whole} {i : ℕ} {L : List Whole} → Among code bs w i L → absent L ≡ false
@@ -243,17 +252,16 @@ answer-among code bs plan.PowerOn w i L m = refl
 answer-among code bs (plan.Outside j l) w i L m = refl
 answer-among code bs (plan.Refused r) w i L m = refl
 
-event-answer : (code : ℕ) (bs : List Bool) (e : Event) (w : Whole) (i : ℕ) (L : List Whole) → Among code bs w i L → answerOf e L ≡ ownAnswer (planAmong e (kindsOf L)) w
+event-answer : (code : ℕ) (bs : List Bool) (e : Event) (w : Whole) (i : ℕ) (L : List Whole) → Among code bs w i L → answerOf e L ≡ ownAnswer (planOn e L) w
 unfolding answerOf
-event-answer code bs e w i L m = answer-among code bs (planOn e L) w i L m ∙ ap (λ (p : Plan). ownAnswer p w) (plan-among e L)
+event-answer code bs e w i L m = answer-among code bs (planOn e L) w i L m
 
 -- THEOREM: and the answers are those of the chip alone
-pub alone-answers : (code : ℕ) (bs : List Bool) (es : List Event) (w : Whole) (i : ℕ) (L : List Whole) → Addressed code bs es → Own code bs w → Among code bs w i L
-    → answers es L ≡ ownAnswers es (kindsOf L) w
+pub alone-answers : (code : ℕ) (bs : List Bool) (es : List Event) (w : Whole) (i : ℕ) (L : List Whole) → Addressed code bs (came es L) → Own code bs w → Among code bs w i L
+    → answers es L ≡ ownAnswers (came es L) w
 alone-answers code bs [] w i L a o m = refl
 alone-answers code bs (e ∷ es) w i L (a, r) o m =
+    let p = planOn e L in
     let first = event-answer code bs e w i L m in
-    let u = ownAfter (askedBy e) w in
-    let rest = alone-answers code (toCome code bs (askedBy e)) es u i (afterOf e L) r (own-after code bs (askedBy e) w a o) (event-after code bs e w i L a o m) in
-    let ks = ap (λ (k : List ℕ). ownAnswers es k u) (run-kinds (e ∷ []) L) in
-    λ j. first j ∷ (rest ∙ ks) j
+    let rest = alone-answers code (toCome code bs p) es (ownAfter p w) i (afterOf e L) r (own-after code bs p w a o) (event-after code bs e w i L a o m) in
+    λ j. first j ∷ rest j

@@ -20,7 +20,7 @@ use Rattle.chip.specs.Kinds.{knownKind, imageSize, padSize}
 use Rattle.line.specs.Event.{askedBy, planEvent, outsideFits}
 use Rattle.line.specs.declared.Event.{Event}
 use Rattle.line.specs.Events.{eventWith, resetEvent, powerOnEvent, outsideEvent}
-use Rattle.histories.specs.Histories.{at, afterOf, run, answers}
+use Rattle.histories.specs.Histories.{at, afterOf, run, answers, came}
 use Rattle.histories.specs.Keeps.{InRange, Good}
 use Rattle.recovery.specs.Sessions.{bitsFrom, opening, Addressed, slots, write, Bytes, Page}
 use Rattle.recovery.specs.CarriedOut.{carriesOut, NoCopy}
@@ -95,10 +95,10 @@ abbrev reading : List Event
 reading = resetEvent ∷ slots (opening 5 ++ (bitsFrom 8 0 0xAA ++ replicate 296 true))
 
 -- it opens by matching the code
-reading-addressed : Addressed 5 [] reading
-unfolding askedBy pick
-reading-addressed = (tt, addressed-slots 5 (opening 5) (bitsFrom 8 0 0xAA ++ replicate 296 true))
+reading-addressed : (L : List Whole) → Addressed 5 [] (came reading L)
+unfolding planEvent outsideFits askedBy pick
+reading-addressed L = (tt, addressed-slots 5 (opening 5) (bitsFrom 8 0 0xAA ++ replicate 296 true) _)
 
 -- and what it reads is the same
 pub read-alike : answers reading (run (write 5 0x0120 (replicate 32 0xA5)) (run quiet line)) ≡ answers reading (run (write 5 0x0120 (replicate 32 0xA5)) (run noise line))
-read-alike = recovered .answers-on reading reading-addressed
+read-alike = recovered .answers-on reading (reading-addressed _)

@@ -8,7 +8,7 @@ use lib.ListN.{length}
 use Rattle.chip.specs.Chip.{Whole}
 use Rattle.line.specs.declared.Event.{Event}
 use Rattle.search.specs.Search.{Attached}
-use Rattle.histories.specs.Histories.{at, run, answers, codesOf}
+use Rattle.histories.specs.Histories.{at, run, answers, came, codesOf}
 use Rattle.histories.specs.Keeps.{Good}
 use Rattle.histories.specs.Standing.{AllGood, Stands, lineFrom, line-good, line-length}
 use Rattle.histories.specs.Joined.{runOn, answersOn, run-joined, answers-joined, stands-on}
@@ -35,8 +35,8 @@ pub record TableInstalled (i : ℕ) (l : Attached) : Type 0 where
 pub record TableRecovered (i code : ℕ) (again : List Event) (a b : Attached) : Type 0 where
   pub state : chipOf i (runOn again a) ≡ chipOf i (runOn again b)
   pub answered : answersOn again a ≡ answersOn again b
-  pub answers-on : (rest : List Event) → Addressed code [] rest → answersOn rest (runOn again a) ≡ answersOn rest (runOn again b)
-  pub state-on : (rest : List Event) → Addressed code [] rest → chipOf i (runOn rest (runOn again a)) ≡ chipOf i (runOn rest (runOn again b))
+  pub answers-on : (rest : List Event) → Addressed code [] (came rest (lineFrom (runOn again a))) → answersOn rest (runOn again a) ≡ answersOn rest (runOn again b)
+  pub state-on : (rest : List Event) → Addressed code [] (came rest (lineFrom (runOn again a))) → chipOf i (runOn rest (runOn again a)) ≡ chipOf i (runOn rest (runOn again b))
 
 -- chip i of a good line is good
 good-at : (i : ℕ) (L : List Whole) → i < length L → AllGood L → Good (at i L)
@@ -60,14 +60,18 @@ module _ (i code : ℕ) (again : List Event) (a b : Attached) (s : Stands a) (u 
   answers-again : (l : Attached) → Stands l → (rest : List Event) → answersOn rest (runOn again l) ≡ answers rest (run again (lineFrom l))
   answers-again l t rest = answers-joined rest (runOn again l) (stands-on again l t) ∙ ap (answers rest) (run-joined again l t)
 
+  -- what each event comes to after the events
+  addressed : (rest : List Event) → Addressed code [] (came rest (lineFrom (runOn again a))) → Addressed code [] (came rest (run again (lineFrom a)))
+  addressed rest d = subst (λ (A : List Whole). Addressed code [] (came rest A)) (run-joined again a s) d
+
   -- each in turn
   table-recovered : Recovered i code again (lineFrom a) (lineFrom b) → TableRecovered i code again a b
   table-recovered r =
       record {
         state = ap (at i) (run-joined again a s) ∙ r .state ∙ sym (ap (at i) (run-joined again b u));
         answered = answers-joined again a s ∙ r .answered ∙ sym (answers-joined again b u);
-        answers-on = λ rest d. answers-again a s rest ∙ r .answers-on rest d ∙ sym (answers-again b u rest);
-        state-on = λ rest d. ap (at i) (after-again a s rest) ∙ r .state-on rest d ∙ sym (ap (at i) (after-again b u rest));
+        answers-on = λ rest d. answers-again a s rest ∙ r .answers-on rest (addressed rest d) ∙ sym (answers-again b u rest);
+        state-on = λ rest d. ap (at i) (after-again a s rest) ∙ r .state-on rest (addressed rest d) ∙ sym (ap (at i) (after-again b u rest));
       }
 
 -- THEOREM: the exact state of chip i after the write

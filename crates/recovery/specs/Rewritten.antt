@@ -15,56 +15,54 @@ use Rattle.chip.specs.Kinds.{padSize}
 use Rattle.chip.specs.declared.Level.the-variants.{Rom, Memory}
 use Rattle.line.specs.Line.{actOf}
 use Rattle.line.specs.Refusals.{presence}
-use Rattle.line.specs.Event.{Answered, bit, askedBy, planEvent, outsideFits}
+use Rattle.line.specs.Event.{Answered, bit, askedBy, planEvent, planOn, outsideFits}
 use Rattle.line.specs.declared.Act.the-variants.{Reset}
 use Rattle.line.specs.Events.{slotEvent, resetEvent}
-use Rattle.histories.specs.Histories.{at, answerOf, afterOf, run, answers}
+use Rattle.histories.specs.Histories.{at, answerOf, afterOf, run, answers, came}
 use Rattle.line.specs.declared.Plan.{Plan}
 use Rattle.line.specs.declared.Plan.the-variants as plan
-use Rattle.recovery.specs.Sessions.{opening, toCome, Addressed, slots, writeBits, write, Page}
-use Rattle.recovery.specs.Stays.{bare, kindsOf}
-use Rattle.recovery.specs.Among.{Own, Among, ownAfter, ownRun, planAmong, ownAnswer, ownAnswers, toComes, both-one, alone, alone-answers}
+use Rattle.recovery.specs.Sessions.{opening, Addressed, slots, slotted, writeBits, write, Page}
+use Rattle.recovery.specs.Stays.{bare}
+use Rattle.recovery.specs.Among.{Own, Among, ownRun, ownAnswers, toComes, both-one, alone, alone-answers}
 use Rattle.recovery.specs.Written.{ruled, writtenTo, Goes, goes-from, goes-to, ofKind, ec20, goes-written}
 use Rattle.recovery.specs.Installed.{Installed, codes-at, reset-among, reset-own}
 
--- the host's own slots
-asked-slot : (v : Bool) → askedBy (slotEvent v) ≡ plan.Slot v
-unfolding askedBy pick
-asked-slot true = refl
-asked-slot false = refl
-
-planned-slot : (v : Bool) (ks : List ℕ) → planAmong (slotEvent v) ks ≡ plan.Slot v
+-- the host's own slots come to themselves
+planned-slot : (v : Bool) (L : List Whole) → planOn (slotEvent v) L ≡ plan.Slot v
 unfolding planEvent outsideFits askedBy pick
-planned-slot true ks = refl
-planned-slot false ks = refl
+planned-slot true L = refl
+planned-slot false L = refl
+
+pub came-slots : (vs : List Bool) (L : List Whole) → came (slots vs) L ≡ slotted vs
+came-slots [] L = refl
+came-slots (v ∷ vs) L = let rest = came-slots vs (afterOf (slotEvent v) L) in λ j. planned-slot v L j ∷ rest j
 
 -- slots of the bits to come, and of any bits after them, address the code
-pub addressed-slots : (code : ℕ) (bs vs : List Bool) → Addressed code bs (slots (bs ++ vs))
-addressed-slots code [] [] = tt
-addressed-slots code [] (v ∷ vs) = rw (asked-slot v) (tt, addressed-slots code [] vs)
-addressed-slots code (b ∷ bs) vs = rw (asked-slot b) (refl, addressed-slots code bs vs)
+slotted-addressed : (code : ℕ) (bs vs : List Bool) → Addressed code bs (slotted (bs ++ vs))
+slotted-addressed code [] [] = tt
+slotted-addressed code [] (v ∷ vs) = (tt, slotted-addressed code [] vs)
+slotted-addressed code (b ∷ bs) vs = (refl, slotted-addressed code bs vs)
+
+pub addressed-slots : (code : ℕ) (bs vs : List Bool) (L : List Whole) → Addressed code bs (came (slots (bs ++ vs)) L)
+addressed-slots code bs vs L = subst (Addressed code bs) (sym (came-slots (bs ++ vs) L)) (slotted-addressed code bs vs)
 
 -- after them nothing is to come
-comes-slots : (code : ℕ) (bs vs : List Bool) → toComes code bs (slots (bs ++ vs)) ≡ []
+comes-slots : (code : ℕ) (bs vs : List Bool) → toComes code bs (slotted (bs ++ vs)) ≡ []
 comes-slots code [] [] = refl
-comes-slots code [] (v ∷ vs) = ap (λ (k : Plan). toComes code (toCome code [] k) (slots vs)) (asked-slot v) ∙ comes-slots code [] vs
-comes-slots code (b ∷ bs) vs = ap (λ (k : Plan). toComes code (toCome code (b ∷ bs) k) (slots (bs ++ vs))) (asked-slot b) ∙ comes-slots code bs vs
+comes-slots code [] (v ∷ vs) = comes-slots code [] vs
+comes-slots code (b ∷ bs) vs = comes-slots code bs vs
 
 -- a chip that is silent over given bits comes, alone, to where they lead
-goes-run : (vs : List Bool) (w u : Whole) → Goes vs w u → ownRun (slots vs) w ≡ u
+goes-run : (vs : List Bool) (w u : Whole) → Goes vs w u → ownRun (slotted vs) w ≡ u
 goes-run [] w u e = e
-goes-run (v ∷ vs) w u (s, g) =
-    ap (λ (k : Plan). ownRun (slots vs) (ownAfter k w)) (asked-slot v)
-    ∙ ap (λ (b : Bool). ownRun (slots vs) (takesOf b w)) (both-one (sendsOf w) v s)
-    ∙ goes-run vs (takesOf v w) u g
+goes-run (v ∷ vs) w u (s, g) = ap (λ (b : Bool). ownRun (slotted vs) (takesOf b w)) (both-one (sendsOf w) v s) ∙ goes-run vs (takesOf v w) u g
 
 -- and each bit is answered as the host wrote it
-goes-answers : (vs : List Bool) (ks : List ℕ) (w u : Whole) → Goes vs w u → ownAnswers (slots vs) ks w ≡ map bit vs
-goes-answers [] ks w u e = refl
-goes-answers (v ∷ vs) ks w u (s, g) =
-    (λ j. ownAnswer (planned-slot v ks j) w ∷ ownAnswers (slots vs) ks (ownAfter (asked-slot v j) w))
-    ∙ ap (λ (b : Bool). bit b ∷ ownAnswers (slots vs) ks (takesOf b w)) (both-one (sendsOf w) v s)
-    ∙ ap (λ (l : List Answered). bit v ∷ l) (goes-answers vs ks (takesOf v w) u g)
+goes-answers : (vs : List Bool) (w u : Whole) → Goes vs w u → ownAnswers (slotted vs) w ≡ map bit vs
+goes-answers [] w u e = refl
+goes-answers (v ∷ vs) w u (s, g) =
+    ap (λ (b : Bool). bit b ∷ ownAnswers (slotted vs) (takesOf b w)) (both-one (sendsOf w) v s)
+    ∙ ap (λ (l : List Answered). bit v ∷ l) (goes-answers vs (takesOf v w) u g)
 
 -- what a reset leaves
 reset-after : (L : List Whole) → afterOf resetEvent L ≡ map (actOf Reset) L
@@ -128,10 +126,12 @@ module _ (i : ℕ) (L : List Whole) (s : Installed i L) (code : ℕ) (e : at i L
   -- chip i after the write, among chips of other codes that wait
   pub rewritten : Among code [] (writtenTo (at i L) t bytes) i (run (write code t bytes) L)
   rewritten =
-      subst (λ (K : List Whole). Among code [] (writtenTo (at i L) t bytes) i (run (slots sent) K)) (sym (reset-after L))
-      (subst (λ (w : Whole). Among code [] w i (run (slots sent) (map (actOf Reset) L))) (goes-run sent _ _ goes)
-      (subst (λ (bs : List Bool). Among code bs (ownRun (slots sent) (resetOf (at i L))) i (run (slots sent) (map (actOf Reset) L))) (comes-slots code (opening code) (writeBits t bytes))
-      (alone code (opening code) (slots sent) (resetOf (at i L)) i (map (actOf Reset) L) (addressed-slots code (opening code) (writeBits t bytes)) own among)))
+      let K = map (actOf Reset) L in
+      subst (λ (M : List Whole). Among code [] (writtenTo (at i L) t bytes) i (run (slots sent) M)) (sym (reset-after L))
+      (subst (λ (w : Whole). Among code [] w i (run (slots sent) K)) (goes-run sent _ _ goes)
+      (subst (λ (bs : List Bool). Among code bs (ownRun (slotted sent) (resetOf (at i L))) i (run (slots sent) K)) (comes-slots code (opening code) (writeBits t bytes))
+      (subst (λ (ps : List Plan). Among code (toComes code (opening code) ps) (ownRun ps (resetOf (at i L))) i (run (slots sent) K)) (came-slots sent K)
+      (alone code (opening code) (slots sent) (resetOf (at i L)) i K (addressed-slots code (opening code) (writeBits t bytes) K) own among))))
 
   -- it has the code
   pub rewritten-own : Own code [] (writtenTo (at i L) t bytes)
@@ -146,5 +146,6 @@ module _ (i : ℕ) (L : List Whole) (s : Installed i L) (code : ℕ) (e : at i L
       ap (λ (a : Answered). a ∷ answers (slots sent) (afterOf resetEvent L)) (reset-answer i L (s .attached))
       ∙ ap (λ (K : List Whole). bit false ∷ answers (slots sent) K) (reset-after L)
       ∙ ap (λ (l : List Answered). bit false ∷ l)
-      (alone-answers code (opening code) (slots sent) (resetOf (at i L)) i (map (actOf Reset) L) (addressed-slots code (opening code) (writeBits t bytes)) own among
-      ∙ goes-answers sent (kindsOf (map (actOf Reset) L)) _ _ goes)
+      (alone-answers code (opening code) (slots sent) (resetOf (at i L)) i (map (actOf Reset) L) (addressed-slots code (opening code) (writeBits t bytes) _) own among
+      ∙ ap (λ (ps : List Plan). ownAnswers ps (resetOf (at i L))) (came-slots sent (map (actOf Reset) L))
+      ∙ goes-answers sent _ _ goes)

@@ -6,7 +6,6 @@ use mathlib.Core.List.{List, [], _∷_, _++_, map}
 use mathlib.Core.Path.{_≡_}
 use lib.ListN.{length}
 use Rattle.base.specs.Bits.{bitOf}
-use Rattle.line.specs.Event.{askedBy}
 use Rattle.line.specs.declared.Event.{Event}
 use Rattle.line.specs.declared.Plan.{Plan}
 use Rattle.line.specs.declared.Plan.the-variants as plan
@@ -45,14 +44,18 @@ Next bs (plan.Outside i l) = Unit
 Next bs (plan.Refused r) = Unit
 
 -- with these bits of an opening to come, every session of a history opens by matching the code, or is cut inside its opening;
--- power on and levels may stand anywhere
-abbrev pub Addressed : ℕ → List Bool → List Event → Type 0
+-- power on and levels may stand anywhere, and so may what is refused; it goes by what each event comes to
+abbrev pub Addressed : ℕ → List Bool → List Plan → Type 0
 Addressed code bs [] = Unit
-Addressed code bs (e ∷ es) = Next bs (askedBy e) × Addressed code (toCome code bs (askedBy e)) es
+Addressed code bs (p ∷ ps) = Next bs p × Addressed code (toCome code bs p) ps
 
 -- slots of these bits
 abbrev pub slots : List Bool → List Event
 slots vs = map slotEvent vs
+
+-- what they come to
+abbrev pub slotted : List Bool → List Plan
+slotted vs = map (λ (v : Bool). plan.Slot v) vs
 
 -- 0Fh, the address t, the bytes
 abbrev pub writeBits : ℕ → List ℕ → List Bool
