@@ -2,17 +2,18 @@
 -- leaves "nothing changed".
 use Prim.Native.Nat.{ℕ}
 use native.Mathlib.Omega.{arith}
-use mathlib.Core.Bool.{Bool, true, false}
-use mathlib.Core.List.{List}
+use mathlib.Core.Bool.{Bool, true, false, true≢false}
+use mathlib.Core.List.{List, [], _∷_, _++_}
 use mathlib.Core.Path.{_≡_, refl, _∙_, ap, sym}
-use lib.Dec.{leb}
-use lib.ListN.{length, take, getD}
+use lib.Dec.{eqb, leb}
+use lib.ListN.{length, take, drop, getD}
+use borrow.Author.Tests.{eqb-false}
 use Rattle.base.specs.Pick.{pick, pick-if, pick-of}
 use Rattle.chip.specs.declared.Chip.{Chip}
 use Rattle.chip.specs.Chip.{Whole}
 use Rattle.line.specs.Layout.{lineOf, lent}
 use Rattle.chip.specs.With.{noChip}
-use Rattle.line.specs.Event.{Answered, bit, refused, tableInRange, sizesFit, outsideFits, verdictOf, outcome, askedBy, planBy, planEvent, planIn, planOf, answerBy, doneOf, eventOf}
+use Rattle.line.specs.Event.{Answered, bit, refused, numberOf, tableInRange, sizesFit, outsideFits, Test, judge, tableTests, eventTests, verdictOf, outcome, askedBy, planBy, planEvent, planIn, planOf, answerBy, doneOf, eventOf}
 use Rattle.line.specs.declared.Event.{Event}
 use Rattle.line.specs.declared.Verdict.{Verdict}
 use Rattle.line.specs.declared.Plan.{Plan}
@@ -29,6 +30,31 @@ numbered r s n e = n (number e)
 no-bit : (b : Bool) (s : ℕ) → bit b ≡ refused s → ⊥
 no-bit b s e = let z : _≡_ {A = ℕ} 0 1 = cc in omega arith
 
+-- what is answered, test by test: the number of the first that fails, or where all hold something else
+abbrev answeredBy : List Test → Answered → Answered
+answeredBy [] a = a
+answeredBy (t ∷ ts) a = pick (t .holds) (answeredBy ts a) (refused (numberOf (t .refusal)))
+
+abbrev either : Bool → Bool → Bool
+either true b = true
+either false b = b
+
+neither : (a b : Bool) → either a b ≡ false → (a ≡ false) × (b ≡ false)
+neither true b e = absurd (true≢false e)
+neither false b e = (refl, e)
+
+-- whether a number is one of theirs
+abbrev among : ℕ → List Test → Bool
+among s [] = false
+among s (t ∷ ts) = either (eqb (numberOf (t .refusal)) s) (among s ts)
+
+-- tests that have not a number do not answer it
+others : (s : ℕ) (ts : List Test) (a : Answered) → (a ≡ refused s → ⊥) → among s ts ≡ false → answeredBy ts a ≡ refused s → ⊥
+others s [] a n g = n
+others s (t ∷ ts) a n g =
+    let h = neither (eqb (numberOf (t .refusal)) s) (among s ts) g in
+    by-neither (t .holds) _ _ _ (others s ts a n (h .1)) (numbered (numberOf (t .refusal)) s (eqb-false (numberOf (t .refusal)) s (h .0)))
+
 module _ (n : ℕ) (cs : List Chip) (e : Event) (ms ss : List ℕ) where
   abbrev line : List Whole
   line = lineOf n cs ms ss
@@ -40,16 +66,9 @@ module _ (n : ℕ) (cs : List Chip) (e : Event) (ms ss : List ℕ) where
   abbrev said : Answered
   said = answerBy (askedBy e) line
 
-  -- what an event answers, by what it is judged by
-  abbrev judged : Answered
-  judged =
-      pick (tableInRange n cs)
-      (pick (sizesFit n cs ms ss)
-      (pick (leb (e .number) 4)
-      (pick fits said (refused 7))
-      (refused 6))
-      (refused 5))
-      (refused 8)
+  -- all tests of an event, in document 01's order
+  abbrev tests : List Test
+  tests = tableTests (tableInRange n cs) (sizesFit n cs ms ss) ++ eventTests e (length (take n cs)) (getD (take n cs) (e .chip) noChip .kind)
 
   done-answer : (p : Plan) → doneOf p n cs ms ss .answer ≡ answerBy p line
   done-answer (plan.Refused r) = refl
@@ -58,20 +77,19 @@ module _ (n : ℕ) (cs : List Chip) (e : Event) (ms ss : List ℕ) where
   done-answer plan.PowerOn = refl
   done-answer (plan.Outside i l) = refl
 
-  answer-is : eventOf n cs e ms ss .answer ≡ judged
+  judge-answer : (ts : List Test) (p : Plan) → answerBy (planBy (judge ts) p) line ≡ answeredBy ts (answerBy p line)
+  judge-answer [] p = refl
+  judge-answer (t ∷ ts) p =
+      pick-of (λ (q : Verdict). answerBy (planBy q p) line) _ _ _ ∙ ap (λ (x : Answered). pick (t .holds) x (refused (numberOf (t .refusal)))) (judge-answer ts p)
+
+  answer-is : eventOf n cs e ms ss .answer ≡ answeredBy tests said
   unfolding eventOf planOf verdictOf planEvent
   answer-is =
-      let f : Verdict → Answered = λ (q : Verdict). answerBy (planBy q (planIn (take n cs) e)) line in
-      let g : Verdict → Answered = λ (q : Verdict). answerBy (planBy q (askedBy e)) line in
       done-answer (planOf n cs e ms ss)
-      ∙ pick-of f _ _ _
-      ∙ ap (λ (x : Answered). pick (tableInRange n cs) x (refused 8))
-      (pick-of f _ _ _
-      ∙ ap (λ (x : Answered). pick (sizesFit n cs ms ss) x (refused 5))
-      (pick-of g _ _ _
-      ∙ ap (λ (x : Answered). pick (leb (e .number) 4) x (refused 6)) (pick-of g _ _ _)))
+      ∙ judge-answer (tableTests (tableInRange n cs) (sizesFit n cs ms ss)) (planIn (take n cs) e)
+      ∙ ap (answeredBy (tableTests (tableInRange n cs) (sizesFit n cs ms ss))) (judge-answer (eventTests e (length (take n cs)) (getD (take n cs) (e .chip) noChip .kind)) (askedBy e))
 
-  answers : (s : ℕ) {B : Type 0} → Iff (judged ≡ refused s) B → Iff (eventOf n cs e ms ss .answer ≡ refused s) B
+  answers : (s : ℕ) {B : Type 0} → Iff (answeredBy tests said ≡ refused s) B → Iff (eventOf n cs e ms ss .answer ≡ refused s) B
   answers s i = ((λ p. i .0 (sym answer-is ∙ p)), (λ p. answer-is ∙ i .1 p))
 
   said-bit : (s : ℕ) → said ≡ refused s → ⊥
@@ -81,30 +99,27 @@ module _ (n : ℕ) (cs : List Chip) (e : Event) (ms ss : List ℕ) where
       (λ a. pick-if (λ (p : Plan). answerBy p line ≡ refused s → ⊥) _ _ _ (λ b. no-bit _ s)
       (λ b. pick-if (λ (p : Plan). answerBy p line ≡ refused s → ⊥) _ _ _ (λ c. no-bit _ s) (λ c. no-bit _ s)))
 
-  past-7 : (s : ℕ) → (7 ≡ s → ⊥) → pick fits said (refused 7) ≡ refused s → ⊥
-  past-7 s k = by-neither fits _ _ _ (said-bit s) (numbered 7 s k)
-
-  past-6 : (s : ℕ) → (7 ≡ s → ⊥) → (6 ≡ s → ⊥) → pick (leb (e .number) 4) (pick fits said (refused 7)) (refused 6) ≡ refused s → ⊥
-  past-6 s k j = by-neither (leb (e .number) 4) _ _ _ (past-7 s k) (numbered 6 s j)
+  -- the tests after the first k do not answer a number that they have not
+  after : (k s : ℕ) → among s (drop k tests) ≡ false → answeredBy (drop k tests) said ≡ refused s → ⊥
+  after k s = others s (drop k tests) said (said-bit s)
 
   -- 8: "the table has over 16 chips, or a field lies outside its range"
   pub refused-8 : Iff (eventOf n cs e ms ss .answer ≡ refused 8) (tableInRange n cs ≡ false)
   refused-8 =
-      answers 8 (by-else (tableInRange n cs) _ _
-      (by-neither (sizesFit n cs ms ss) _ _ _ (past-6 8 (λ p. omega arith) (λ p. omega arith)) (numbered 5 8 (λ p. omega arith))))
+      answers 8 (by-else (tableInRange n cs) _ _ (after 1 8 refl))
 
   -- 5, where not 8: "an image or scratchpad buffer has another size than the table asks"
   pub refused-5 : Iff (eventOf n cs e ms ss .answer ≡ refused 5) ((tableInRange n cs ≡ true) × (sizesFit n cs ms ss ≡ false))
   refused-5 =
       answers 5 (by-then _ (tableInRange n cs) _ _ _ (numbered 8 5 (λ p. omega arith))
-      (by-else (sizesFit n cs ms ss) _ _ (past-6 5 (λ p. omega arith) (λ p. omega arith))))
+      (by-else (sizesFit n cs ms ss) _ _ (after 2 5 refl)))
 
   -- 6, where neither 8 nor 5: "the event number is over 4"
   pub refused-6 : Iff (eventOf n cs e ms ss .answer ≡ refused 6) ((tableInRange n cs ≡ true) × ((sizesFit n cs ms ss ≡ true) × (leb (e .number) 4 ≡ false)))
   refused-6 =
       answers 6 (by-then _ (tableInRange n cs) _ _ _ (numbered 8 6 (λ p. omega arith))
       (by-then _ (sizesFit n cs ms ss) _ _ _ (numbered 5 6 (λ p. omega arith))
-      (by-else (leb (e .number) 4) _ _ (past-7 6 (λ p. omega arith)))))
+      (by-else (leb (e .number) 4) _ _ (after 3 6 refl))))
 
   -- 7, where none of these: "event 4 names an absent chip, one of kind 1, or levels over 3"
   pub refused-7 : Iff (eventOf n cs e ms ss .answer ≡ refused 7) ((tableInRange n cs ≡ true) × ((sizesFit n cs ms ss ≡ true) × ((leb (e .number) 4 ≡ true) × (fits ≡ false))))
@@ -112,7 +127,7 @@ module _ (n : ℕ) (cs : List Chip) (e : Event) (ms ss : List ℕ) where
       answers 7 (by-then _ (tableInRange n cs) _ _ _ (numbered 8 7 (λ p. omega arith))
       (by-then _ (sizesFit n cs ms ss) _ _ _ (numbered 5 7 (λ p. omega arith))
       (by-then _ (leb (e .number) 4) _ _ _ (numbered 6 7 (λ p. omega arith))
-      (by-else fits _ _ (said-bit 7)))))
+      (by-else fits _ _ (after 4 7 refl)))))
 
   -- a refused event leaves table, images and scratchpads as they were
   pub refused-leaves : (r : ℕ) → eventOf n cs e ms ss .answer ≡ refused r → eventOf n cs e ms ss ≡ outcome (refused r) n (lent cs ms ss)
