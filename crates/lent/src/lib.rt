@@ -76,7 +76,7 @@ fn do_plan(table: &mut [Chip], plan: Plan, ms: &mut [u8], ss: &mut [u8]) -> Answ
     line::carrier::answer_of(plan, value)
 }
 
-// One event on a lent table: refusals 8, 5, 6 and 7 in this order, each with nothing changed; else the bus bit.
+// One event on a lent table: its refusals in their order (`line::take_event`), each with nothing changed; else the bus bit.
 pub fn take_event(table: &mut [Chip], e: Event, ms: &mut [u8], ss: &mut [u8]) -> Answer
     ensures { λ r. ⌜ outcome (answered r) (length (now (table .exit))) (lent (now (table .exit)) (now (ms .exit)) (now (ss .exit)))
         ≡ eventOf (length (now (table .entry))) (now (table .entry)) e (now (ms .entry)) (now (ss .entry)) ⌝ }

@@ -53,7 +53,7 @@ fn play(table: &mut [u8], plan: Plan, ms: &mut [u8], ss: &mut [u8]) -> Answer
     line::carrier::answer_of(plan, value)
 }
 
-// One event: refusals 8, 5, 6 and 7 in this order, each with nothing changed; else the bus bit.
+// One event: its refusals in their order (`line::take_event`), each with nothing changed; else the bus bit.
 pub fn take_event(table: &mut [u8], e: Event, ms: &mut [u8], ss: &mut [u8]) -> Answer
     ensures { λ r. ⌜ eventLeft (answerNumber (answered r)) (now (table .exit)) (now (ms .exit)) (now (ss .exit))
         ≡ eventBytes (now (table .entry)) e (now (ms .entry)) (now (ss .entry)) ⌝ }
