@@ -5,7 +5,7 @@ use std::collections::VecDeque;
 
 use crate::model::book::Book;
 use crate::model::card::read_card;
-use crate::model::chip::{Chip, Step, AA, DS2413, DS28EC20};
+use crate::model::chip::{Chip, Step, AA, DS2413, DS28EC20, LAST_KIND};
 use crate::model::crc::{crc16, crc8};
 use crate::model::line::Line;
 use crate::model::memory::{IMAGE, PAD};
@@ -270,7 +270,7 @@ fn event_refusals(book: &mut Book) -> bool {
     small.table[1].levels = 4;
     let eight = small.event(9, 0, 0, book) == Err(8);
     let spoils: [fn(&mut Chip); 7] = [
-        |chip| chip.kind = 3,
+        |chip| chip.kind = LAST_KIND + 1,
         |chip| chip.es |= 0x40,
         |chip| chip.latches = 4,
         |chip| chip.step = Step::PioPair,

@@ -187,9 +187,9 @@ impl<'a> Bench<'a> {
         self.wire.line.table.len()
     }
 
-    /// Some chip of a kind.
-    pub fn some(&mut self, kind: u32) -> Option<usize> {
-        let chips = (0..self.chips()).filter(|chip| self.chip(*chip).kind == kind);
+    /// Some chip of a part.
+    pub fn some(&mut self, part: u32) -> Option<usize> {
+        let chips = (0..self.chips()).filter(|chip| self.chip(*chip).is(part));
         let chips: Vec<usize> = chips.collect();
         (!chips.is_empty()).then(|| self.rng.pick(&chips))
     }
@@ -202,7 +202,7 @@ impl<'a> Bench<'a> {
     /// The image of a DS28EC20 in the model.
     pub fn memory(&self, chip: usize) -> &[u8] {
         let before = self.wire.line.table[..chip].iter();
-        let at = before.filter(|chip| chip.kind == DS28EC20).count();
+        let at = before.filter(|chip| chip.is(DS28EC20)).count();
         &self.wire.line.images[IMAGE * at..IMAGE * (at + 1)]
     }
 
@@ -256,7 +256,7 @@ impl<'a> Bench<'a> {
 
     /// A command that makes a chip at the function level speak, and some of what it says.
     pub fn speak(&mut self, chip: usize) {
-        let command = if self.chip(chip).kind == DS28EC20 {
+        let command = if self.chip(chip).is(DS28EC20) {
             0xAA
         } else {
             0xF5

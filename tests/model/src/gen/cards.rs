@@ -1,6 +1,7 @@
 //! Cards, good and damaged.
 
 use super::rng::Rng;
+use crate::model::chip::{part_of, DS28EC20, LAST_KIND};
 use crate::model::crc::crc8;
 
 /// What kind of line a card makes.
@@ -42,7 +43,7 @@ fn good_code(rng: &mut Rng, family: u8) -> u64 {
 
 /// The family that a kind usually has.
 fn family(kind: u16) -> u8 {
-    if kind == 1 {
+    if part_of(kind.into()) == Some(DS28EC20) {
         0x43
     } else {
         0x3A
@@ -56,7 +57,7 @@ fn any_code(rng: &mut Rng, kind: u16, others: &[u64]) -> u64 {
         1 => rng.below(8) as u64,
         2 => rng.bits(),
         3 => good_code(rng, family(kind)) ^ 1 << rng.between(56, 63),
-        4 => good_code(rng, family(3 - kind)),
+        4 => good_code(rng, family(kind) ^ 0x43 ^ 0x3A),
         5 if !others.is_empty() => rng.pick(others),
         6 if !others.is_empty() => rng.pick(others) ^ 1 << rng.below(64),
         7 if !others.is_empty() => rng.pick(others) ^ 1 << rng.between(56, 63),
@@ -116,10 +117,11 @@ pub fn card_of(rng: &mut Rng, chips: usize) -> Vec<u8> {
 /// The number of ways to damage a card.
 pub const DAMAGES: usize = 15;
 
-/// A kind that is neither 1 nor 2.
+/// A kind that is not known.
 fn wrong_kind(rng: &mut Rng) -> [u8; 2] {
     let odd = rng.bits() as u16 | 4;
-    rng.pick(&[0, 3, 0x0101, 0x0102, 0x0201, 0x0100, 0x8002, 0xFFFF, odd])
+    let next = LAST_KIND as u16 + 1;
+    rng.pick(&[0, next, 0x0101, 0x0102, 0x0201, 0x0100, 0x8002, 0xFFFF, odd])
         .to_le_bytes()
 }
 

@@ -862,7 +862,7 @@ fn over_senders(b: &mut Bench<'_>) {
     }
     b.speak(chip);
     b.reach(chip);
-    let command = if b.chip(chip).kind == DS28EC20 {
+    let command = if b.chip(chip).is(DS28EC20) {
         0xAA
     } else {
         0xF5
@@ -909,7 +909,7 @@ pub fn walk(b: &mut Bench<'_>) {
             noise(b);
         } else if b.rng.chance(1) {
             b.power_on();
-        } else if b.chip(chip).kind == DS28EC20 {
+        } else if b.chip(chip).is(DS28EC20) {
             memory_exchange(b, chip);
         } else {
             pio_exchange(b, chip);

@@ -2,7 +2,7 @@
 
 use std::collections::BTreeMap;
 
-use crate::model::chip::{DS2413, DS28EC20};
+use crate::model::chip::{part_of, DS28EC20, LAST_KIND};
 use crate::model::lent::Lent;
 use crate::model::memory::{LAST, PAD};
 use crate::model::record::{filling, shape, word, A, B, ES, KIND, RECORD, STEP, STEPS, T, W};
@@ -64,10 +64,9 @@ pub const SIZES: [&str; 6] = [
 
 /// The kinds that a step belongs to.
 pub fn kinds_of(step: u8) -> Vec<u32> {
-    match shape(step).and_then(|shape| shape.kind) {
-        Some(kind) => vec![kind],
-        None => vec![DS28EC20, DS2413],
-    }
+    let part = shape(step).and_then(|shape| shape.part);
+    let own = |kind: &u32| part.is_none() || part_of(*kind) == part;
+    (1..=LAST_KIND).filter(own).collect()
 }
 
 /// Every class that a run must reach, but for damages.
@@ -114,7 +113,7 @@ impl Classes {
     /// Counts what a lent line is.
     pub fn note_line(&mut self, lent: &Lent) {
         let records: Vec<&[u8]> = lent.table.chunks_exact(RECORD).collect();
-        let memory = |record: &&[u8]| u32::from(record[KIND]) == DS28EC20;
+        let memory = |record: &&[u8]| part_of(record[KIND].into()) == Some(DS28EC20);
         self.saw_if(records.is_empty(), "line: no chips");
         self.saw_if(records.len() == 16, "line: 16 chips");
         let all = records.len() == 16 && records.iter().all(|record| memory(&record));

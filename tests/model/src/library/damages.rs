@@ -2,7 +2,7 @@
 
 use super::lines::{line_of, record_at};
 use crate::gen::rng::Rng;
-use crate::model::chip::{DS2413, DS28EC20};
+use crate::model::chip::{DS2413, DS28EC20, LAST_KIND};
 use crate::model::lent::Lent;
 use crate::model::record::{
     shape, A, B, C, ES, KIND, LATCHES, LEVELS, RC, RECORD, STEP, STEPS, UNUSED, W,
@@ -76,7 +76,9 @@ fn lengths() -> Vec<Damage> {
 fn fields() -> Vec<Damage> {
     vec![
         in_record("kind 0", |_, record| record[KIND] = 0),
-        in_record("kind over 2", |rng, record| record[KIND] = from(rng, 3)),
+        in_record("kind past the last", |rng, record| {
+            record[KIND] = from(rng, LAST_KIND as u8 + 1)
+        }),
         in_record("RC over 1", |rng, record| record[RC] = from(rng, 2)),
         in_record("E/S bit 6", |_, record| record[ES] |= 0x40),
         in_record("latches over 3", |rng, record| {
@@ -107,9 +109,9 @@ fn unused() -> Vec<Damage> {
 /// Faults of what one step needs: the other kind, and each field one over its most or more.
 fn of_step(step: u8) -> Vec<Damage> {
     let shape = shape(step).expect("a step");
-    let kind = shape.kind.unwrap_or(DS28EC20);
+    let kind = shape.part.unwrap_or(DS28EC20);
     let mut all = Vec::new();
-    if shape.kind.is_some() {
+    if shape.part.is_some() {
         let make = move |rng: &mut Rng, lent: &mut Lent| {
             with_step(rng, lent, DS28EC20 + DS2413 - kind, step);
         };

@@ -1,7 +1,8 @@
 //! Lent lines that no history need reach: any step in any chip, any register, any memory.
 
+use super::classes::kinds_of;
 use crate::gen::rng::Rng;
-use crate::model::chip::{DS2413, DS28EC20};
+use crate::model::chip::{part_of, DS2413, DS28EC20};
 use crate::model::lent::Lent;
 use crate::model::memory::{BLOCK_LOCK, CONTROLS, IMAGE, LAST, PAD, PAGE_LOCK};
 use crate::model::record::{
@@ -136,8 +137,7 @@ fn fill(rng: &mut Rng, record: &mut [u8; RECORD]) {
 
 /// The steps that a chip of this kind can be in.
 fn steps_of(kind: u32) -> Vec<u8> {
-    let own =
-        |step: &u8| shape(*step).is_some_and(|shape| shape.kind.is_none_or(|own| own == kind));
+    let own = |step: &u8| kinds_of(*step).contains(&kind);
     STEPS.into_iter().filter(own).collect()
 }
 
@@ -147,7 +147,7 @@ pub fn line_of(rng: &mut Rng, kinds: &[u32]) -> Lent {
     let mut codes = Vec::new();
     for kind in kinds {
         // A copy is the step that does most.
-        let copies = *kind == DS28EC20 && rng.chance(15);
+        let copies = part_of(*kind) == Some(DS28EC20) && rng.chance(15);
         let step = if copies {
             23
         } else {
@@ -156,7 +156,7 @@ pub fn line_of(rng: &mut Rng, kinds: &[u32]) -> Lent {
         codes.push(code(rng, &codes));
         lent.table
             .extend(record_at(rng, *kind, step, codes[codes.len() - 1]));
-        if *kind == DS28EC20 {
+        if part_of(*kind) == Some(DS28EC20) {
             lent.images.extend(image(rng));
             lent.pads.extend((0..PAD).map(|_| byte(rng)));
         }

@@ -7,7 +7,7 @@ use super::lines::{any_event, any_line, line_of};
 use super::{Script, Tester};
 use crate::gen::cards::{card_of, damaged_card, good_card, Style, DAMAGES};
 use crate::gen::rng::Rng;
-use crate::model::chip::DS2413;
+use crate::model::chip::{part_of, DS2413, DS28EC20};
 use crate::model::lent::Lent;
 use crate::model::memory::{IMAGE, PAD};
 use crate::model::record::{KIND, RECORD};
@@ -165,7 +165,7 @@ impl Tester {
         let table = script.lent.table[..chips * RECORD].to_vec();
         let memories = table
             .chunks_exact(RECORD)
-            .filter(|record| record[KIND] == 1);
+            .filter(|record| part_of(record[KIND].into()) == Some(DS28EC20));
         let memories = memories.count();
         let lent = Lent {
             table,

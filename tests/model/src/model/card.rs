@@ -1,7 +1,7 @@
 //! The card: a run of records that sets up the table.
 
 use super::book::{Book, Rule, Slip};
-use super::chip::{Chip, DS2413, DS28EC20};
+use super::chip::{part_of, Chip, DS2413, DS28EC20};
 
 /// Reads a card into a table of so many places: the chips, or the refusal and the offset
 /// of the refused record.
@@ -47,7 +47,7 @@ fn read_record(left: &[u8], full: bool, book: &mut Book) -> Result<Option<Chip>,
     if book.slips(Slip::KindLow) {
         kind &= 0xFF;
     }
-    if kind != DS28EC20 && kind != DS2413 {
+    if part_of(kind).is_none() {
         book.saw(Rule::CardKind);
         book.saw_if(matches!(kind & 0xFF, 1 | 2), Rule::CardKindHigh);
         book.saw_if(length != 10, Rule::CardKindFirst);

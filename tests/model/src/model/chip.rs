@@ -9,10 +9,21 @@ use super::memory::{
     READ_ONLY,
 };
 
-/// Kind of a DS28EC20.
+/// Kind of a DS28EC20, and its number as a part.
 pub const DS28EC20: u32 = 1;
-/// Kind of a DS2413.
+/// Kind of a DS2413, and its number as a part.
 pub const DS2413: u32 = 2;
+/// The last kind that is known; the first is 1.
+pub const LAST_KIND: u32 = 2;
+
+/// The part that a kind is; none for a kind that is not known.
+pub fn part_of(kind: u32) -> Option<u32> {
+    match kind {
+        1 => Some(DS28EC20),
+        2 => Some(DS2413),
+        _ => None,
+    }
+}
 
 /// E/S: the flag of a cut byte.
 pub const PF: u8 = 0x20;
@@ -158,6 +169,11 @@ impl Chip {
         }
     }
 
+    /// Whether the chip is this part.
+    pub fn is(&self, part: u32) -> bool {
+        part_of(self.kind) == Some(part)
+    }
+
     /// How many bits the step takes, if it takes.
     fn takes(&self) -> Option<usize> {
         match self.step {
@@ -205,10 +221,8 @@ impl Chip {
             | Step::CopyBytes
             | Step::CopyDone
             | Step::ReadAddress
-            | Step::ReadData(_) => self.kind == DS28EC20,
-            Step::PioRead | Step::PioPair | Step::PioConfirm | Step::PioStatus => {
-                self.kind == DS2413
-            }
+            | Step::ReadData(_) => self.is(DS28EC20),
+            Step::PioRead | Step::PioPair | Step::PioConfirm | Step::PioStatus => self.is(DS2413),
             _ => true,
         };
         let place = match self.step {
@@ -235,7 +249,7 @@ impl Chip {
             ) => (1..=8).contains(&self.bits.len()),
             _ => self.bits.is_empty(),
         };
-        (self.kind == DS28EC20 || self.kind == DS2413)
+        part_of(self.kind).is_some()
             && self.es & BS == 0
             && self.latches <= 3
             && self.levels <= 3
@@ -258,7 +272,7 @@ impl Chip {
         if !book.slips(Slip::PowerKeepsRc) {
             self.rc = false;
         }
-        if self.kind == DS28EC20 {
+        if self.is(DS28EC20) {
             if !book.slips(Slip::PowerKeepsT) {
                 self.t = 0;
                 self.es = PF;
@@ -294,7 +308,7 @@ impl Chip {
         if book.slips(Slip::RcReset) {
             self.rc = false;
         }
-        if self.kind == DS2413 && book.slips(Slip::ResetOpensLatches) {
+        if self.is(DS2413) && book.slips(Slip::ResetOpensLatches) {
             self.latches = 3;
         }
         self.step = Step::RomCommand;
@@ -363,7 +377,7 @@ impl Chip {
             Step::FunctionCommand => {
                 if let Some(bytes) = self.take(value) {
                     book.saw_if(self.trace.searched, Rule::RomSearchFunction);
-                    if self.kind == DS28EC20 {
+                    if self.is(DS28EC20) {
                         self.memory_command(bytes[0], book);
                     } else {
                         self.pio_command(bytes[0], book);
@@ -923,7 +937,7 @@ impl Chip {
     /// Counts what a power on meets.
     fn note_power_on(&self, pad: &[u8], book: &mut Book) {
         book.saw_if(self.rc, Rule::PowerOnClearsRc);
-        if self.kind == DS28EC20 {
+        if self.is(DS28EC20) {
             book.saw_if(self.t != 0 || self.es != PF, Rule::PowerOnRegisters);
             book.saw_if(
                 pad.iter().any(|&byte| byte != 0xFF),
@@ -941,7 +955,7 @@ impl Chip {
     fn note_reset(&self, book: &mut Book) {
         let begun = !self.bits.is_empty();
         book.saw_if(self.rc, Rule::ResetKeepsRc);
-        if self.kind == DS28EC20 {
+        if self.is(DS28EC20) {
             book.saw_if(self.t != 0, Rule::ResetKeepsRegisters);
         } else {
             book.saw_if(self.latches != 3, Rule::ResetKeepsLatches);

@@ -2,7 +2,7 @@
 
 use super::book::Book;
 use super::card::read_card;
-use super::chip::{Chip, DS28EC20};
+use super::chip::{part_of, Chip, DS28EC20};
 use super::line::{Line, MOST};
 use super::memory::{IMAGE, PAD};
 use super::record::{is_in_range, is_record, pack, unpack, KIND, RECORD};
@@ -28,7 +28,7 @@ pub struct Searched {
 fn memories(table: &[u8]) -> usize {
     let records = table.chunks_exact(RECORD);
     records
-        .filter(|record| u32::from(record[KIND]) == DS28EC20)
+        .filter(|record| part_of(record[KIND].into()) == Some(DS28EC20))
         .count()
 }
 
@@ -80,7 +80,7 @@ impl Lent {
         let mut images = self.images.chunks_exact(IMAGE);
         let mut pads = self.pads.chunks_exact(PAD);
         let chip = |record: &[u8]| -> Chip {
-            if u32::from(record[KIND]) == DS28EC20 {
+            if part_of(record[KIND].into()) == Some(DS28EC20) {
                 let image = images.next().expect("an image for each memory");
                 unpack(
                     record,

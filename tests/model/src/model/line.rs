@@ -20,7 +20,7 @@ pub struct Line {
 impl Line {
     /// A line as the programs set it up: images FFh, then power on.
     pub fn set_up(table: Vec<Chip>, book: &mut Book) -> Line {
-        let memories = table.iter().filter(|chip| chip.kind == DS28EC20).count();
+        let memories = table.iter().filter(|chip| chip.is(DS28EC20)).count();
         let mut line = Line {
             table,
             images: vec![0xFF; IMAGE * memories],
@@ -32,7 +32,7 @@ impl Line {
 
     /// Refusal 8 or 5, if one holds.
     pub fn refusal(&self) -> Option<u8> {
-        let memories = self.table.iter().filter(|chip| chip.kind == DS28EC20);
+        let memories = self.table.iter().filter(|chip| chip.is(DS28EC20));
         let memories = memories.count();
         if self.table.len() > MOST || !self.table.iter().all(Chip::is_in_range) {
             Some(8)
@@ -123,7 +123,7 @@ impl Line {
     fn levels(&mut self, chip: u64, levels: u64, book: &mut Book) -> Result<u8, u8> {
         let known = self.table.get(chip as usize);
         let absent = known.is_none();
-        let other = known.is_some_and(|chip| chip.kind != DS2413);
+        let other = known.is_some_and(|chip| !chip.is(DS2413));
         if absent && !book.slips(Slip::LevelsAbsent) {
             book.saw(Rule::Refusal7Absent);
             return Err(7);
@@ -148,7 +148,7 @@ impl Line {
         let mut images = self.images.chunks_mut(IMAGE);
         let mut pads = self.pads.chunks_mut(PAD);
         for chip in &mut self.table {
-            if chip.kind == DS28EC20 {
+            if chip.is(DS28EC20) {
                 let image = images.next().expect("an image for each memory");
                 let pad = pads.next().expect("a scratchpad for each memory");
                 act(chip, image, pad);

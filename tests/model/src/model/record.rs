@@ -2,7 +2,7 @@
 
 use std::collections::VecDeque;
 
-use super::chip::{Chip, Step, DS2413, DS28EC20};
+use super::chip::{part_of, Chip, Step, DS2413, DS28EC20};
 use super::crc::crc16;
 use super::memory::LAST;
 
@@ -31,8 +31,8 @@ pub const STEPS: [u8; 22] = [
 /// What a step uses: the most that w, a, b and c may be, 0 for one that it does not use.
 #[derive(Clone, Copy)]
 pub struct Shape {
-    /// The kind that it belongs to, if not to any.
-    pub kind: Option<u32>,
+    /// The part that it belongs to, if not to any.
+    pub part: Option<u32>,
     pub w: u16,
     pub a: u8,
     pub b: u8,
@@ -57,12 +57,12 @@ pub fn shape(step: u8) -> Option<Shape> {
         35 => (0, 7, 0, 0),
         _ => return None,
     };
-    let kind = match step {
+    let part = match step {
         0..=5 => None,
         16..=26 => Some(DS28EC20),
         _ => Some(DS2413),
     };
-    Some(Shape { kind, w, a, b, c })
+    Some(Shape { part, w, a, b, c })
 }
 
 /// Two bytes of a record as a number.
@@ -92,10 +92,10 @@ pub fn is_in_range(record: &[u8]) -> bool {
     let Some(shape) = shape(record[STEP]) else {
         return false;
     };
-    let kind = u32::from(record[KIND]);
+    let part = part_of(record[KIND].into());
     is_record(record)
-        && (kind == DS28EC20 || kind == DS2413)
-        && shape.kind.is_none_or(|own| own == kind)
+        && part.is_some()
+        && (shape.part.is_none() || shape.part == part)
         && record[ES] & 0x40 == 0
         && record[LATCHES] <= 3
         && record[LEVELS] <= 3
@@ -231,7 +231,7 @@ pub fn pack(chip: &Chip) -> [u8; RECORD] {
         Step::SearchComplement(place) => (4, 0, place as u8, 1, 0),
         Step::SearchTake(place) => (4, 0, place as u8, 2, 0),
         Step::FunctionCommand => (5, 0, count, byte(0), 0),
-        Step::Ones if chip.kind == DS28EC20 => (16, 0, 0, 0, 0),
+        Step::Ones if chip.is(DS28EC20) => (16, 0, 0, 0, 0),
         Step::Ones => (32, 0, 0, 0, 0),
         Step::WriteAddress => (17, wide, count, 0, 0),
         Step::WriteData(offset) => (18, crc, offset as u8, count, byte(0)),
