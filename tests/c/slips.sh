@@ -12,7 +12,7 @@ slips=(
     'range.c|s/chip->c <= shape->c \&\& //|c is not looked at where a step does not use it'
     'range.c|s/chip->rc <= 1 \&\& //|RC may be any byte'
     'range.c|s/ \&\& (chip->es \& BS) == 0//|E/S bit 6 is not looked at'
-    'range.c|s/(shape->kinds \& chip->kind) != 0/shape->kinds != 0/|a step of another kind is taken'
+    'range.c|s/(shape->parts \& part_of(chip->kind)) != 0/shape->parts != 0 \&\& part_of(chip->kind) != 0/|a step of another kind is taken'
     'range.c|s/\[READ_ROM\] = {ANY, 0, 63/[READ_ROM] = {ANY, 0, 64/|Read ROM has a place 64'
     'range.c|s/\[READ_DATA\] = {MEMORY, LAST_ADDRESS/[READ_DATA] = {MEMORY, LAST_ADDRESS + 1/|Read Memory may stand past the last address'
     'range.c|s/    if (chip->step == COPIED .*/    if (0)/|a flag of 2 is a record'

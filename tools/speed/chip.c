@@ -98,7 +98,7 @@ static void rom_slot(struct chip *chip, unsigned value)
         break;
     case FUNCTION_COMMAND:
         if (byte_in(chip, value)) {
-            if (chip->kind == TK_DS28EC20)
+            if (part_of(chip->kind) == MEMORY)
                 memory_command(chip, chip->b);
             else
                 switch_command(chip, chip->b);
@@ -127,7 +127,7 @@ void chip_reset(struct chip *chip)
 void chip_power_on(struct chip *chip, uint8_t *pad)
 {
     chip->rc = 0;
-    if (chip->kind == TK_DS28EC20) {
+    if (part_of(chip->kind) == MEMORY) {
         chip->t = 0;
         chip->es = PF;
         memset(pad, 0xFF, TK_PAD_SIZE);

@@ -5,6 +5,13 @@
 #include <stdbool.h>
 #include <stdint.h>
 
+#include "toemsakun.h"
+
+/* The part that a kind is, as a bit; 0 for a kind that is not known. */
+#define MEMORY 1
+#define SWITCH 2
+static inline unsigned part_of(unsigned kind) { return kind == TK_DS28EC20 ? MEMORY : kind == TK_DS2413 ? SWITCH : 0; }
+
 /* What a chip is in the middle of; the numbers are those of the record. */
 enum step {
     WAITING = 0,

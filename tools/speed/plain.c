@@ -17,13 +17,13 @@ static unsigned line_slot(struct plain_line *line, unsigned host)
     uint8_t *image = line->images, *pad = line->pads;
     for (size_t i = 0; i < line->count; i++) {
         value &= chip_sends(&line->chips[i], image, pad);
-        if (line->chips[i].kind == TK_DS28EC20)
+        if (part_of(line->chips[i].kind) == MEMORY)
             image += TK_IMAGE_SIZE, pad += TK_PAD_SIZE;
     }
     image = line->images, pad = line->pads;
     for (size_t i = 0; i < line->count; i++) {
         chip_slot(&line->chips[i], value, image, pad);
-        if (line->chips[i].kind == TK_DS28EC20)
+        if (part_of(line->chips[i].kind) == MEMORY)
             image += TK_IMAGE_SIZE, pad += TK_PAD_SIZE;
     }
     return value;
@@ -43,7 +43,7 @@ static void line_power_on(struct plain_line *line)
     uint8_t *pad = line->pads;
     for (size_t i = 0; i < line->count; i++) {
         chip_power_on(&line->chips[i], pad);
-        if (line->chips[i].kind == TK_DS28EC20)
+        if (part_of(line->chips[i].kind) == MEMORY)
             pad += TK_PAD_SIZE;
     }
 }
@@ -60,7 +60,7 @@ int32_t plain_line_event(struct plain_line *line, uint32_t event, uint32_t chip,
         line_power_on(line);
         return 1;
     case TK_LEVELS:
-        if (chip >= line->count || line->chips[chip].kind != TK_DS2413 || levels > 3)
+        if (chip >= line->count || part_of(line->chips[chip].kind) != SWITCH || levels > 3)
             return -TK_NO_SUCH_LEVELS;
         line->chips[chip].levels = (uint8_t)levels;
         return 1;
@@ -82,7 +82,7 @@ static size_t memories(const uint8_t *table, size_t table_size)
         memcpy(&chip, table + at, sizeof chip);
         if (!chip_is_record(&chip))
             return 0;
-        found += chip.kind == TK_DS28EC20;
+        found += part_of(chip.kind) == MEMORY;
     }
     return found;
 }
@@ -100,7 +100,7 @@ int32_t plain_line_take(struct plain_line *line, const uint8_t *table, size_t ta
     for (size_t i = 0; i < line->count; i++) {
         if (!chip_in_range(&line->chips[i]))
             return -TK_OUT_OF_RANGE;
-        found += line->chips[i].kind == TK_DS28EC20;
+        found += part_of(line->chips[i].kind) == MEMORY;
     }
     bool fits = images_size == found * TK_IMAGE_SIZE && pads_size == found * TK_PAD_SIZE;
     return fits ? 0 : -TK_WRONG_SIZE;
@@ -121,7 +121,7 @@ static int32_t card_refusal(const uint8_t *record, size_t left, bool full)
     if (left < 4)
         return TK_WRONG_LENGTH;
     unsigned length = record[0] | record[1] << 8, kind = record[2] | record[3] << 8;
-    if (kind != TK_DS28EC20 && kind != TK_DS2413)
+    if (part_of(kind) == 0)
         return TK_UNKNOWN_KIND;
     if (length != 10 || left < 12)
         return TK_WRONG_LENGTH;

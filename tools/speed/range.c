@@ -4,14 +4,12 @@
 #include "parts.h"
 #include "toemsakun.h"
 
-/* The kinds that a step belongs to, as bits; 0 for a number that is no step. */
-#define MEMORY 1
-#define SWITCH 2
+/* The parts that a step belongs to, as bits; 0 for a number that is no step. */
 #define ANY (MEMORY | SWITCH)
 
 /* What a step uses, by the most that each field may be; a field that it does not use is 0. */
 struct shape {
-    uint8_t kinds;
+    uint8_t parts;
     uint16_t w;
     uint8_t a;
     uint8_t b;
@@ -55,7 +53,7 @@ static bool rest_is_zero(const struct chip *chip)
 
 bool chip_is_record(const struct chip *chip)
 {
-    if (chip->step > PIO_STATUS || shapes[chip->step].kinds == 0 || chip->rc > 1 || !rest_is_zero(chip))
+    if (chip->step > PIO_STATUS || shapes[chip->step].parts == 0 || chip->rc > 1 || !rest_is_zero(chip))
         return false;
     const struct shape *shape = &shapes[chip->step];
     if (chip->step == COPIED && chip->a > shape->a)
@@ -66,10 +64,10 @@ bool chip_is_record(const struct chip *chip)
 
 bool chip_in_range(const struct chip *chip)
 {
-    if (chip->step > PIO_STATUS || chip->kind < TK_DS28EC20 || chip->kind > TK_DS2413)
+    if (chip->step > PIO_STATUS)
         return false;
     const struct shape *shape = &shapes[chip->step];
-    return (shape->kinds & chip->kind) != 0 && chip->rc <= 1 && (chip->es & BS) == 0 && chip->latches <= 3 &&
+    return (shape->parts & part_of(chip->kind)) != 0 && chip->rc <= 1 && (chip->es & BS) == 0 && chip->latches <= 3 &&
            chip->levels <= 3 && chip->w <= shape->w && chip->a <= shape->a && chip->b <= shape->b &&
            chip->c <= shape->c && rest_is_zero(chip);
 }
