@@ -4,10 +4,9 @@ use native.Mathlib.Omega.{arith}
 use mathlib.Core.Bool.{Bool, true, false, true≢false}
 use mathlib.Core.List.{List, [], _∷_, map}
 use mathlib.Core.Path.{_≡_, refl, _∙_, ap, sym}
-use lib.Dec.{eqb}
 use lib.ListN.{length}
 use borrow.Author.Tests.{eqb-true}
-use Rattle.base.specs.Pick.{pick-false, pick-both, pick-if}
+use Rattle.base.specs.Pick.{pick, pick-false, pick-both, pick-if}
 use Rattle.base.specs.Both.{both-holds}
 use Rattle.ds2413.specs.Switch.{phaseInRange}
 use Rattle.ds2413.specs.declared.Switch.{Switch}
@@ -54,9 +53,12 @@ stays-onto w u x p q =
     }
 
 -- a DS28EC20 has no latches
+not-switch : (k : ℕ) → k ≡ 1 → hasSwitch k ≡ false
+unfolding hasSwitch pick
+not-switch k e = ap hasSwitch e
+
 no-switch : (k : ℕ) → k ≡ 1 → hasSwitch k ≡ true → ⊥
-unfolding hasSwitch
-no-switch k e f = true≢false (sym f ∙ ap (λ (n : ℕ). eqb n 2) e)
+no-switch k e f = true≢false (sym f ∙ not-switch k e)
 
 -- and event 4 does not take it
 pub not-both : (k : ℕ) → k ≡ 1 → takesOutside k ≡ true → ⊥
@@ -81,10 +83,10 @@ level-rest w v (Pio p) h e = absurd (no-switch (w .chip .kind) e (both-holds (ha
 
 -- so does every act
 act-rest : (a : Act) (w : Whole) → Good w → w .chip .kind ≡ 1 → bare (actOf a w .chip) ≡ bare (w .chip)
-unfolding takesOf resetOf resetChip powerOnOf powerOnChip hasSwitch
+unfolding takesOf resetOf resetChip powerOnOf powerOnChip
 act-rest (Take v) w g e = level-rest w v (w .chip .level) (g .range .place) e
 act-rest Reset w g e = refl
-act-rest PowerOn w g e = ap (λ (s : Switch). bare (withSwitch s (w .chip))) (pick-false (hasSwitch (w .chip .kind)) _ _ (ap (λ (k : ℕ). eqb k 2) e))
+act-rest PowerOn w g e = ap (λ (s : Switch). bare (withSwitch s (w .chip))) (pick-false (hasSwitch (w .chip .kind)) _ _ (not-switch (w .chip .kind) e))
 
 -- every act
 act-stays : (a : Act) (w : Whole) → Stays w (actOf a w)
