@@ -1,6 +1,6 @@
 -- The lent form and the plain form agree: a table by value with the places Z past its chips, and the chips alone as a lent
 -- slice, come to the same by every event, by every search and by every card, and the places Z stay.
-use Prim.Native.Nat.{ℕ, _≤_}
+use Prim.Native.Nat.{ℕ}
 use native.Mathlib.Omega.{arith}
 use mathlib.Core.List.{List, _++_, append-assoc}
 use mathlib.Core.Path.{_≡_, refl, _∙_, ap, sym}

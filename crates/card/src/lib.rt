@@ -1,5 +1,4 @@
 // A card: a run of records that says which chips are attached, and set-up of a table from it.
-use chip::Chip;
 use line::Table;
 use records::Head;
 ghost use mathlib.Core.Path.{_≡_};

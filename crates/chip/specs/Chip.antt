@@ -66,11 +66,11 @@ romSlot c s v =
     let t = romTakes (c .code) (c .rc) v (knowsOf (c .kind)) s in
     withLevel (levelOf (t .next)) (withRc (t .rc) c)
 
--- a chip after a step of a memory
+-- a chip after a slot of its memory
 abbrev pub afterMemory : Chip → MemoryAfter → ChipAfter
 afterMemory c t = left (withLevel (Memory (t .phase)) (withRegisters (t .registers) c)) (t .deed)
 
--- a chip after a step of a switch
+-- a chip after a slot of its switch
 abbrev pub afterSwitch : Chip → SwitchAfter → Chip
 afterSwitch c t = withLevel (Pio (t .phase)) (withSwitch (t .switch) c)
 

@@ -46,7 +46,7 @@ pub sends-in : (w : Whole) (l : Level) → w .chip .level ≡ l → sendsOf w �
 unfolding sendsOf
 sends-in w l e = ap (levelSends w) e
 
--- a slot in a row: look, fetch, step, and the deed done
+-- a slot in a row: look, fetch, take, and the deed done
 pub takes-is : (c : Chip) (v : Bool) (m s m′ s′ : List ℕ) (k : Look) (x : Seen) (t : ChipAfter) (p : Part)
     → k ≡ looksOf c → x ≡ seenIn m s k → t ≡ takesBy c v x → p ≡ partOf (c .kind) → bytes m′ s′ ≡ done (mapOf p) m s (t .deed)
     → whole (t .chip) m′ s′ ≡ takesOf v (whole c m s)

@@ -59,7 +59,7 @@ pub fn rom_slot(c: Chip, step: RomStep, v: bool) -> Chip
     }
 }
 
-// A chip after a step of a memory.
+// A chip after a slot of its memory.
 pub fn after_memory(c: Chip, to: MemoryAfter) -> ChipAfter
     ensures { λ r. ⌜ r ≡ afterMemory c to ⌝ }
 {
@@ -77,7 +77,7 @@ pub fn after_memory(c: Chip, to: MemoryAfter) -> ChipAfter
     }
 }
 
-// A chip after a step of a switch.
+// A chip after a slot of its switch.
 pub fn after_switch(c: Chip, to: SwitchAfter) -> Chip
     ensures { λ r. ⌜ r ≡ afterSwitch c to ⌝ }
 {

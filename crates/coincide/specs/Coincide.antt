@@ -13,6 +13,7 @@ use Rattle.scratchpad.specs.Map.{Map}
 use Rattle.scratchpad.specs.declared.Deed.{Deed}
 use Rattle.line.specs.Layout.{lent}
 use Rattle.line.specs.Event.{Answered, bit, refused, numberOf, answered, Outcome, outcome, eventOf}
+use Rattle.line.specs.Events.{slotEvent}
 use Rattle.line.specs.declared.Event.{Event}
 use Rattle.line.specs.declared.Answer.{Answer}
 use Rattle.line.specs.declared.Answer.the-variants as answer
@@ -21,7 +22,8 @@ use Rattle.line.specs.declared.Refusal.the-variants.{OutOfRange, WrongSize, NoS
 use Rattle.card.specs.Card.{Carded, chips, refused as refusedAt, carded, SetUp, setUp, setUpOf}
 use Rattle.card.specs.declared.CardAnswer.{CardAnswer}
 use Rattle.card.specs.declared.CardAnswer.the-variants.{Chips, TooMany, UnknownKind, WrongLength}
-use Rattle.search.specs.Search.{Searched, complete, refused as refusedBy, searched, Attached, Search, outcome as found, searchOf}
+use Rattle.search.specs.Search.{Searched, complete, refused as refusedBy, searched, Attached, saysOf, leavesOf, wire, playedWrite, Search, outcome as found, searchOf}
+use Rattle.search.specs.Host.{Played, heard, play, write}
 use Rattle.search.specs.declared.SearchAnswer.{SearchAnswer}
 use Rattle.line.specs.Carrier.{Turn, turned}
 use Rattle.line.specs.declared.Spot.{Spot}
@@ -183,5 +185,15 @@ carry-out M m s d x x′ y y′ p q = let r = one-answer (done M m s d) _ _ p q 
 pub two-answers : {A B : Type 0} (s : A) (t : B) (x x′ : A) (y y′ : B) → (x ≡ s) × (y ≡ t) → (x′ ≡ s) × (y′ ≡ t) → (x ≡ x′) × (y ≡ y′)
 two-answers s t x x′ y y′ p q = (one-answer s x x′ (p .0) (q .0), one-answer t y y′ (p .1) (q .1))
 
+-- `search::slot`: what is heard, and the table with its buffers
+pub slot : (b : Bool) (l : Attached) (v v′ : Bool) (t t′ : Attached) → (v ≡ heard (saysOf (slotEvent b) l)) × (t ≡ leavesOf (slotEvent b) l)
+    → (v′ ≡ heard (saysOf (slotEvent b) l)) × (t′ ≡ leavesOf (slotEvent b) l) → (v ≡ v′) × (t ≡ t′)
+slot b l v v′ t t′ = two-answers (heard (saysOf (slotEvent b) l)) (leavesOf (slotEvent b) l) v v′ t t′
+
+-- `search::write_byte`: the table with its buffers
+pub write-byte : (byte : ℕ) (l t t′ : Attached) → playedWrite t 8 ≡ play wire (write 8 0 byte) l → playedWrite t′ 8 ≡ play wire (write 8 0 byte) l → t ≡ t′
+write-byte byte l t t′ p q = ap (λ (o : Played (Unit {0}) Attached). o .line) (one-answer (play wire (write 8 0 byte) l) (playedWrite t 8) (playedWrite t′ 8) p q)
+
+-- `chip::power_on` and `lent::record::power_on`
 pub power-on : (c x x′ : Chip) (s y y′ : List ℕ) → (x ≡ powerOnChip c) × (y ≡ powerOnPad (c .kind) s) → (x′ ≡ powerOnChip c) × (y′ ≡ powerOnPad (c .kind) s) → (x ≡ x′) × (y ≡ y′)
 power-on c x x′ s y y′ = two-answers (powerOnChip c) (powerOnPad (c .kind) s) x x′ y y′

@@ -39,8 +39,6 @@ use Rattle.packed.specs.Packed.{packed, putRecord, putTable, sameBytes, tableFr
 use Rattle.records.specs.Numbers.{numberAt}
 use Rattle.records.specs.Records.{headAt}
 use Rattle.rom.specs.Rom.{commandBit, commandOf, matchBit, readBit, romInRange, romSends, romTakes, searchBit, searchSends}
-use Rattle.search.specs.Host.{heard, play, write}
-use Rattle.search.specs.Search.{Attached, saysOf, leavesOf, wire}
 use Rattle.scratchpad.specs.Registers.{mark, powerOnRegisters, ruleOfByte}
 use Rattle.scratchpad.specs.Map.{ruleBy}
 use Rattle.scratchpad.specs.Scratchpad.{byteAtHand, handOf, inPage, memoryBegins, memoryFunction, memoryInRange, memoryReset, memorySends, memoryTakes, pageAtHand, registersInRange, memoryAfter}
@@ -552,14 +550,6 @@ toemsakun-images-size table = one-answer (imagesBytes table)
 
 pub toemsakun-pads-size : (table : List ℕ) → Settled (padsBytes table)
 toemsakun-pads-size table = one-answer (padsBytes table)
-
--- search
-
-pub search-slot : (b : Bool) (l : Attached) → Settled (heard (saysOf (slotEvent b) l)) × Settled (leavesOf (slotEvent b) l)
-search-slot b l = (one-answer (heard (saysOf (slotEvent b) l)), one-answer (leavesOf (slotEvent b) l))
-
-pub search-write-byte : (byte : ℕ) (l : Attached) → Settled (play wire (write 8 0 byte) l)
-search-write-byte byte l = one-answer (play wire (write 8 0 byte) l)
 
 -- terminal
 

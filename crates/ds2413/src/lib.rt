@@ -242,7 +242,7 @@ pub fn phase_in_range(p: SwitchPhase) -> bool
     }
 }
 
-// Whether latches and levels are two bits each.
+// Whether latches and outside levels are two bits each.
 pub fn in_range(c: Switch) -> bool
     ensures { λ r. ⌜ r ≡ switchInRange c ⌝ }
 {

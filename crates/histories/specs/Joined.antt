@@ -67,7 +67,7 @@ answers-joined [] l s = refl
 answers-joined (e ∷ es) l s =
     (λ j. says-is l s e j ∷ (answers-joined es (leavesOf e l) (stands-after l e s) ∙ ap (answers es) (line-after l e s)) j)
 
--- refusals 8 and 5 never come up in a run from a table that stands well
+-- refusals 8 and 5 never come up in a history from a table that stands well
 pub stands-on : (es : List Event) (l : Attached) → Stands l → Stands (runOn es l)
 stands-on [] l s = s
 stands-on (e ∷ es) l s = stands-on es (leavesOf e l) (stands-after l e s)

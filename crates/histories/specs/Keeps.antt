@@ -111,7 +111,7 @@ act-in-range PowerOn w h =
     powered : (s : Switch) → switchInRange s ≡ true → switchInRange (switchPowerOn s) ≡ true
     powered s k = both-true′ _ _ refl (both-holds (leb (s .latches) 3) (leb (s .outside) 3) k .1)
 
--- so do levels of two bits
+-- so do outside levels of two bits
 pub outside-in-range : (l : ℕ) (w : Whole) → l ≤ 3 → InRange (w .chip) → InRange (outsideOf l w .chip)
 unfolding outsideOf outsideChip switchInRange
 outside-in-range l w k h =

@@ -1,4 +1,4 @@
--- What every history keeps: a relation between a chip before and after that each act and each change of levels keeps holds
+-- What every history keeps: a relation between a chip before and after that each act and each change of outside levels keeps holds
 -- between every chip before a history and after it.
 use Prim.Native.Nat.{ℕ, zero, suc, _≤_}
 use mathlib.Core.Bool.{true}
@@ -50,7 +50,7 @@ module _ (R : Whole → Whole → Type 0) (same : (w : Whole) → R w w) (onto :
   each-act a [] = none
   each-act a (w ∷ L) = more (act a w) (each-act a L)
 
-  -- new levels of a DS2413
+  -- new outside levels of a DS2413
   each-level : (i l : ℕ) (L : List Whole) → takesOutside (at i L .chip .kind) ≡ true → l ≤ 3 → Each R L (outsideAt i l L)
   each-level i l [] e h = none
   each-level zero l (w ∷ L) e h = more (level l w e h) (each-same L)

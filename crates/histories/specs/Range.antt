@@ -37,9 +37,6 @@ both-true′ a b e f = rw (e, f)
 pub more-below : (count n : ℕ) → ltb count n ≡ true → ltb (count + 1) (n + 1) ≡ true
 more-below count n e = lt-ltb (count + 1) (n + 1) (let h = ltb-true count n e in omega arith)
 
-below : (k n : ℕ) → k < n → ltb k n ≡ true
-below k n h = lt-ltb k n h
-
 -- where the ROM level leads is in range
 abbrev pub NextInRange : RomNext → Type 0
 NextInRange next.Wait = Unit
@@ -113,7 +110,7 @@ clear-aa es h = omega arith
 clear-t : (t : ℕ) → Clear (t % 32)
 clear-t t = omega arith
 
--- a step of a DS28EC20 leaves bit 6 of E/S 0 and its phase in range
+-- a slot of a DS28EC20 leaves bit 6 of E/S 0 and its phase in range
 module _ (last : ℕ) where
   abbrev PhaseInRange : MemoryPhase → Type 0
   PhaseInRange p = memoryInRange last p ≡ true
@@ -190,7 +187,7 @@ reset-clear r cut (memory.Copied answer) h = h
 reset-clear r cut (memory.ReadAddress count bits) h = h
 reset-clear r cut (memory.ReadMemory address count) h = h
 
--- a step of a DS2413 leaves its latches and levels two bits each and its phase in range
+-- a slot of a DS2413 leaves its latches and outside levels two bits each and its phase in range
 abbrev SwitchAfterInRange : SwitchAfter → Type 0
 SwitchAfterInRange s = (switchInRange (s .switch) ≡ true) × (phaseInRange (s .phase) ≡ true)
 

@@ -1,4 +1,4 @@
--- A line that stands well goes on standing well: refusals 8 and 5 never come up in a run from a good line, and what the public
+-- A line that stands well goes on standing well: refusals 8 and 5 never come up in a history from a good line, and what the public
 -- event does to a table and its buffers is what happens to the line of whole chips.
 use Prim.Native.Nat.{ℕ, zero, suc, _+_, _<_, _≤_}
 use native.Mathlib.Omega.{arith}
@@ -13,7 +13,6 @@ use borrow.Author.Tests.{eqb-true, leb-true, le-leb, eq-eqb}
 use Rattle.base.specs.Pick.{pick, pick-true, pick-if}
 use Rattle.base.specs.Bits.{both}
 use Rattle.base.specs.Both.{both-holds}
-use Rattle.chip.specs.Kinds.{takesOutside}
 use Rattle.chip.specs.Chip.{Whole}
 use Rattle.chip.specs.Range.{inRange}
 use Rattle.chip.specs.Kinds.{imageSize, padSize}

@@ -1,4 +1,4 @@
-// One chip's record in place: copied out whole, handed to the step, and stored whole.
+// One chip's record in place: copied out whole, handed to `chip`, and stored whole.
 use chip::Chip;
 ghost use mathlib.Core.Path.{_≡_};
 ghost use Rattle.chip.specs.Chip.{whole, takesOf, sendsOf, resetChip, powerOnChip, powerOnPad, outsideChip};

@@ -140,9 +140,6 @@ answerFor plan.PowerOn v = answer.Bit v
 answerFor (plan.Outside i l) v = answer.Bit v
 
 -- what a match of the code found, taken to what it matched
-pub host-at : (q p : Plan) (r : Bool) → q ≡ p → r ≡ hostOf p → r ≡ hostOf q
-host-at q p r = along hostOf q p r
-
 pub puts-at : (c : Chip) (s : Spot) (ms ss : List ℕ) (q p : Plan) (r : Bool) → q ≡ p → r ≡ putsAt p c s ms ss → r ≡ putsAt q c s ms ss
 puts-at c s ms ss q p r = along (λ (k : Plan). putsAt k c s ms ss) q p r
 

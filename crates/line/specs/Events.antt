@@ -4,7 +4,7 @@ use mathlib.Core.Bool.{Bool}
 use Rattle.base.specs.Pick.{pick}
 use Rattle.line.specs.declared.Event.{Event}
 
--- an event by its number, with the chip and the levels that event 4 names
+-- an event by its number, with the chip and the outside levels that event 4 names
 abbrev pub eventWith : ℕ → ℕ → ℕ → Event
 eventWith number chip outside = record { number = number; chip = chip; outside = outside }
 

@@ -10,7 +10,6 @@ use lib.Seq.{take-append-le, drop-append-le, length-take-le}
 use borrow.Author.Tests.{ltb-true, ltb-false, lt-leb}
 use Rattle.base.specs.Pick.{pick, pick-false}
 use Rattle.base.specs.Bits.{both}
-use Rattle.chip.specs.Kinds.{takesOutside}
 use Rattle.chip.specs.Chip.{Whole}
 use Rattle.chip.specs.declared.Chip.{Chip}
 use Rattle.line.specs.Line.{outsideAt, afterBy}

@@ -113,7 +113,7 @@ outside-fit e n kind h p =
 pub fit-small : (e : Event) (n kind : ℕ) → outsideFits e n kind ≡ true → e .number ≡ 4 → e .outside ≤ 3
 fit-small e n kind h p = outside-fit e n kind h p .1 .1
 
--- what an event can come to: what it asks, with levels that fit; or a refusal, whatever it asks and whichever refusal
+-- what an event can come to: what it asks, with outside levels that fit; or a refusal, whatever it asks and whichever refusal
 pub data Comes (cs : List Chip) : Plan → Type 0 where
   slot : (b : Bool) → Comes cs (plan.Slot b)
   reset : Comes cs plan.Reset

@@ -1,6 +1,5 @@
 -- Form: a table by value for chips that stand in another form, gathered in it one by one and put back from it.
 use Prim.Native.Nat.{ℕ, _+_}
-use mathlib.Core.List.{List}
 use lib.Dec.{leb, ltb}
 use lib.ListN.{getD, set, replicate}
 use Rattle.base.specs.Pick.{pick}

@@ -117,7 +117,7 @@ pub fn outside_fits(e: Event, n: usize, kind: u8) -> bool
     true
 }
 
-// What an event asks, where 4 has levels that fit.
+// What an event asks, where 4 has outside levels that fit.
 fn asked_of(e: Event, n: usize, kind: u8) -> Plan
     requires { ⌜ outsideFits e n kind ≡ true ⌝ }
     requires { ⌜ e .number ≤ 4 ⌝ }

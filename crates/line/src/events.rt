@@ -3,7 +3,8 @@ use crate::Event;
 ghost use mathlib.Core.Path.{_≡_};
 ghost use Rattle.line.specs.Events.{eventWith, slotEvent, resetEvent, powerOnEvent, outsideEvent};
 
-// An event by its number, for a caller that is handed numbers, with the chip and the levels that event 4 names.
+// An event by its number, for a caller that is handed numbers, with the chip and the outside levels that event 4
+// names.
 pub fn numbered(number: u32, chip: u32, outside: u32) -> Event
     ensures { λ r. ⌜ r ≡ eventWith number chip outside ⌝ }
 {

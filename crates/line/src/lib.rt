@@ -29,7 +29,7 @@ pub struct Table {
     pub chips: [Chip; 16],
 }
 
-// An event by its number, with the chip and the levels that event 4 names.
+// An event by its number, with the chip and the outside levels that event 4 names.
 pub struct Event {
     pub number: u32,
     pub chip: u32,

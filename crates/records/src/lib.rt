@@ -1,4 +1,4 @@
-// Records, length first: their heads, whatever their kinds.
+// Numbers in bytes, low byte first; and records, length first: their heads, whatever their kinds.
 ghost use mathlib.Core.List.{[], _∷_};
 ghost use mathlib.Core.Path.{_≡_};
 ghost use Prim.Native.Nat.{_+_};

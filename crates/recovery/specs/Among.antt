@@ -24,7 +24,7 @@ use Rattle.histories.specs.Histories.{at, answerOf, afterOf, run, answers, came
 use Rattle.histories.specs.Keeps.{act-named}
 use Rattle.histories.specs.Standing.{at-chip, length-chips}
 use Rattle.recovery.specs.Sessions.{opening, toCome, Next, Addressed}
-use Rattle.recovery.specs.Stays.{not-both, kindsOf, length-kinds, run-kinds}
+use Rattle.recovery.specs.Stays.{not-taken, kindsOf, length-kinds, run-kinds}
 use Rattle.recovery.specs.Opening.{Silent, Waits, waiting-takes, opening-silent}
 
 -- a chip that has another code, with these bits of an opening to come
@@ -128,7 +128,7 @@ others-outside (suc i) l (more o r) = more o (others-outside i l r)
 
 -- and they are not those of a DS28EC20
 among-outside : {code : ℕ} {bs : List Bool} {w : Whole} {i : ℕ} {L : List Whole} (j l : ℕ) → w .chip .kind ≡ 1 → takesOutside (at j L .chip .kind) ≡ true → Among code bs w i L → Among code bs w i (outsideAt j l L)
-among-outside {w} zero l e f (here r) = absurd (not-both (w .chip .kind) e f)
+among-outside {w} zero l e f (here r) = absurd (not-taken (w .chip .kind) e f)
 among-outside (suc j) l e f (here r) = here (others-outside j l r)
 among-outside {code} {bs} zero l e f (there {x = x} o r) = there (other-outside code bs l x o) r
 among-outside (suc j) l e f (there o r) = there o (among-outside j l e f r)

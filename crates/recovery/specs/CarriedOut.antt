@@ -30,7 +30,7 @@ isCopy Nothing = false
 isCopy (Put offset b) = false
 isCopy (Copy t e) = true
 
--- at each level, the step that a slot of the value v makes has a copy for its deed
+-- at each level, what a slot of the value v leaves has a copy for its deed
 abbrev pub levelCarriesOut : Whole → Bool → Level → Bool
 levelCarriesOut w v l = isCopy (levelTakesBy (w .chip) v (levelSeen w l) l .deed)
 
@@ -38,7 +38,7 @@ levelCarriesOut w v l = isCopy (levelTakesBy (w .chip) v (levelSeen w l) l .deed
 unfoldable pub carriesOut : Bool → Whole → Bool
 carriesOut v w = levelCarriesOut w v (w .chip .level)
 
--- THEOREM: at the third byte of 55h it is the test by which the Copy step itself decides, once the last bit is in
+-- THEOREM: at the third byte of 55h it is the test by which Copy itself decides, once the last bit is in
 pub carries-out : (w : Whole) (v : Bool) (address count bits : ℕ) → w .chip .level ≡ Memory (CopyEnd address count bits)
     → carriesOut v w ≡ pick (ltb count 7) false (carriedOut (w .chip .registers) address (filled 0x80 bits v) (memorySight (w .chip) (CopyEnd address count bits) (levelSeen w (Memory (CopyEnd address count bits)))))
 unfolding carriesOut memorySlot copyEnd authorized pick
@@ -95,7 +95,7 @@ map-stays f i [] e = refl
 map-stays f zero (w ∷ L) e = e
 map-stays f (suc i) (w ∷ L) e = map-stays f i L e
 
--- chip i, where one chip has new levels
+-- chip i, where one chip has new outside levels
 outside-at : (i j l : ℕ) (L : List Whole) → at i (outsideAt j l L) .memory ≡ at i L .memory
 outside-at i j l [] = refl
 outside-at zero zero l (w ∷ L) = outside-stay w l

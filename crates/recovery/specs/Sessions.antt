@@ -44,7 +44,7 @@ Next bs (plan.Outside i l) = Unit
 Next bs (plan.Refused r) = Unit
 
 -- with these bits of an opening to come, every session of a history opens by matching the code, or is cut inside its opening;
--- power on and levels may stand anywhere, and so may what is refused; it goes by what each event comes to
+-- power on and outside levels may stand anywhere, and so may what is refused; it goes by what each event comes to
 abbrev pub Addressed : ℕ → List Bool → List Plan → Type 0
 Addressed code bs [] = Unit
 Addressed code bs (p ∷ ps) = Next bs p × Addressed code (toCome code bs p) ps

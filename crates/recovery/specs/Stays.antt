@@ -1,11 +1,9 @@
 -- What no event changes: a chip's code and kind, its good standing, and all of a DS28EC20's record that a session does not set.
 use Prim.Native.Nat.{ℕ, suc, _≤_}
-use native.Mathlib.Omega.{arith}
 use mathlib.Core.Bool.{Bool, true, false, true≢false}
 use mathlib.Core.List.{List, [], _∷_, map}
 use mathlib.Core.Path.{_≡_, refl, _∙_, ap, sym}
 use lib.ListN.{length}
-use borrow.Author.Tests.{eqb-true}
 use Rattle.base.specs.Pick.{pick, pick-false, pick-both, pick-if}
 use Rattle.base.specs.Both.{both-holds}
 use Rattle.ds2413.specs.Switch.{phaseInRange}
@@ -61,9 +59,9 @@ no-switch : (k : ℕ) → k ≡ 1 → hasSwitch k ≡ true → ⊥
 no-switch k e f = true≢false (sym f ∙ not-switch k e)
 
 -- and event 4 does not take it
-pub not-both : (k : ℕ) → k ≡ 1 → takesOutside k ≡ true → ⊥
+pub not-taken : (k : ℕ) → k ≡ 1 → takesOutside k ≡ true → ⊥
 unfolding takesOutside
-not-both k e f = no-switch k e f
+not-taken k e f = no-switch k e f
 
 -- a function command leaves the rest of a DS28EC20
 function-rest : (c : Chip) (b : ℕ) → c .kind ≡ 1 → bare (functionIn c b .chip) ≡ bare c
@@ -95,7 +93,7 @@ act-stays a w = record { code = act-named a w .0; kind = act-named a w .1; good 
 -- outside levels of a DS2413
 outside-stays : (l : ℕ) (w : Whole) → takesOutside (w .chip .kind) ≡ true → l ≤ 3 → Stays w (outsideOf l w)
 outside-stays l w e h =
-    record { code = outside-named l w .0; kind = outside-named l w .1; good = outside-good l w h; rest = λ g k. absurd (not-both (w .chip .kind) k e) }
+    record { code = outside-named l w .0; kind = outside-named l w .1; good = outside-good l w h; rest = λ g k. absurd (not-taken (w .chip .kind) k e) }
 
 -- every chip over a history
 run-each : (es : List Event) (L : List Whole) → Each Stays L (run es L)

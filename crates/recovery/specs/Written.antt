@@ -39,7 +39,7 @@ ruled m a [] = []
 ruled m a (b ∷ bs) = ruleAt ds28ec20 m a b ∷ ruled m (a + 1) bs
 
 -- the chip after the write: T, E/S 1Fh, RC 1, the CRC-16 of command, address and bytes to be sent, the scratchpad ruled; code,
--- kind, latches, levels and memory as they were
+-- kind, latches, outside levels and memory as they were
 unfoldable pub writtenTo : Whole → ℕ → List ℕ → Whole
 writtenTo w t bytes =
     whole

@@ -48,7 +48,7 @@ matchBit code rc place v =
     (pick (ltb place 63) (rom (Step (Match (place + 1))) rc) (rom Function true))
     (rom Wait rc)
 
--- steps 0 and 1 send the bit and its complement, step 2 takes one: "a different one means wait. After the 64th, RC = 1 and function level."
+-- slots 0 and 1 of a place send the bit and its complement, slot 2 takes one: "a different one means wait. After the 64th, RC = 1 and function level."
 unfoldable pub searchBit : ℕ → Bool → ℕ → ℕ → Bool → RomResult
 searchBit code rc place slot v =
     pick (ltb slot 2) (rom (Step (Search place (slot + 1))) rc)

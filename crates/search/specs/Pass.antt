@@ -12,13 +12,7 @@ use Rattle.base.specs.Bits.{bitOf, both}
 use Rattle.line.specs.Events.{slotEvent}
 use Rattle.search.specs.Host.{Played, played, End, end, more, resetsOf, slotsOf, heard, play, pass, write, turn, mark, put, upTo, wanted}
 use Rattle.search.specs.Counts.{more-more, more-none, one-slot}
-use Rattle.search.specs.Search.{Attached, saysOf, leavesOf, wire}
-
-abbrev pub playedPass : Attached → ℕ → ℕ → Bool → ℕ → Played End Attached
-playedPass l path last whole s = played (end path last whole) l 0 s
-
-abbrev pub playedWrite : Attached → ℕ → Played (Unit {0}) Attached
-playedWrite l n = played tt l 0 n
+use Rattle.search.specs.Search.{Attached, saysOf, leavesOf, wire, playedPass, playedWrite}
 
 -- what a host hears of a slot that it puts on the line
 abbrev hears : Bool → Attached → Bool

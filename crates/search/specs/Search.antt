@@ -10,7 +10,7 @@ use Rattle.line.specs.Event.{Answered, Outcome, numberOf, verdictOf, eventOf}
 use Rattle.line.specs.declared.Event.{Event}
 use Rattle.line.specs.declared.Verdict.{Verdict}
 use Rattle.line.specs.declared.Verdict.the-variants as verdict
-use Rattle.search.specs.Host.{Wire, Played, Listed, play, searchHost}
+use Rattle.search.specs.Host.{Wire, Played, played, End, end, Listed, play, searchHost}
 use Rattle.search.specs.declared.SearchAnswer.{SearchAnswer}
 use Rattle.search.specs.declared.SearchAnswer.the-variants.{Complete, TooFewPlaces, Refused}
 
@@ -49,6 +49,13 @@ leavesOf e l = leftBy (eventOn e l)
 -- the line's own events as a wire
 abbrev pub wire : Wire
 wire = record { L = Attached; says = saysOf; does = leavesOf }
+
+-- a pass, and a byte written, with the line that is left and the slots that were put on it
+abbrev pub playedPass : Attached → ℕ → ℕ → Bool → ℕ → Played End Attached
+playedPass l path last whole s = played (end path last whole) l 0 s
+
+abbrev pub playedWrite : Attached → ℕ → Played (Unit {0}) Attached
+playedWrite l n = played tt l 0 n
 
 -- what a search answers, its list, its counts, and the line that it leaves
 pub record Search : Type 0 where

@@ -8,8 +8,7 @@ ghost use Prim.Native.Nat.{_≤_, _<_, _^_};
 ghost use Rattle.line.specs.Event.{answered};
 ghost use Rattle.line.specs.Events.{slotEvent, resetEvent};
 ghost use Rattle.search.specs.Host.{play, pass, write, turn, mark, put, wanted, heard};
-ghost use Rattle.search.specs.Search.{attached, saysOf, leavesOf, wire};
-ghost use Rattle.search.specs.Pass.{playedPass, playedWrite};
+ghost use Rattle.search.specs.Search.{attached, saysOf, leavesOf, wire, playedPass, playedWrite};
 
 // What the host hears of an event, and the table that it leaves.
 pub struct Heard {

@@ -37,9 +37,6 @@ search-at n = along (λ (k : SearchAnswer). searchNumber n (searched k))
 pub card-at : (n : ℕ) (q p : CardAnswer) (r : ℤ) → q ≡ p → r ≡ cardNumber n (carded p) → r ≡ cardNumber n (carded q)
 card-at n = along (λ (k : CardAnswer). cardNumber n (carded k))
 
-pub offset-at : (q p : CardAnswer) (r : ℕ) → q ≡ p → r ≡ cardOffset (carded p) → r ≡ cardOffset (carded q)
-offset-at = along (λ (k : CardAnswer). cardOffset (carded k))
-
 -- a small number, taken from 0
 minus-is : (n : ℕ) → n < 256 → toZ w32 0 -ℤ toZ w32 n ≡ minus n
 minus-is n h = (λ j. toZ-pos w32 {n = 0} (omega arith) j -ℤ toZ-pos w32 {n = n} (omega arith) j) ∙ go n

@@ -3,7 +3,6 @@ mod answers;
 mod event;
 mod loops;
 
-use line::Event;
 use line::Survey;
 use line::Table;
 use packed::RECORD_SIZE;
@@ -15,7 +14,7 @@ ghost use Rattle.packed.specs.Packed.{tableFrom};
 ghost use Rattle.toemsakun.specs.Laws.{noTable};
 ghost use Rattle.toemsakun.specs.Library.{tableSize, imagesBytes, padsBytes, cardLeft, cardBytes, eventLeft, eventBytes, searchLeft, searchBytes};
 
-// What the records of a table come to: whether they are records, and a look over them.
+// What the records of a table come to: whether they are records, and a survey of them.
 pub struct Judged {
     pub ok: bool,
     pub survey: Survey,

@@ -24,7 +24,7 @@ enum Given {
     Whole(Event),
 }
 
-// A number that no chip and no levels have.
+// A number that no chip and no outside levels have.
 const NONE: u32 = 255;
 
 // The number of a hexadecimal digit of either case.

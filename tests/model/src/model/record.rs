@@ -31,7 +31,7 @@ pub const STEPS: [u8; 22] = [
 /// What a step uses: the most that w, a, b and c may be, 0 for one that it does not use.
 #[derive(Clone, Copy)]
 pub struct Shape {
-    /// The part that it belongs to, if not to any.
+    /// The part that it belongs to; none where any chip may be at it.
     pub part: Option<u32>,
     pub w: u16,
     pub a: u8,
