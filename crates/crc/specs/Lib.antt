@@ -1,4 +1,10 @@
 pub mod Crc
 pub mod Code
+pub mod Figure4
 pub mod Loop
 pub mod Byte
+pub mod Every
+pub mod Stages
+pub mod Drawn
+pub mod Cleared
+pub mod Trace
