@@ -6,7 +6,8 @@ use std::collections::VecDeque;
 use crate::model::book::Book;
 use crate::model::card::read_card;
 use crate::model::chip::{Chip, Step, AA, DS2413, DS28EC20, LAST_KIND};
-use crate::model::crc::{crc16, crc8};
+use crate::model::crc::{crc16, crc8, crc8_from};
+use crate::model::figure4::Figure4;
 use crate::model::line::Line;
 use crate::model::memory::{IMAGE, PAD};
 use crate::model::programs::list;
@@ -27,6 +28,8 @@ pub const CASES: &[(&str, Case)] = &[
     ("bench case 7", case_7),
     ("bench case 8", case_8),
     ("bench case 9", case_9),
+    ("figure 4: the trace of 01h", figure_trace),
+    ("figure 4: every byte from every register", figure_bytes),
     ("the DS2413 sheet's write example", sheet_example),
     ("a receiving chip takes the slot's value", takes_value),
     ("the last address is read", last_address),
@@ -110,6 +113,26 @@ fn case_1(book: &mut Book) -> bool {
         && (!crc16(&[0x01])).to_le_bytes() == [0x3E, 0x3F]
         && sent[..4] == [0x1F, 0x00, 0x20, 0xFF]
         && sent[4..] == crc.to_le_bytes()
+}
+
+fn figure_trace(book: &mut Book) -> bool {
+    let mut figure = Figure4::reading(0);
+    let after = |place: u8| {
+        figure.step(0x01 >> place & 1 == 1, book);
+        figure.byte()
+    };
+    let trace: Vec<u8> = (0..8).map(after).collect();
+    trace == [0x8C, 0x46, 0x23, 0x9D, 0xC2, 0x61, 0xBC, 0x5E]
+}
+
+fn figure_bytes(book: &mut Book) -> bool {
+    let agrees = |register: u8, byte: u8| {
+        let mut figure = Figure4::reading(register);
+        let read = figure.byte();
+        figure.take(&[byte], book);
+        read == register && figure.byte() == crc8_from(register, &[byte])
+    };
+    (0..=255).all(|register| (0..=255).all(|byte| agrees(register, byte)))
 }
 
 /// The four codes of bench case 2.

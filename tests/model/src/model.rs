@@ -5,6 +5,7 @@ pub mod book;
 pub mod card;
 pub mod chip;
 pub mod crc;
+pub mod figure4;
 pub mod lent;
 pub mod line;
 pub mod memory;

@@ -9,6 +9,8 @@ use crate::gen::cards::{card_of, damaged_card, good_card, Style, DAMAGES};
 use crate::gen::rng::Rng;
 use crate::gen::stories::{walk, Story, STORIES};
 use crate::model::book::{Book, Place, RULES};
+use crate::model::crc::{code_is_ok, crc8};
+use crate::model::figure4::Figure4;
 use crate::model::programs::{list, Wire};
 use crate::program::Program;
 use crate::report::{first_difference, hex, rows, split_events};
@@ -38,6 +40,8 @@ pub struct Options {
 const SCRIPTS_PER_CARD: usize = 12;
 /// Damaged cards given to the wire program.
 const WIRE_DAMAGES: usize = 2 * DAMAGES;
+/// Random codes whose CRC-8 is taken by the polynomial and by figure 4.
+const CODES: usize = 20_000;
 /// Bounds on the search for a shorter script.
 const SHRINK_RUNS: usize = 400;
 const SHRINK_TIME: Duration = Duration::from_secs(15);
@@ -101,6 +105,7 @@ pub fn run(options: Options) -> bool {
         events: 0,
     };
     let mut book = Book::new(None);
+    tester.run_codes(&book);
     if let Some(command) = tester.options.list.clone() {
         tester.run_list(&command, &mut book);
     }
@@ -170,6 +175,30 @@ impl Tester {
         } else {
             self.failed += 1;
         }
+    }
+
+    /// The model's two ways to the CRC-8 of a code; every other code is made good. Counts once.
+    fn run_codes(&mut self, book: &Book) {
+        let mut rng = seed_for(self.options.seed, 5, 0);
+        let mut differ = 0;
+        for number in 0..CODES {
+            let mut bytes = rng.bits().to_le_bytes();
+            if number % 2 == 0 {
+                bytes[7] = crc8(&bytes[..7]);
+            }
+            let mut figure = Figure4::reading(0);
+            figure.take(&bytes[..7], book);
+            let same = figure.byte() == crc8(&bytes[..7]);
+            figure.take(&bytes[7..], book);
+            let code = u64::from_le_bytes(bytes);
+            if !same || (figure.byte() == 0) != code_is_ok(code) {
+                let seed = self.options.seed;
+                println!("DIFFERENCE: figure 4, code {code:016X}, {number} of seed {seed}");
+                differ += 1;
+            }
+        }
+        println!("{CODES} codes by the polynomial and by figure 4, {differ} differ");
+        self.count(differ == 0);
     }
 
     /// The list program on good and damaged cards.

@@ -308,6 +308,8 @@ slips! {
     SearchOneFirst "search-one-first" "the search takes 1 first",
     SearchTwice "search-twice" "equal codes are listed twice",
     BadCrcLeft "bad-crc-left" "a code with a bad CRC is not listed",
+    FigureLate "figure-late" "figure 4: the feedback goes into stages 6 and 7",
+    FigureNoX5 "figure-no-x5" "figure 4: no feedback at X^5",
     SlotsPlus "slots-plus" "a reset is counted as a slot",
     LowHex "low-hex" "small hex digits",
     OneCode "one-code" "`1 code` for one",

@@ -2,7 +2,11 @@
 
 /// CRC-8: X^8+X^5+X^4+1, start 0, least significant bit first.
 pub fn crc8(bytes: &[u8]) -> u8 {
-    let mut register = 0u8;
+    crc8_from(0, bytes)
+}
+
+/// CRC-8 from a register that need not be 0.
+pub fn crc8_from(mut register: u8, bytes: &[u8]) -> u8 {
     for byte in bytes {
         for place in 0..8 {
             let carry = (register & 1) ^ (byte >> place & 1);
