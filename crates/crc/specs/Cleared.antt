@@ -1,4 +1,4 @@
--- Laws: the sheet's own remark on the register (003, "64-bit lasered ROM"), and its converse.
+-- Laws: the remark of the sheet (003, beside its figure 4) that shifting in the CRC too brings all stages back to 0, and its converse.
 use Prim.Native.Nat.{ℕ, _<_}
 use native.Mathlib.Omega.{arith}
 use mathlib.Core.Bool.{Bool, true, false, xor, true≢false}
@@ -79,14 +79,14 @@ summed : (code : ℕ) → checkOf code ≡ Good → codeCrc code ≡ byteOf code
 unfolding checkOf
 summed code g = eqb-true (codeCrc code) (byteOf code 7) (found (eqb (codeCrc code) (byteOf code 7)) g)
 
--- "Shifting in the 8 bits of CRC returns the shift register to all 0s."
+-- "after the eighth byte of a good code has been shifted in too, all stages are 0"
 pub good-clears : (code : ℕ) → checkOf code ≡ Good → drawnByte (drawnCode code) (byteOf code 7) ≡ cleared
 good-clears code g =
     let own : drawnCode code ≡ stagesOf (byteOf code 7) =
     sym (stages-of-byte (drawnCode code)) ∙ ap stagesOf (drawn-code code ∙ summed code g) in
     ap (λ (r : ShiftRegister). drawnByte r (byteOf code 7)) own ∙ own-clears (byteOf code 7)
 
--- and no other byte does
+-- and after that of no other code
 pub clears-good : (code : ℕ) → drawnByte (drawnCode code) (byteOf code 7) ≡ cleared → checkOf code ≡ Good
 unfolding checkOf
 clears-good code e =

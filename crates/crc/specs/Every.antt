@@ -1,4 +1,4 @@
--- Laws: a rule of n bits, shown for all of them by one test that is computed at each; so too a rule of a register.
+-- Laws: a rule of n bits, of a register or of the numbers below n, shown for all of them by one test that is computed at each.
 use Prim.Native.Nat.{ℕ, zero, suc, _<_}
 use native.Mathlib.Nat.{not-suc-le-zero}
 use native.Mathlib.Omega.{arith}

@@ -1,4 +1,5 @@
--- The sheet's figure 4, "1-Wire CRC generator" (003; 000, 001 and 004 draw the same one): eight stages between X^0 and X^8.
+-- Document 02, M-101: the CRC generator that the sheet draws in its figure 4 (003; 000, 001 and 004 have the same one), eight stages
+-- between X^0 and X^8. Quoted is the request, which puts the drawing into words.
 use Prim.Native.Nat.{ℕ, _+_}
 use mathlib.Core.Bool.{Bool, false, xor}
 use mathlib.Core.List.{List, [], _∷_}

@@ -381,6 +381,8 @@ mod tests {
         case_7 "bench case 7",
         case_8 "bench case 8",
         case_9 "bench case 9",
+        figure_trace "figure 4: the trace of 01h",
+        figure_bytes "figure 4: every byte from every register",
         sheet_example "the DS2413 sheet's write example",
         takes_value "a receiving chip takes the slot's value",
         last_address "the last address is read",

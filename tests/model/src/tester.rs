@@ -179,7 +179,7 @@ impl Tester {
 
     /// The model's two ways to the CRC-8 of a code; every other code is made good. Counts once.
     fn run_codes(&mut self, book: &Book) {
-        let mut rng = seed_for(self.options.seed, 5, 0);
+        let mut rng = seed_for(self.options.seed, 6, 0);
         let mut differ = 0;
         for number in 0..CODES {
             let mut bytes = rng.bits().to_le_bytes();
@@ -192,8 +192,10 @@ impl Tester {
             figure.take(&bytes[7..], book);
             let code = u64::from_le_bytes(bytes);
             if !same || (figure.byte() == 0) != code_is_ok(code) {
-                let seed = self.options.seed;
-                println!("DIFFERENCE: figure 4, code {code:016X}, {number} of seed {seed}");
+                if differ == 0 {
+                    let seed = self.options.seed;
+                    println!("DIFFERENCE: figure 4, code {code:016X}, {number} of seed {seed}");
+                }
                 differ += 1;
             }
         }
