@@ -1,5 +1,7 @@
 pub mod Pick
+pub mod Exactly
 pub mod Bits
+pub mod Low
 pub mod Rules
 pub mod Fill
 pub mod Both

@@ -1,38 +1,13 @@
--- Laws of the bits of a number, and of the path below a parting.
+-- Laws of the bits of the path below a parting.
 use Prim.Native.Nat.{ℕ, _+_, _*_, _-_, _/_, _%_, _^_, _<_}
 use native.Mathlib.Omega.{arith}
-use native.Mathlib.Nat.{add-comm, div-eq-of-lt, mod-lt}
-use mathlib.Core.Bool.{true, false}
+use native.Mathlib.Nat.{mod-lt}
+use mathlib.Core.Bool.{true}
 use mathlib.Core.Path.{_≡_, _∙_, ap, sym}
 use lib.Dec.{eqb}
-use lib.Pow.{pow-pos, field, mod-pow-add, mod-mod-pow, low, high}
-use borrow.Author.Tests.{eqb-true, eqb-false}
+use lib.Pow.{pow-pos, field, mod-mod-pow, low, high}
 use Rattle.base.specs.Bits.{bitOf}
 use Rattle.search.specs.Host.{upTo}
-
--- a number has no bit past its highest
-pub bit-none : (n k : ℕ) → n < 2 ^ k → bitOf n k ≡ false
-unfolding bitOf
-bit-none n k h = let z : n / 2 ^ k ≡ 0 = div-eq-of-lt h in rw z
-
--- the low k + 1 bits of a number are bit k and the low k bits
-mod-next : (x k : ℕ) → x % 2 ^ (k + 1) ≡ x / 2 ^ k % 2 * 2 ^ k + x % 2 ^ k
-mod-next x k = ap (λ (n : ℕ). x % 2 ^ n) (add-comm k 1) ∙ mod-pow-add x 1 k
-
--- where bit k is 1
-pub mod-next-one : (x k : ℕ) → bitOf x k ≡ true → x % 2 ^ (k + 1) ≡ x % 2 ^ k + 2 ^ k
-unfolding bitOf
-mod-next-one x k h =
-    let e : x / 2 ^ k % 2 ≡ 1 = eqb-true _ _ h in
-    mod-next x k ∙ rw e (omega arith)
-
--- where bit k is 0
-pub mod-next-zero : (x k : ℕ) → bitOf x k ≡ false → x % 2 ^ (k + 1) ≡ x % 2 ^ k
-unfolding bitOf
-mod-next-zero x k h =
-    let n : x / 2 ^ k % 2 ≡ 1 → ⊥ = eqb-false _ _ h in
-    let e : x / 2 ^ k % 2 ≡ 0 = omega arith in
-    mod-next x k ∙ rw e (omega arith)
 
 -- the path below a parting and a 1 there have a 1 at the parting
 pub up-own : (l c : ℕ) → bitOf (upTo l c) l ≡ true

@@ -8,10 +8,10 @@ use mathlib.Core.Path.{_≡_, refl, _∙_, ap, ap₂, sym}
 use lib.ListN.{length, length-append}
 use Rattle.base.specs.Pick.{pick}
 use Rattle.base.specs.Bits.{bitOf, same}
+use Rattle.base.specs.Low.{mod-next-one, mod-next-zero}
 use Rattle.base.specs.Same.{same-bit, same-own}
 use Rattle.search.specs.Host.{put}
 use Rattle.listing.specs.Order.{branch, branchOrder}
-use Rattle.listing.specs.Bits.{mod-next-one, mod-next-zero}
 
 -- a list has nothing in it
 abbrev pub isNil : List ℕ → Bool

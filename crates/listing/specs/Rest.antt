@@ -6,11 +6,12 @@ use mathlib.Core.List.{List, [], _∷_, _++_, append-nil, List·Memᴰ}
 use mathlib.Core.Path.{_≡_, refl, _∙_, sym}
 use lib.ListN.{length, take}
 use Rattle.base.specs.Bits.{bitOf}
+use Rattle.base.specs.Low.{bit-none}
 use Rattle.search.specs.Host.{turn, mark, upTo}
 use Rattle.search.specs.Pass.{pow-next, up-lt}
 use Rattle.listing.specs.Order.{branch, branchOrder}
 use Rattle.listing.specs.Branch.{isNil, order-nil, order-split, branch-bit}
-use Rattle.listing.specs.Bits.{bit-none, up-own, up-below}
+use Rattle.listing.specs.Bits.{up-own, up-below}
 
 -- what is to be listed at a place, by whether a branch is empty and by what is wanted: the zeros' rest, the ones' rest, or the
 -- zeros' rest and then the ones in order

@@ -7,6 +7,7 @@ use mathlib.Core.Path.{_≡_, refl, _∙_, ap, sym}
 use lib.Dec.{eqb, ltb, leb}
 use lib.ListN.{length}
 use Rattle.base.specs.Pick.{pick, pick-of}
+use Rattle.base.specs.Exactly.{Iff, apart, by-else, by-then, by-left, by-either, by-neither}
 use Rattle.chip.specs.Kinds.{knownKind}
 use Rattle.records.specs.Numbers.{numberAt}
 use Rattle.records.specs.Records.{headAt}
@@ -14,9 +15,8 @@ use Rattle.records.specs.declared.Head.{Head}
 use Rattle.card.specs.Card.{cutEntry, wholeEntry, entryOf, entryAt}
 use Rattle.card.specs.declared.Entry.{Entry}
 use Rattle.card.specs.declared.Entry.the-variants.{Done, Taken, TooMany, UnknownKind, WrongLength}
-use Rattle.refusals.specs.Exactly.{Iff, by-else, by-then, by-left, by-either, by-neither}
 
--- entries of different sorts differ
+-- the sorts of entries, by number
 sort : Entry → ℕ
 sort Done = 0
 sort (Taken code kind next) = 1
@@ -67,31 +67,28 @@ module _ (s : List ℕ) (at room : ℕ) where
   gives : (p : Entry) {B : Type 0} → Iff (judged ≡ p) B → Iff (entryAt s at room ≡ p) B
   gives p i = ((λ e. i .0 (sym entry-is ∙ e)), (λ b. entry-is ∙ i .1 b))
 
-  differ : (x y : Entry) → (sort x ≡ sort y → ⊥) → x ≡ y → ⊥
-  differ x y n e = n (ap sort e)
-
   -- 2: there is a head, and "a record's kind is neither 1 nor 2", whatever its length says
   pub refused-2 : Iff (entryAt s at room ≡ UnknownKind) ((ended ≡ false) × ((short ≡ false) × (known ≡ false)))
   unfolding sort
   refused-2 =
       gives UnknownKind
-      (by-left _ ended _ _ _ (differ Done UnknownKind (λ p. omega arith))
-      (by-left _ short _ _ _ (differ WrongLength UnknownKind (λ p. omega arith))
+      (by-left _ ended _ _ _ (apart sort Done UnknownKind (λ p. omega arith))
+      (by-left _ short _ _ _ (apart sort WrongLength UnknownKind (λ p. omega arith))
       (by-either _ whole _ _ _
-      (by-else known _ _ (by-neither ten _ _ _ (by-neither (ltb 0 room) _ _ _ (differ chip UnknownKind (λ p. omega arith)) (differ TooMany UnknownKind (λ p. omega arith))) (differ WrongLength UnknownKind (λ p. omega arith))))
-      (by-else known _ _ (differ WrongLength UnknownKind (λ p. omega arith))))))
+      (by-else known _ _ (by-neither ten _ _ _ (by-neither (ltb 0 room) _ _ _ (apart sort chip UnknownKind (λ p. omega arith)) (apart sort TooMany UnknownKind (λ p. omega arith))) (apart sort WrongLength UnknownKind (λ p. omega arith))))
+      (by-else known _ _ (apart sort WrongLength UnknownKind (λ p. omega arith))))))
 
   -- 1: a whole record of a known kind and the right length, and no place for it
   pub refused-1 : Iff (entryAt s at room ≡ TooMany) ((ended ≡ false) × ((short ≡ false) × ((whole ≡ true) × ((known ≡ true) × ((ten ≡ true) × (ltb 0 room ≡ false))))))
   unfolding sort
   refused-1 =
       gives TooMany
-      (by-left _ ended _ _ _ (differ Done TooMany (λ p. omega arith))
-      (by-left _ short _ _ _ (differ WrongLength TooMany (λ p. omega arith))
-      (by-then _ whole _ _ _ (by-neither known _ _ _ (differ WrongLength TooMany (λ p. omega arith)) (differ UnknownKind TooMany (λ p. omega arith)))
-      (by-then _ known _ _ _ (differ UnknownKind TooMany (λ p. omega arith))
-      (by-then _ ten _ _ _ (differ WrongLength TooMany (λ p. omega arith))
-      (by-else (ltb 0 room) _ _ (differ chip TooMany (λ p. omega arith))))))))
+      (by-left _ ended _ _ _ (apart sort Done TooMany (λ p. omega arith))
+      (by-left _ short _ _ _ (apart sort WrongLength TooMany (λ p. omega arith))
+      (by-then _ whole _ _ _ (by-neither known _ _ _ (apart sort WrongLength TooMany (λ p. omega arith)) (apart sort UnknownKind TooMany (λ p. omega arith)))
+      (by-then _ known _ _ _ (apart sort UnknownKind TooMany (λ p. omega arith))
+      (by-then _ ten _ _ _ (apart sort WrongLength TooMany (λ p. omega arith))
+      (by-else (ltb 0 room) _ _ (apart sort chip TooMany (λ p. omega arith))))))))
 
   -- 3: fewer than 4 bytes; or a known kind, and a wrong length or a cut body
   abbrev pub badLength : Bool
@@ -99,7 +96,7 @@ module _ (s : List ℕ) (at room : ℕ) where
 
   pub refused-3 : Iff (entryAt s at room ≡ WrongLength) ((ended ≡ false) × (badLength ≡ true))
   unfolding sort pick
-  refused-3 = gives WrongLength (by-left _ ended _ _ _ (differ Done WrongLength (λ p. omega arith)) (lengths short whole known ten (ltb 0 room)))
+  refused-3 = gives WrongLength (by-left _ ended _ _ _ (apart sort Done WrongLength (λ p. omega arith)) (lengths short whole known ten (ltb 0 room)))
     where
       no : {A B : Type 0} → (A → ⊥) → (B → ⊥) → Iff A B
       no f g = ((λ a. absurd (f a)), (λ b. absurd (g b)))
@@ -112,9 +109,9 @@ module _ (s : List ℕ) (at room : ℕ) where
 
       lengths : (a b c d e : Bool) → Iff (pick a WrongLength (pick b (pick c (pick d (pick e chip TooMany) WrongLength) UnknownKind) (pick c WrongLength UnknownKind)) ≡ WrongLength) (pick a true (pick c (pick b (not d) true) false) ≡ true)
       lengths true b c d e = yes refl refl
-      lengths false true true true true = no (differ chip WrongLength (λ p. omega arith)) off
-      lengths false true true true false = no (differ TooMany WrongLength (λ p. omega arith)) off
+      lengths false true true true true = no (apart sort chip WrongLength (λ p. omega arith)) off
+      lengths false true true true false = no (apart sort TooMany WrongLength (λ p. omega arith)) off
       lengths false true true false e = yes refl refl
-      lengths false true false d e = no (differ UnknownKind WrongLength (λ p. omega arith)) off
+      lengths false true false d e = no (apart sort UnknownKind WrongLength (λ p. omega arith)) off
       lengths false false true d e = yes refl refl
-      lengths false false false d e = no (differ UnknownKind WrongLength (λ p. omega arith)) off
+      lengths false false false d e = no (apart sort UnknownKind WrongLength (λ p. omega arith)) off

@@ -9,6 +9,7 @@ use lib.Dec.{eqb, leb}
 use lib.ListN.{length, take, drop, getD}
 use borrow.Author.Tests.{eqb-false}
 use Rattle.base.specs.Pick.{pick, pick-if, pick-of}
+use Rattle.base.specs.Exactly.{Iff, by-else, by-then, by-neither}
 use Rattle.chip.specs.declared.Chip.{Chip}
 use Rattle.chip.specs.Chip.{Whole}
 use Rattle.line.specs.Layout.{lineOf, lent}
@@ -18,7 +19,6 @@ use Rattle.line.specs.declared.Event.{Event}
 use Rattle.line.specs.declared.Verdict.{Verdict}
 use Rattle.line.specs.declared.Plan.{Plan}
 use Rattle.line.specs.declared.Plan.the-variants as plan
-use Rattle.refusals.specs.Exactly.{Iff, by-else, by-then, by-neither}
 
 -- an answer with the number r
 numbered : (r s : ℕ) → (r ≡ s → ⊥) → refused r ≡ refused s → ⊥

@@ -1,4 +1,3 @@
-pub mod Exactly
 pub mod Event
 pub mod Search
 pub mod Card

@@ -8,13 +8,13 @@ use mathlib.Core.Path.{_≡_, refl, _∙_, ap, sym}
 use lib.Dec.{ltb}
 use lib.ListN.{length}
 use Rattle.base.specs.Pick.{pick, pick-both, pick-if}
+use Rattle.base.specs.Exactly.{Iff}
 use Rattle.chip.specs.Chip.{setUpChip}
 use Rattle.chip.specs.declared.Chip.{Chip}
 use Rattle.line.specs.Layout.{capped}
 use Rattle.card.specs.Card.{Carded, chips, refused, entryAt, Read, all, none, after, onward, readFrom, SetUp, fromRead, setUpOf}
 use Rattle.card.specs.declared.Entry.{Entry}
 use Rattle.card.specs.declared.Entry.the-variants.{Done, Taken, TooMany, UnknownKind, WrongLength}
-use Rattle.refusals.specs.Exactly.{Iff}
 use Rattle.refusals.specs.Card.{judged, entry-is}
 
 -- the refusal number of a record at fault

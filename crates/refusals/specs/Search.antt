@@ -6,11 +6,11 @@ use mathlib.Core.List.{List}
 use mathlib.Core.Path.{_≡_, refl, _∙_, ap, sym}
 use lib.ListN.{length}
 use Rattle.base.specs.Pick.{pick, pick-if, pick-of}
+use Rattle.base.specs.Exactly.{Iff, by-else, by-then, by-neither}
 use Rattle.line.specs.Event.{tableInRange, sizesFit, verdictOf}
 use Rattle.line.specs.declared.Verdict.{Verdict}
 use Rattle.search.specs.Host.{Played, Listed, play, searchHost}
 use Rattle.search.specs.Search.{Searched, complete, refused, completeOr4, Attached, wire, Search, outcome, searchBy, searchOf}
-use Rattle.refusals.specs.Exactly.{Iff, by-else, by-then, by-neither}
 
 numbered : (r s : ℕ) → (r ≡ s → ⊥) → refused r ≡ refused s → ⊥
 numbered r s n e = n (number e)

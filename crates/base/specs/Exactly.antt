@@ -1,19 +1,45 @@
--- Laws: a chain of choices, and when it comes to each of its ends.
+-- Laws: what holds exactly when; a chain of choices, and when it comes to each of its ends.
 use Prim.Native.Nat.{ℕ}
-use native.Mathlib.Omega.{arith}
 use mathlib.Core.Bool.{Bool, true, false, true≢false}
-use mathlib.Core.Path.{_≡_, refl, _∙_, sym}
+use mathlib.Core.Path.{_≡_, refl, ap, sym}
+use lib.Dec.{eqb}
+use borrow.Author.Tests.{eqb-true, eqb-false, eq-eqb, ne-eqb}
 use Rattle.base.specs.Pick.{pick}
 
 -- each exactly when the other
 abbrev pub Iff : Type 0 → Type 0 → Type 0
 Iff A B = (A → B) × (B → A)
+
+-- the first exactly when the second, and the second exactly when the third: the first exactly when the third
+pub then-exactly : {A B C : Type 0} → Iff A B → Iff B C → Iff A C
+then-exactly i j = ((λ a. j .0 (i .0 a)), (λ c. i .1 (j .1 c)))
+
+-- two things hold together exactly when two others do, each exactly when its own
+pub both-exactly : {A B C D : Type 0} → Iff A C → Iff B D → Iff (A × B) (C × D)
+both-exactly i j = ((λ p. (i .0 (p .0), j .0 (p .1))), (λ p. (i .1 (p .0), j .1 (p .1))))
+
+-- a test of two numbers holds exactly when they are equal, and fails exactly when they are not
+pub equal-exactly : (a b : ℕ) → Iff (eqb a b ≡ true) (a ≡ b)
+equal-exactly a b = (eqb-true a b, eq-eqb a b)
+
+pub unequal-exactly : (a b : ℕ) → Iff (eqb a b ≡ false) (a ≡ b → ⊥)
+unequal-exactly a b = (eqb-false a b, ne-eqb a b)
+
+-- ends that a number tells apart are different
+pub apart : {A : Type 0} (number : A → ℕ) (a b : A) → (number a ≡ number b → ⊥) → a ≡ b → ⊥
+apart number a b n e = n (ap number e)
 
 -- a choice comes to an end that its first way never comes to, exactly when the test fails
 pub by-else : {A : Type 0} (t : Bool) (a b : A) → (a ≡ b → ⊥) → Iff (pick t a b ≡ b) (t ≡ false)
 unfolding pick
 by-else true a b n = ((λ e. absurd (n e)), (λ e. absurd (true≢false e)))
 by-else false a b n = ((λ e. refl), (λ e. refl))
+
+-- a choice comes to its first way, which its second is not, exactly when the test holds
+pub by-first : {A : Type 0} (t : Bool) (a b : A) → (b ≡ a → ⊥) → Iff (pick t a b ≡ a) (t ≡ true)
+unfolding pick
+by-first true a b n = ((λ e. refl), (λ e. refl))
+by-first false a b n = ((λ e. absurd (n e)), (λ e. absurd (true≢false (sym e))))
 
 -- a choice comes to an end that its second way is not, exactly when the test holds and the first way comes to it
 pub by-then : {A : Type 0} (B : Type 0) (t : Bool) (a b c : A) → (b ≡ c → ⊥) → Iff (a ≡ c) B → Iff (pick t a b ≡ c) ((t ≡ true) × B)
