@@ -3,17 +3,14 @@ use Prim.Native.Nat.{ℕ, _<_}
 use native.Mathlib.Omega.{arith}
 use mathlib.Core.Bool.{Bool, true, false, xor, true≢false}
 use mathlib.Core.Path.{_≡_, _∙_, refl, sym, ap}
-use borrow.Author.Tests.{eqb-true, eq-eqb}
-use lib.Dec.{eqb}
-use Rattle.base.specs.Pick.{pick, pick-true}
 use Rattle.base.specs.Bits.{bitOf}
 use Rattle.crc.specs.Code.{byteOf, codeCrc, checkOf}
+use Rattle.crc.specs.Check.{good-exactly, zeros-pass}
 use Rattle.crc.specs.Drawn.{drawn-code}
 use Rattle.crc.specs.Every.{stages}
 use Rattle.crc.specs.Figure4.{cleared, drawnBit, drawnByte, drawnCode, asByte, stagesOf}
 use Rattle.crc.specs.Stages.{byte-of-stages, stages-of-byte}
-use Rattle.crc.specs.declared.CodeCheck.{CodeCheck}
-use Rattle.crc.specs.declared.CodeCheck.the-variants.{Good, Bad}
+use Rattle.crc.specs.declared.CodeCheck.the-variants.{Good}
 use Rattle.crc.specs.declared.figure4.ShiftRegister.{ShiftRegister}
 
 xor-own : (a : Bool) → xor a a ≡ false
@@ -65,30 +62,23 @@ byte-small : (code k : ℕ) → byteOf code k < 256
 unfolding byteOf
 byte-small code k = omega arith
 
--- a check that finds good has found the two equal
-abbrev isGood : CodeCheck → Bool
-isGood Good = true
-isGood Bad = false
-
-found : (t : Bool) → pick t Good Bad ≡ Good → t ≡ true
-unfolding pick
-found true e = refl
-found false e = ap isGood e
-
-summed : (code : ℕ) → checkOf code ≡ Good → codeCrc code ≡ byteOf code 7
-unfolding checkOf
-summed code g = eqb-true (codeCrc code) (byteOf code 7) (found (eqb (codeCrc code) (byteOf code 7)) g)
+-- shifting in an eighth byte that is the CRC of the first seven leaves all stages 0
+sum-clears : (code : ℕ) → codeCrc code ≡ byteOf code 7 → drawnByte (drawnCode code) (byteOf code 7) ≡ cleared
+sum-clears code s =
+    let own : drawnCode code ≡ stagesOf (byteOf code 7) =
+    sym (stages-of-byte (drawnCode code)) ∙ ap stagesOf (drawn-code code ∙ s) in
+    ap (λ (r : ShiftRegister). drawnByte r (byteOf code 7)) own ∙ own-clears (byteOf code 7)
 
 -- "after the eighth byte of a good code has been shifted in too, all stages are 0"
 pub good-clears : (code : ℕ) → checkOf code ≡ Good → drawnByte (drawnCode code) (byteOf code 7) ≡ cleared
-good-clears code g =
-    let own : drawnCode code ≡ stagesOf (byteOf code 7) =
-    sym (stages-of-byte (drawnCode code)) ∙ ap stagesOf (drawn-code code ∙ summed code g) in
-    ap (λ (r : ShiftRegister). drawnByte r (byteOf code 7)) own ∙ own-clears (byteOf code 7)
+good-clears code g = sum-clears code (good-exactly code .0 g .1)
+
+-- so they are after that of a code of zeros
+pub zeros-clear : drawnByte (drawnCode 0) (byteOf 0 7) ≡ cleared
+zeros-clear = sum-clears 0 (zeros-pass .1)
 
 -- and after that of no other code
-pub clears-good : (code : ℕ) → drawnByte (drawnCode code) (byteOf code 7) ≡ cleared → checkOf code ≡ Good
-unfolding checkOf
-clears-good code e =
+pub clears-good : (code : ℕ) → (code ≡ 0 → ⊥) → drawnByte (drawnCode code) (byteOf code 7) ≡ cleared → checkOf code ≡ Good
+clears-good code n e =
     let s : codeCrc code ≡ byteOf code 7 = sym (drawn-code code) ∙ ap asByte (clears-own (drawnCode code) (byteOf code 7) e) ∙ byte-of-stages (byteOf code 7) (byte-small code 7) in
-    pick-true (eqb (codeCrc code) (byteOf code 7)) Good Bad (eq-eqb (codeCrc code) (byteOf code 7) s)
+    good-exactly code .1 (n, s)

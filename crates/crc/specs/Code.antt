@@ -4,7 +4,7 @@ use lib.Dec.{eqb}
 use Rattle.base.specs.Pick.{pick}
 use Rattle.crc.specs.Crc.{poly8, crcByte}
 use Rattle.crc.specs.declared.CodeCheck.{CodeCheck}
-use Rattle.crc.specs.declared.CodeCheck.the-variants.{Good, Bad}
+use Rattle.crc.specs.declared.CodeCheck.the-variants.{Good, Bad, AllZeros}
 
 -- byte k of a code, the family being byte 0
 unfoldable pub byteOf : ℕ → ℕ → ℕ
@@ -16,6 +16,7 @@ codeCrc code =
     crcByte poly8 (crcByte poly8 (crcByte poly8 (crcByte poly8 (crcByte poly8 (crcByte poly8 (crcByte poly8
     0 (byteOf code 0)) (byteOf code 1)) (byteOf code 2)) (byteOf code 3)) (byteOf code 4)) (byteOf code 5)) (byteOf code 6)
 
--- the check of a code
+-- Document 02, M-104: "A shorted connector reads as a code of zeros, which passes the CRC. The check of a code now answers good, bad or all zeros":
+-- all zeros is asked before the CRC
 unfoldable pub checkOf : ℕ → CodeCheck
-checkOf code = pick (eqb (codeCrc code) (byteOf code 7)) Good Bad
+checkOf code = pick (eqb code 0) AllZeros (pick (eqb (codeCrc code) (byteOf code 7)) Good Bad)

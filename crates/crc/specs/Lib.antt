@@ -1,5 +1,6 @@
 pub mod Crc
 pub mod Code
+pub mod Check
 pub mod Figure4
 pub mod Loop
 pub mod Byte

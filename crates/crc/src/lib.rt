@@ -9,6 +9,7 @@ ghost use Rattle.crc.specs.Code.{byteOf, codeCrc, checkOf};
 pub enum CodeCheck {
     Good,
     Bad,
+    AllZeros,
 }
 
 // One bit into the CRC-8.
@@ -96,10 +97,13 @@ pub fn of_code(code: u64) -> u8
     figure4::as_byte(r7)
 }
 
-// Whether the eighth byte of a code is the CRC-8 of the first seven.
+// Whether a code is all zeros, as a dead line reads; of any other, whether its eighth byte is the CRC-8 of the first seven.
 pub fn check_code(code: u64) -> CodeCheck
     ensures { λ r. ⌜ r ≡ checkOf code ⌝ }
 {
+    if code == 0 {
+        return CodeCheck::AllZeros;
+    }
     let sum = of_code(code);
     let last = byte_of(code, 7);
     if sum == last {

@@ -1,4 +1,5 @@
-// Reads a card from standard input, searches the line that it sets up, and writes the codes found, as document 01 says.
+// Reads a card from standard input, searches the line that it sets up, and writes the codes found with the word for the check of each, as
+// documents 01 and 02 say.
 use libc::STDIN_FILENO;
 use libc::STDOUT_FILENO;
 use line::Table;
@@ -33,7 +34,7 @@ fn write_code(code: u64) {
     let word = terminal::word(crc::check_code(code));
     io::write_all(STDOUT_FILENO, &text);
     io::write_all(STDOUT_FILENO, b" ");
-    io::write_all(STDOUT_FILENO, &word);
+    terminal::say_word(word);
     io::write_all(STDOUT_FILENO, b"\n");
 }
 

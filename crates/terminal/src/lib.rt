@@ -11,6 +11,12 @@ ghost use Rattle.line.specs.Layout.{imagesMost, padsMost};
 ghost use Rattle.card.specs.Card.{carded};
 ghost use Rattle.terminal.specs.Words.{isRefused, wordOf};
 
+// A word: as many places as it has letters.
+pub enum Letters {
+    Two(u8, u8),
+    Four(u8, u8, u8, u8),
+}
+
 // Writes `refused R at P`.
 fn say_refused(number: u64, at: usize) {
     io::write_all(STDOUT_FILENO, b"refused ");
@@ -42,12 +48,25 @@ pub fn refused_card(answer: CardAnswer) -> bool
 }
 
 // The word for the check of a code.
-pub fn word(check: CodeCheck) -> [u8; 2]
+pub fn word(check: CodeCheck) -> Letters
     ensures { λ r. ⌜ r ≡ wordOf check ⌝ }
 {
     match check {
-        CodeCheck::Good => [b'o', b'k'],
-        CodeCheck::Bad => [b'n', b'o'],
+        CodeCheck::Good => Letters::Two(b'o', b'k'),
+        CodeCheck::Bad => Letters::Two(b'n', b'o'),
+        CodeCheck::AllZeros => Letters::Four(b'z', b'e', b'r', b'o'),
+    }
+}
+
+// Writes a word.
+pub fn say_word(word: Letters) {
+    match word {
+        Letters::Two(a, b) => {
+            io::write_all(STDOUT_FILENO, &[a, b]);
+        }
+        Letters::Four(a, b, c, d) => {
+            io::write_all(STDOUT_FILENO, &[a, b, c, d]);
+        }
     }
 }
 

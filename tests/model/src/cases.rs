@@ -1,4 +1,4 @@
-//! The paper's bench cases, its worked list output, and cases that only a lent table can
+//! The papers' bench cases, their worked list output, and cases that only a lent table can
 //! show, all held against the model itself.
 
 use std::collections::VecDeque;
@@ -19,6 +19,7 @@ pub type Case = fn(&mut Book) -> bool;
 /// Every case with its name.
 pub const CASES: &[(&str, Case)] = &[
     ("worked list output", worked_output),
+    ("a dead line is not a good code", dead_line),
     ("bench case 1", case_1),
     ("bench case 2", case_2),
     ("bench case 3", case_3),
@@ -95,11 +96,28 @@ fn record(kind: u8, code: u64) -> Vec<u8> {
 fn worked_output(book: &mut Book) -> bool {
     let card: Vec<u8> = [3, 2, 0, 1].map(|code| record(1, code)).concat();
     list(&card, book)
-        == "0000000000000000 ok\n0000000000000002 no\n0000000000000001 no\n\
+        == "0000000000000000 zero\n0000000000000002 no\n0000000000000001 no\n\
             0000000000000003 no\n4 codes 800 slots\n"
         && list(&record(1, 0x5E00_0000_0000_0000), book)
             == "5E00000000000000 no\n1 codes 200 slots\n"
         && list(&[], book) == "0 codes 0 slots\n"
+}
+
+/// M-104: the code of zeros alone is `zero`, and every other code `ok` or `no` by its CRC. The good one
+/// is the example of the maker's application note 27.
+fn dead_line(book: &mut Book) -> bool {
+    let mut is_told = |code: u64, word: &str| {
+        let told = list(&record(2, code), book);
+        told == format!("{code:016X} {word}\n1 codes 200 slots\n")
+    };
+    let alone = is_told(0, "zero")
+        && is_told(u64::MAX, "no")
+        && is_told(0xA200_0000_01B8_1C02, "ok")
+        && (0..64).all(|place| is_told(1 << place, "no"));
+    let three: Vec<u8> = [0, 0, 0].map(|code| record(1, code)).concat();
+    alone
+        && crc8(&[0; 7]) == 0
+        && list(&three, book) == "0000000000000000 zero\n1 codes 200 slots\n"
 }
 
 fn case_1(book: &mut Book) -> bool {
@@ -372,6 +390,7 @@ mod tests {
 
     tests! {
         worked_output "worked list output",
+        dead_line "a dead line is not a good code",
         case_1 "bench case 1",
         case_2 "bench case 2",
         case_3 "bench case 3",

@@ -9,7 +9,7 @@ use crate::gen::cards::{card_of, damaged_card, good_card, Style, DAMAGES};
 use crate::gen::rng::Rng;
 use crate::gen::stories::{walk, Story, STORIES};
 use crate::model::book::{Book, Place, RULES};
-use crate::model::crc::{code_is_ok, crc8};
+use crate::model::crc::{check_of, crc8, Check};
 use crate::model::figure4::Figure4;
 use crate::model::programs::{list, Wire};
 use crate::program::Program;
@@ -177,13 +177,16 @@ impl Tester {
         }
     }
 
-    /// The model's two ways to the CRC-8 of a code; every other code is made good. Counts once.
+    /// The model's two ways to the CRC-8 of a code: the code of zeros, then random ones, every other
+    /// made good. Counts once.
     fn run_codes(&mut self, book: &Book) {
         let mut rng = seed_for(self.options.seed, 6, 0);
         let mut differ = 0;
         for number in 0..CODES {
             let mut bytes = rng.bits().to_le_bytes();
-            if number % 2 == 0 {
+            if number == 0 {
+                bytes = [0; 8];
+            } else if number % 2 == 0 {
                 bytes[7] = crc8(&bytes[..7]);
             }
             let mut figure = Figure4::reading(0);
@@ -191,7 +194,13 @@ impl Tester {
             let same = figure.byte() == crc8(&bytes[..7]);
             figure.take(&bytes[7..], book);
             let code = u64::from_le_bytes(bytes);
-            if !same || (figure.byte() == 0) != code_is_ok(code) {
+            let cleared = figure.byte() == 0;
+            let fits = match check_of(code) {
+                Check::Good => cleared && code != 0,
+                Check::Bad => !cleared,
+                Check::Zeros => cleared && code == 0,
+            };
+            if !same || !fits {
                 if differ == 0 {
                     let seed = self.options.seed;
                     println!("DIFFERENCE: figure 4, code {code:016X}, {number} of seed {seed}");
@@ -206,8 +215,20 @@ impl Tester {
     /// The list program on good and damaged cards.
     fn run_list(&mut self, command: &str, book: &mut Book) {
         let seed = self.options.seed;
-        let styles = [Style::Full, Style::Deep, Style::Twins, Style::Mixed];
-        let fixed = 17 + styles.len() + 2 * DAMAGES;
+        let styles = [
+            Style::Full,
+            Style::Deep,
+            Style::Twins,
+            Style::Mixed,
+            Style::OneZero,
+            Style::Zeros,
+            Style::NearZero(0),
+            Style::NearZero(1),
+            Style::NearZero(2),
+            Style::NearZero(3),
+        ];
+        let styled = 17 + styles.len();
+        let fixed = styled + 2 * DAMAGES;
         let total = fixed + self.options.cards;
         for number in 0..total {
             if self.is_over() {
@@ -221,8 +242,8 @@ impl Tester {
             let mut rng = seed_for(seed, 1, number);
             let card = match number {
                 0..=16 => card_of(&mut rng, number),
-                17..=20 => good_card(&mut rng, styles[number - 17]),
-                _ if number < fixed => damaged_card(&mut rng, (number - 21) % DAMAGES),
+                _ if number < styled => good_card(&mut rng, styles[number - 17]),
+                _ if number < fixed => damaged_card(&mut rng, (number - styled) % DAMAGES),
                 _ if rng.chance(60) => good_card(&mut rng, Style::Any),
                 _ => {
                     let damage = rng.below(DAMAGES);

@@ -8,20 +8,20 @@ use Rattle.crc.proofs.bit16.Lts as lts
 use Rattle.base.proofs.bit_of.Reads as bit-of-reads
 use Rattle.base.proofs.is_same.Reads as is-same-reads
 
--- src/lib.rt:36:9
+-- src/lib.rt:37:9
 bit-of-requires : tie.Need-bit-of-requires
 bit-of-requires c κs = search needs
 
--- src/lib.rt:37:8
+-- src/lib.rt:38:8
 is-same-requires : tie.Need-is-same-requires
 is-same-requires c κs = search needs
 
--- src/lib.rt:38:9
+-- src/lib.rt:39:9
 returns : tie.Need-returns
 unfolding crcBit
 returns c = search (cases, ← c .before .is-same .ensures, ← c .before .before .bit-of .ensures)
 
--- src/lib.rt:33:1
+-- src/lib.rt:34:1
 returns-2 : tie.Need-returns-2
 unfolding crcBit
 returns-2 c = search (cases, ← c .before .is-same .ensures, ← c .before .before .bit-of .ensures)

@@ -10,19 +10,19 @@ use Rattle.crc.proofs.figure4.as_byte.Reads as as-byte-reads
 use Rattle.crc.proofs.figure4.stages_of.Reads as stages-of-reads
 use Rattle.crc.proofs.figure4.step.Reads as step-reads
 
--- src/lib.rt:18:9
+-- src/lib.rt:19:9
 stages-of-requires : tie.Need-stages-of-requires
 stages-of-requires c κs = search needs
 
--- src/lib.rt:19:9
+-- src/lib.rt:20:9
 step-requires : tie.Need-step-requires
 step-requires c κs = search needs
 
--- src/lib.rt:20:5
+-- src/lib.rt:21:5
 as-byte-requires : tie.Need-as-byte-requires
 as-byte-requires c κs = search needs
 
--- src/lib.rt:15:1
+-- src/lib.rt:16:1
 returns : tie.Need-returns
 returns c =
     let a = c .before .before .before .args in

@@ -10,19 +10,19 @@ use Rattle.crc.proofs.figure4.as_byte.Reads as as-byte-reads
 use Rattle.crc.proofs.figure4.stages_of.Reads as stages-of-reads
 use Rattle.crc.proofs.figure4.take_byte.Reads as take-byte-reads
 
--- src/lib.rt:27:9
+-- src/lib.rt:28:9
 stages-of-requires : tie.Need-stages-of-requires
 stages-of-requires c κs = search needs
 
--- src/lib.rt:28:9
+-- src/lib.rt:29:9
 take-byte-requires : tie.Need-take-byte-requires
 take-byte-requires c κs = search needs
 
--- src/lib.rt:29:5
+-- src/lib.rt:30:5
 as-byte-requires : tie.Need-as-byte-requires
 as-byte-requires c κs = search needs
 
--- src/lib.rt:24:1
+-- src/lib.rt:25:1
 returns : tie.Need-returns
 returns c =
     let a = c .before .before .before .args in

@@ -17,79 +17,79 @@ use Rattle.line.proofs.tables.blank.Reads as blank-reads
 use Rattle.terminal.proofs.pad_room.Reads as pad-room-reads
 use Rattle.terminal.proofs.refused_card.Reads as refused-card-reads
 
--- src/main.rt:88:20
+-- src/main.rt:72:20
 buffer-requires : tie.Need-buffer-requires
 buffer-requires c κs = search needs
 
--- src/main.rt:89:41
+-- src/main.rt:73:41
 slice-aggregate-read-full : tie.Need-slice-aggregate-read-full
 slice-aggregate-read-full c = search needs
 
--- src/main.rt:89:9
+-- src/main.rt:73:9
 read-full-requires : tie.Need-read-full-requires
 read-full-requires c κs = search needs
 
--- src/main.rt:90:31
+-- src/main.rt:74:31
 array-share-prefix-card : tie.Need-array-share-prefix-card
 array-share-prefix-card c = search needs
 
--- src/main.rt:90:31
+-- src/main.rt:74:31
 slice-aggregate-set-up : tie.Need-slice-aggregate-set-up
 slice-aggregate-set-up c = search needs
 
--- src/main.rt:90:47
+-- src/main.rt:74:47
 blank-requires : tie.Need-blank-requires
 blank-requires c κs = search needs
 
--- src/main.rt:90:9
+-- src/main.rt:74:9
 set-up-requires : tie.Need-set-up-requires
 set-up-requires c κs = search needs
 
--- src/main.rt:93:8
+-- src/main.rt:77:8
 refused-card-requires : tie.Need-refused-card-requires
 refused-card-requires c κs = search needs
 
--- src/main.rt:94:9
+-- src/main.rt:78:9
 returns : tie.Need-returns
 returns c = search needs
 
--- src/main.rt:96:22
+-- src/main.rt:80:22
 image-room-requires : tie.Need-image-room-requires
 image-room-requires c κs = search needs
 
--- src/main.rt:97:20
+-- src/main.rt:81:20
 pad-room-requires : tie.Need-pad-room-requires
 pad-room-requires c κs = search needs
 
--- src/main.rt:98:9
+-- src/main.rt:82:9
 images-asked-requires : tie.Need-images-asked-requires
 images-asked-requires c κs = search needs
 
--- src/main.rt:99:9
+-- src/main.rt:83:9
 pads-asked-requires : tie.Need-pads-asked-requires
 pads-asked-requires c κs = search needs
 
--- src/main.rt:100:29
+-- src/main.rt:84:29
 array-borrow-prefix-images : tie.Need-array-borrow-prefix-images
 array-borrow-prefix-images c = search needs
 
--- src/main.rt:100:29
+-- src/main.rt:84:29
 slice-aggregate-search-and-write : tie.Need-slice-aggregate-search-and-write
 slice-aggregate-search-and-write c = sym (length-take-le _ _ (omega (arith, c .before .before .images-asked .ensures .1, c .before .before .before .before .image-room .ensures .1)))
 
--- src/main.rt:100:57
+-- src/main.rt:84:57
 array-borrow-prefix-pads : tie.Need-array-borrow-prefix-pads
 array-borrow-prefix-pads c = search needs
 
--- src/main.rt:100:57
+-- src/main.rt:84:57
 slice-aggregate-search-and-write-2 : tie.Need-slice-aggregate-search-and-write-2
 slice-aggregate-search-and-write-2 c = sym (length-take-le _ _ (omega (arith, c .before .before .pads-asked .ensures .1, c .before .before .before .before .pad-room .ensures .1)))
 
--- src/main.rt:100:5
+-- src/main.rt:84:5
 search-and-write-requires : tie.Need-search-and-write-requires
 search-and-write-requires c κs = search needs
 
--- src/main.rt:87:1
+-- src/main.rt:71:1
 returns-2 : tie.Need-returns-2
 returns-2 c = search needs
 

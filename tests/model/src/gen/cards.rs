@@ -23,6 +23,13 @@ pub enum Style {
     Full,
     /// Codes that differ in their last byte alone.
     Deep,
+    /// The code of zeros once, among codes that differ from it in one bit, and the code of ones.
+    OneZero,
+    /// The code of zeros on several chips, of one kind or of both, among others; one of these differs
+    /// from it in its eighth byte alone.
+    Zeros,
+    /// 16 codes that differ from zero in one bit: in every fourth one, from this one of 0 to 3 on.
+    NearZero(usize),
 }
 
 /// One record of a card.
@@ -50,17 +57,19 @@ fn family(kind: u16) -> u8 {
     }
 }
 
-/// A code of any sort, good, bad, equal or close to others.
+/// A code of any sort, good, bad, all zeros or ones, equal or close to others or to zero.
 fn any_code(rng: &mut Rng, kind: u16, others: &[u64]) -> u64 {
-    match rng.below(12) {
+    match rng.below(14) {
         0 => 0,
-        1 => rng.below(8) as u64,
-        2 => rng.bits(),
-        3 => good_code(rng, family(kind)) ^ 1 << rng.between(56, 63),
-        4 => good_code(rng, family(kind) ^ 0x43 ^ 0x3A),
-        5 if !others.is_empty() => rng.pick(others),
-        6 if !others.is_empty() => rng.pick(others) ^ 1 << rng.below(64),
-        7 if !others.is_empty() => rng.pick(others) ^ 1 << rng.between(56, 63),
+        1 => 1 << rng.below(64),
+        2 => rng.below(8) as u64,
+        3 => u64::MAX,
+        4 => rng.bits(),
+        5 => good_code(rng, family(kind)) ^ 1 << rng.between(56, 63),
+        6 => good_code(rng, family(kind) ^ 0x43 ^ 0x3A),
+        7 if !others.is_empty() => rng.pick(others),
+        8 if !others.is_empty() => rng.pick(others) ^ 1 << rng.below(64),
+        9 if !others.is_empty() => rng.pick(others) ^ 1 << rng.between(56, 63),
         _ => good_code(rng, family(kind)),
     }
 }
@@ -76,6 +85,14 @@ fn any_card(rng: &mut Rng, chips: usize) -> Vec<u8> {
         card.extend(record(kind, code));
     }
     card
+}
+
+/// A card of these codes, each of either kind.
+fn any_kinds(rng: &mut Rng, codes: &[u64]) -> Vec<u8> {
+    let chips = codes.iter();
+    chips
+        .flat_map(|code| record(rng.pick(&[1, 2]), *code))
+        .collect()
 }
 
 /// A good card of a style.
@@ -97,10 +114,25 @@ pub fn good_card(rng: &mut Rng, style: Style) -> Vec<u8> {
         }
         Style::Deep => {
             let code = rng.bits();
-            let chips = (0..8).map(|place| code ^ 1 << (56 + place));
-            chips
-                .flat_map(|code| record(rng.pick(&[1, 2]), code))
-                .collect()
+            let codes: Vec<u64> = (0..8).map(|place| code ^ 1 << (56 + place)).collect();
+            any_kinds(rng, &codes)
+        }
+        Style::OneZero => {
+            let mut codes: Vec<u64> = (0..rng.between(1, 6)).map(|_| 1 << rng.below(64)).collect();
+            codes.push(u64::MAX);
+            codes.insert(rng.below(codes.len() + 1), 0);
+            any_kinds(rng, &codes)
+        }
+        Style::Zeros => {
+            let mut codes = vec![0; rng.between(2, 5)];
+            for code in [good_code(rng, 0x43), 1 << 56, rng.bits()] {
+                codes.insert(rng.below(codes.len() + 1), code);
+            }
+            any_kinds(rng, &codes)
+        }
+        Style::NearZero(first) => {
+            let codes: Vec<u64> = (0..16).map(|at| 1 << (first + 4 * at)).collect();
+            any_kinds(rng, &codes)
         }
         Style::Any => {
             let chips = rng.below(17);

@@ -34,8 +34,24 @@ pub fn crc16(bytes: &[u8]) -> u16 {
     register
 }
 
-/// Whether a code's eighth byte is the CRC-8 of the first seven.
-pub fn code_is_ok(code: u64) -> bool {
+/// What the check of a code finds.
+#[derive(Clone, Copy, PartialEq, Eq, Debug)]
+pub enum Check {
+    Good,
+    Bad,
+    /// All 64 bits are 0, as a shorted line reads; asked before the CRC.
+    Zeros,
+}
+
+/// The check of a code.
+pub fn check_of(code: u64) -> Check {
+    if code == 0 {
+        return Check::Zeros;
+    }
     let bytes = code.to_le_bytes();
-    crc8(&bytes[..7]) == bytes[7]
+    if crc8(&bytes[..7]) == bytes[7] {
+        Check::Good
+    } else {
+        Check::Bad
+    }
 }

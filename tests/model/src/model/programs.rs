@@ -5,13 +5,42 @@ use std::collections::BTreeSet;
 use super::book::{Book, Rule, Slip};
 use super::card::read_card;
 use super::chip::{DS2413, DS28EC20};
-use super::crc::code_is_ok;
+use super::crc::{check_of, Check};
 use super::line::{Line, MOST};
 use super::search::search_line;
 
 /// The line that a refused card gets.
 fn refused(refusal: u8, offset: usize) -> String {
     format!("refused {refusal} at {offset}\n")
+}
+
+/// The word for the check of a code.
+fn word_of(code: u64, book: &mut Book) -> &'static str {
+    let seven_zeros = code.to_le_bytes()[..7] == [0; 7];
+    book.saw_if(code == u64::MAX, Rule::ListOnes);
+    book.saw_if(code.count_ones() == 1, Rule::ListNearZero);
+    book.saw_if(seven_zeros && code != 0, Rule::ListSevenZeros);
+    if seven_zeros && book.slips(Slip::ZeroSeven) {
+        return "zero";
+    }
+    match check_of(code) {
+        Check::Good => {
+            book.saw(Rule::ListOk);
+            "ok"
+        }
+        Check::Bad => {
+            book.saw(Rule::ListNo);
+            "no"
+        }
+        Check::Zeros => {
+            book.saw(Rule::ListZero);
+            if book.slips(Slip::ZeroOk) {
+                "ok"
+            } else {
+                "zero"
+            }
+        }
+    }
 }
 
 /// The list program: its whole output for a card.
@@ -27,23 +56,25 @@ pub fn list(card: &[u8], book: &mut Book) -> String {
     let distinct: BTreeSet<u64> = codes.iter().copied().collect();
     book.saw_if(distinct.len() < codes.len(), Rule::SearchTwins);
     book.saw_if(both == [true, true], Rule::SearchKinds);
+    let zeros = codes.iter().filter(|code| **code == 0).count();
+    book.saw_if(zeros > 1, Rule::ListZeros);
     if book.slips(Slip::SearchTwice) {
         let times = |code: &u64| codes.iter().filter(|other| *other == code).count();
         let list = found.list.iter();
         found.list = list.flat_map(|code| vec![*code; times(code)]).collect();
     }
     if book.slips(Slip::BadCrcLeft) {
-        found.list.retain(|code| code_is_ok(*code));
+        found.list.retain(|code| check_of(*code) != Check::Bad);
+    }
+    if book.slips(Slip::ZeroLeft) {
+        found.list.retain(|code| *code != 0);
     }
     if book.slips(Slip::SlotsPlus) {
         found.slots += found.resets;
     }
     let mut text = String::new();
     for code in &found.list {
-        let ok = code_is_ok(*code);
-        book.saw(if ok { Rule::ListOk } else { Rule::ListNo });
-        book.saw_if(*code == 0, Rule::ListZero);
-        let word = if ok { "ok" } else { "no" };
+        let word = word_of(*code, book);
         text += &if book.slips(Slip::LowHex) {
             format!("{code:016x} {word}\n")
         } else {
