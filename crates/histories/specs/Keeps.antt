@@ -2,7 +2,7 @@
 use Prim.Native.Nat.{ℕ, _≤_}
 use mathlib.Core.Bool.{Bool, true}
 use mathlib.Core.Path.{_≡_, refl, _∙_, ap, sym}
-use lib.Dec.{eqb, leb}
+use lib.Dec.{leb}
 use lib.ListN.{length}
 use borrow.Author.Tests.{le-leb}
 use Rattle.base.specs.Pick.{pick-both, pick-if}
@@ -12,10 +12,10 @@ use Rattle.rom.specs.Rom.{romTakes}
 use Rattle.rom.specs.declared.RomNext.{RomNext}
 use Rattle.rom.specs.declared.RomNext.the-variants as next
 use Rattle.scratchpad.specs.Scratchpad.{memoryInRange, registersInRange}
+use Rattle.scratchpad.specs.Registers.{pfSet}
 use Rattle.scratchpad.specs.declared.Registers.{Registers}
 use Rattle.scratchpad.specs.Scratchpad.{memoryBegins}
 use Rattle.ds2413.specs.Switch.{switchBegins}
-use Rattle.memory.specs.declared.Seen.{Seen}
 use Rattle.histories.specs.Bounds.{sight-last, sight-end}
 use Rattle.chip.specs.Kinds.{hasMemory, hasSwitch, knowsOf}
 use Rattle.chip.specs.With.{withRc, withLevel}
@@ -32,7 +32,7 @@ use Rattle.line.specs.Line.{actOf}
 use Rattle.line.specs.Sizes.{act-sized}
 use Rattle.line.specs.declared.Act.{Act}
 use Rattle.line.specs.declared.Act.the-variants.{Take, Reset, PowerOn}
-use Rattle.histories.specs.Range.{both-true′, more-below, Clear, clear-of, of-clear, NextInRange, rom-leads, function-in-range, memory-in-range, reset-clear, pio-function, switch-in-range}
+use Rattle.histories.specs.Range.{both-true′, more-below, Clear, clear-of, of-clear, NextInRange, rom-leads, function-in-range, memory-in-range, clear-pf, reset-either, pio-function, switch-in-range}
 
 -- a record in range, part by part
 pub record InRange (c : Chip) : Type 0 where
@@ -88,18 +88,19 @@ level-in w v (Pio p) h k =
     let m = switch-in-range (w .chip .switch) v p (h .pins) (q .1) in
     record { known = h .known; clear = h .clear; pins = m .0; place = both-true′ _ _ (q .0) (m .1) }
 
-level-clear : (c : Chip) (l : Level) → Clear (c .registers .es) → Clear (levelReset c l .es)
-level-clear c Waiting h = h
-level-clear c (Rom s) h = h
-level-clear c (FunctionCommand count bits) h = h
-level-clear c (Memory p) h = reset-clear (c .registers) (chipMap c .cutSetsPF) p h
-level-clear c (Pio p) h = h
+-- what the registers have, with PF as it is and with PF = 1, they have after a reset
+pub level-either : (P : Registers → Type 0) (c : Chip) → P (c .registers) → P (pfSet (c .registers)) → (l : Level) → P (levelReset c l)
+level-either P c h k Waiting = h
+level-either P c h k (Rom s) = h
+level-either P c h k (FunctionCommand count bits) = h
+level-either P c h k (Memory p) = reset-either P (c .registers) (chipMap c .cutSetsPF) h k p
+level-either P c h k (Pio p) = h
 
 -- every act keeps the ranges
 pub act-in-range : (a : Act) (w : Whole) → InRange (w .chip) → InRange (actOf a w .chip)
 unfolding takesOf resetOf resetChip powerOnOf powerOnChip switchInRange
 act-in-range (Take v) w h = level-in w v (w .chip .level) h (h .place)
-act-in-range Reset w h = record { known = h .known; clear = level-clear (w .chip) (w .chip .level) (h .clear); pins = h .pins; place = refl }
+act-in-range Reset w h = record { known = h .known; clear = level-either (λ (r : Registers). Clear (r .es)) (w .chip) (h .clear) (clear-pf (w .chip .registers .es) (h .clear)) (w .chip .level); pins = h .pins; place = refl }
 act-in-range PowerOn w h =
     record {
       known = h .known;

@@ -16,8 +16,8 @@ use Rattle.rom.specs.declared.RomNext.the-variants as next
 use Rattle.rom.specs.declared.RomStep.{RomStep}
 use Rattle.rom.specs.declared.RomStep.the-variants.{Command, Read, Match, Search}
 use Rattle.rom.specs.declared.RomResult.{RomResult}
-use Rattle.scratchpad.specs.Registers.{withE, withPF, withAA}
-use Rattle.scratchpad.specs.Scratchpad.{memoryFunction, addressIn, writeAddress, afterByte, byteIn, writeData, crcSent, padFrom, padBegins, registerSent, padByteSent, padSent, copyAddress, authorized, copyEnd, readFrom, readAddress, memorySent, memoryTakes, memoryReset, cutOf, addressCut, memoryInRange}
+use Rattle.scratchpad.specs.Registers.{withE, withPF, pfSet, withAA}
+use Rattle.scratchpad.specs.Scratchpad.{memoryFunction, addressIn, writeAddress, afterByte, byteIn, writeData, crcSent, padFrom, padBegins, registerSent, padByteSent, padSent, copyAddress, authorized, copyEnd, readFrom, readAddress, memorySent, memoryTakes, memoryReset, cutOf, memoryInRange}
 use Rattle.scratchpad.specs.declared.Registers.{Registers}
 use Rattle.scratchpad.specs.declared.Sight.{Sight}
 use Rattle.scratchpad.specs.declared.MemoryAfter.{MemoryAfter}
@@ -99,7 +99,7 @@ clear-e es offset h = omega arith
 pf-block : (q k : ℕ) → k < 32 → (q * 64 + 32 + k) / 64 ≡ q
 pf-block q k h = omega arith
 
-clear-pf : (es : ℕ) → Clear es → Clear (withPF es)
+pub clear-pf : (es : ℕ) → Clear es → Clear (withPF es)
 unfolding withPF
 clear-pf es h = ap (λ (n : ℕ). n % 2) (pf-block (es / 64) (es % 32) (mod-lt es (omega arith))) ∙ h
 
@@ -172,20 +172,20 @@ module _ (last : ℕ) where
               (λ e. pick-if PhaseInRange _ _ _ (λ f. both-true′ _ _ (le-leb (address + 1) last (let g = ltb-true address (see .last) f in omega (arith, is-last))) refl) (λ f. refl)),
         )
 
--- a reset leaves bit 6 of E/S 0
-pub reset-clear : (r : Registers) (cut : Bool) (p : MemoryPhase) → Clear (r .es) → Clear (memoryReset r cut p .es)
-unfolding cutOf addressCut
-reset-clear r cut memory.Ones h = h
-reset-clear r cut (memory.WriteAddress count bits) h = pick-both (λ (k : Registers). Clear (k .es)) _ _ _ (clear-pf (r .es) h) h
-reset-clear r cut (memory.WriteData offset count bits crc) h = pick-both (λ (k : Registers). Clear (k .es)) _ _ _ (clear-pf (r .es) h) h
-reset-clear r cut (memory.SendCrc place crc) h = h
-reset-clear r cut (memory.ReadRegisters place) h = h
-reset-clear r cut (memory.ReadPad offset count crc) h = h
-reset-clear r cut (memory.CopyAddress count bits) h = h
-reset-clear r cut (memory.CopyEnd address count bits) h = h
-reset-clear r cut (memory.Copied answer) h = h
-reset-clear r cut (memory.ReadAddress count bits) h = h
-reset-clear r cut (memory.ReadMemory address count) h = h
+-- a reset leaves the registers, or it sets PF: what both have, the registers have after it
+pub reset-either : (P : Registers → Type 0) (r : Registers) (cut : Bool) → P r → P (pfSet r) → (p : MemoryPhase) → P (memoryReset r cut p)
+unfolding cutOf
+reset-either P r cut h k memory.Ones = h
+reset-either P r cut h k (memory.WriteAddress count bits) = pick-both P _ _ _ k h
+reset-either P r cut h k (memory.WriteData offset count bits crc) = pick-both P _ _ _ k h
+reset-either P r cut h k (memory.SendCrc place crc) = h
+reset-either P r cut h k (memory.ReadRegisters place) = h
+reset-either P r cut h k (memory.ReadPad offset count crc) = h
+reset-either P r cut h k (memory.CopyAddress count bits) = h
+reset-either P r cut h k (memory.CopyEnd address count bits) = h
+reset-either P r cut h k (memory.Copied answer) = h
+reset-either P r cut h k (memory.ReadAddress count bits) = h
+reset-either P r cut h k (memory.ReadMemory address count) = h
 
 -- a slot of a DS2413 leaves its latches and outside levels two bits each and its phase in range
 abbrev SwitchAfterInRange : SwitchAfter → Type 0

@@ -23,6 +23,10 @@ withE es offset = es / 32 * 32 + offset % 32
 unfoldable pub withPF : ℕ → ℕ
 withPF es = es / 64 * 64 + 32 + es % 32
 
+-- the registers with PF = 1; T, E and AA stay
+abbrev pub pfSet : Registers → Registers
+pfSet r = registers (r .t) (withPF (r .es))
+
 -- E/S with AA = 1
 unfoldable pub withAA : ℕ → ℕ
 withAA es = 128 + es % 128

@@ -6,7 +6,7 @@ use lib.Dec.{eqb, ltb, leb}
 use Rattle.base.specs.Pick.{pick}
 use Rattle.base.specs.Bits.{bitOf, both, filled}
 use Rattle.crc.specs.Crc.{poly16, crcByte}
-use Rattle.scratchpad.specs.Registers.{registers, pf, withE, withPF, withAA, targetOf, ruleOfByte}
+use Rattle.scratchpad.specs.Registers.{registers, pf, withE, pfSet, withAA, targetOf, ruleOfByte}
 use Rattle.scratchpad.specs.declared.Registers.{Registers}
 use Rattle.scratchpad.specs.declared.Sight.{Sight}
 use Rattle.scratchpad.specs.declared.MemoryAfter.{MemoryAfter}
@@ -159,19 +159,16 @@ memorySends r see (Copied answer) = answer
 memorySends r see (ReadAddress count bits) = true
 memorySends r see (ReadMemory address count) = bitOf (see .memory) count
 
+-- a reset in a write, where it counts as a cut
+unfoldable pub cutOf : Registers → Bool → Registers
+cutOf r counts = pick counts (pfSet r) r
+
+-- what a reset does to the registers at each phase; the map says whether one inside the address of a write counts as a cut.
 -- "A reset inside a data byte sets PF; its bits are lost, E stays (here)."
-unfoldable pub cutOf : Registers → ℕ → Registers
-cutOf r count = pick (ltb 0 count) (registers (r .t) (withPF (r .es))) r
-
--- a reset inside the address of a write, where that counts as a cut
-unfoldable pub addressCut : Registers → Bool → Registers
-addressCut r cut = pick cut (registers (r .t) (withPF (r .es))) r
-
--- what a reset does to the registers at each phase
 abbrev pub memoryReset : Registers → Bool → MemoryPhase → Registers
 memoryReset r cut Ones = r
-memoryReset r cut (WriteAddress count bits) = addressCut r cut
-memoryReset r cut (WriteData offset count bits crc) = cutOf r count
+memoryReset r cut (WriteAddress count bits) = cutOf r cut
+memoryReset r cut (WriteData offset count bits crc) = cutOf r (ltb 0 count)
 memoryReset r cut (SendCrc place crc) = r
 memoryReset r cut (ReadRegisters place) = r
 memoryReset r cut (ReadPad offset count crc) = r

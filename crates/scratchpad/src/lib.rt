@@ -254,13 +254,13 @@ pub fn reset(r: Registers, cut: bool, p: MemoryPhase) -> Registers
 {
     match p {
         MemoryPhase::Ones => r,
-        MemoryPhase::WriteAddress { count: _, bits: _ } => write::address_cut(r, cut),
+        MemoryPhase::WriteAddress { count: _, bits: _ } => write::cut(r, cut),
         MemoryPhase::WriteData {
             offset: _,
             count,
             bits: _,
             crc: _,
-        } => write::cut(r, count),
+        } => write::cut(r, 0 < count),
         MemoryPhase::SendCrc { place: _, crc: _ } => r,
         MemoryPhase::ReadRegisters { place: _ } => r,
         MemoryPhase::ReadPad {

@@ -6,7 +6,7 @@ use crate::Registers;
 use crate::Sight;
 use crate::fields;
 ghost use mathlib.Core.Path.{_≡_};
-ghost use Rattle.scratchpad.specs.Scratchpad.{crcOfAddress, addressIn, writeAddress, afterByte, byteIn, writeData, crcSent, cutOf, addressCut};
+ghost use Rattle.scratchpad.specs.Scratchpad.{crcOfAddress, addressIn, writeAddress, afterByte, byteIn, writeData, crcSent, cutOf};
 
 // The CRC-16 of a command and the two bytes of T.
 pub fn crc_of_address(command: u8, t: u16) -> u16
@@ -114,12 +114,12 @@ pub fn write_data(
     byte_in(r, offset, b, crc, see)
 }
 
-// A reset while count bits of a data byte are in.
-pub fn cut(r: Registers, count: u8) -> Registers
-    ensures { λ s. ⌜ s ≡ cutOf r count ⌝ }
+// A reset in a write, where it counts as a cut.
+pub fn cut(r: Registers, counts: bool) -> Registers
+    ensures { λ s. ⌜ s ≡ cutOf r counts ⌝ }
 {
     let es = fields::with_pf(r.es);
-    if 0 < count {
+    if counts {
         return Registers { t: r.t, es: es };
     }
     r
@@ -136,15 +136,4 @@ pub fn crc_sent(place: u8, crc: u16) -> MemoryPhase
         };
     }
     MemoryPhase::Ones
-}
-
-// A reset inside the address, where that counts as a cut.
-pub fn address_cut(r: Registers, cut: bool) -> Registers
-    ensures { λ s. ⌜ s ≡ addressCut r cut ⌝ }
-{
-    let es = fields::with_pf(r.es);
-    if cut {
-        return Registers { t: r.t, es: es };
-    }
-    r
 }

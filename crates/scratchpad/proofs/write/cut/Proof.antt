@@ -19,7 +19,7 @@ returns c = search (cases, ← c .before .with-pf .ensures)
 -- src/write.rt:118:1
 returns-2 : tie.Need-returns-2
 unfolding cutOf
-returns-2 c = search (cases, ← c .before .with-pf .ensures)
+returns-2 c = search cases
 
 pub cut-spec : {M : Type 1} → statement M
 cut-spec = tie.close (tie.spec with-pf-requires returns returns-2)
