@@ -25,7 +25,7 @@ use Rattle.histories.specs.Keeps.{InRange, Good}
 use Rattle.recovery.specs.Sessions.{bitsFrom, opening, Addressed, slots, write, Bytes, Page}
 use Rattle.recovery.specs.CarriedOut.{carriesOut, NoCopy}
 use Rattle.recovery.specs.Installed.{Installed}
-use Rattle.recovery.specs.Rewritten.{addressed-slots}
+use Rattle.recovery.specs.Matched.{addressed-slots}
 use Rattle.recovery.specs.Recovery.{Recovered}
 use Rattle.recovery.specs.Demand3.{demand-3}
 

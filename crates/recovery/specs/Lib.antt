@@ -4,8 +4,10 @@ pub mod Stays
 pub mod Opening
 pub mod Among
 pub mod Filled
+pub mod Goes
 pub mod Written
 pub mod Installed
+pub mod Matched
 pub mod Rewritten
 pub mod Recovery
 pub mod Demand3

@@ -45,7 +45,7 @@ good-at zero (w ∷ L) h (g, r) = g
 good-at (suc i) (w ∷ L) h (g, r) = good-at i L (omega arith) r
 
 -- the line of such a table is set up
-line-installed : (i : ℕ) (l : Attached) → TableInstalled i l → Installed i (lineFrom l)
+pub line-installed : (i : ℕ) (l : Attached) → TableInstalled i l → Installed i (lineFrom l)
 line-installed i l s =
     let h : i < length (lineFrom l) = rw (line-length l (s .stands)) (s .attached) in
     record { attached = h; differ = s .differ; codes = s .codes; kind = s .kind; good = good-at i (lineFrom l) h (line-good l (s .stands)) }

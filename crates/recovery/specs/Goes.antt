@@ -1,0 +1,99 @@
+-- A chip that is fed given bits: silent all along, and where it comes to. Of a DS28EC20: a match of its code, 0Fh and an address.
+use Prim.Native.Nat.{ℕ, zero, suc, _+_, _%_, _<_, _≤_}
+use native.Mathlib.Omega.{arith}
+use mathlib.Core.Bool.{Bool, true, false}
+use mathlib.Core.List.{List, [], _∷_, _++_}
+use mathlib.Core.Path.{_≡_, refl, ap, sym, subst}
+use borrow.Author.Tests.{lt-ltb, le-ltb}
+use Rattle.base.specs.Pick.{pick}
+use Rattle.base.specs.Bits.{bitOf, filled}
+use Rattle.base.specs.Same.{same-own}
+use Rattle.rom.specs.Rom.{commandOf, commandBit, matchBit}
+use Rattle.rom.specs.declared.RomStep.the-variants.{Command, Match}
+use Rattle.scratchpad.specs.Registers.{registers, targetOf}
+use Rattle.scratchpad.specs.Scratchpad.{memoryBegins, memoryFunction, crcOfAddress, addressIn, writeAddress}
+use Rattle.scratchpad.specs.declared.Registers.{Registers}
+use Rattle.scratchpad.specs.declared.MemoryPhase.the-variants.{WriteAddress, WriteData}
+use Rattle.chip.specs.Kinds.{hasMemory}
+use Rattle.chip.specs.With.{withKind, withRc, withLevel, withRegisters}
+use Rattle.chip.specs.Chip.{Whole, whole, romSlot, functionIn, functionSlot, memorySlot, takesOf, sendsOf}
+use Rattle.chip.specs.declared.Chip.{Chip}
+use Rattle.chip.specs.declared.Level.{Level}
+use Rattle.chip.specs.declared.Level.the-variants.{Rom, FunctionCommand, Memory}
+use Rattle.recovery.specs.Sessions.{bitsFrom, opening}
+use Rattle.recovery.specs.Filled.{filledBy, address-taken}
+
+-- fed these bits, a chip sends 1 all along and comes to exactly u
+abbrev pub Goes : List Bool → Whole → Whole → Type 0
+Goes [] w u = w ≡ u
+Goes (v ∷ vs) w u = (sendsOf w ≡ true) × Goes vs (takesOf v w) u
+
+-- from an equal state
+pub goes-from : (vs : List Bool) (w x u : Whole) → w ≡ x → Goes vs x u → Goes vs w u
+goes-from vs w x u e g = subst (λ (y : Whole). Goes vs y u) (sym e) g
+
+-- to an equal state
+pub goes-to : (vs : List Bool) (w x u : Whole) → Goes vs w x → x ≡ u → Goes vs w u
+goes-to vs w x u g e = subst (λ (y : Whole). Goes vs w y) e g
+
+-- one run of bits after another
+pub goes-append : (xs ys : List Bool) (w u z : Whole) → Goes xs w u → Goes ys u z → Goes (xs ++ ys) w z
+goes-append [] ys w u z e g = goes-from ys w u z e g
+goes-append (x ∷ xs) ys w u z (s, r) g = (s, goes-append xs ys (takesOf x w) u z r g)
+
+module _ (c : Chip) (m : List ℕ) where
+  -- a chip of this kind and c's code at a level, with these registers
+  abbrev pub ofKind : ℕ → Level → Bool → Registers → List ℕ → Whole
+  ofKind kind l rc r s = whole (withLevel l (withRc rc (withRegisters r (withKind kind c)))) m s
+
+  -- a DS28EC20
+  abbrev pub ec20 : Level → Bool → Registers → List ℕ → Whole
+  ec20 = ofKind 1
+
+  -- 55h
+  goes-55 : (rc : Bool) (r : Registers) (s : List ℕ) → Goes (bitsFrom 8 0 0x55) (ec20 (Rom (Command 0 0)) rc r s) (ec20 (Rom (Match 0)) false r s)
+  unfolding sendsOf takesOf romSlot commandBit commandOf filled bitOf pick
+  goes-55 rc r s = (refl, (refl, (refl, (refl, (refl, (refl, (refl, (refl, refl))))))))
+
+  -- a bit of its code
+  own-bit : (p : ℕ) (r : Registers) (s : List ℕ) → p < 63 → takesOf (bitOf (c .code) p) (ec20 (Rom (Match p)) false r s) ≡ ec20 (Rom (Match (p + 1))) false r s
+  unfolding takesOf romSlot matchBit pick
+  own-bit p r s h = simp (same-own, lt-ltb p 63 h)
+
+  -- the last bit of its code
+  last-bit : (p : ℕ) (r : Registers) (s : List ℕ) → 63 ≤ p → takesOf (bitOf (c .code) p) (ec20 (Rom (Match p)) false r s) ≡ ec20 (FunctionCommand 0 0) true r s
+  unfolding takesOf romSlot matchBit pick
+  last-bit p r s h = simp (same-own, le-ltb p 63 h)
+
+  -- it sends nothing
+  own-sends : (p : ℕ) (r : Registers) (s : List ℕ) → sendsOf (ec20 (Rom (Match p)) false r s) ≡ true
+  unfolding sendsOf
+  own-sends p r s = refl
+
+  -- the bits of its code from a place on
+  goes-code : (k p : ℕ) (r : Registers) (s : List ℕ) → k + p ≡ 63 → Goes (bitsFrom (suc k) p (c .code)) (ec20 (Rom (Match p)) false r s) (ec20 (FunctionCommand 0 0) true r s)
+  goes-code zero p r s e = (own-sends p r s, last-bit p r s (omega arith))
+  goes-code (suc k) p r s e =
+      (own-sends p r s, goes-from (bitsFrom (suc k) (p + 1) (c .code)) _ _ _ (own-bit p r s (omega arith)) (goes-code k (p + 1) r s (omega arith)))
+
+  -- a match of its code
+  pub goes-opening : (rc : Bool) (r : Registers) (s : List ℕ) → Goes (opening (c .code)) (ec20 (Rom (Command 0 0)) rc r s) (ec20 (FunctionCommand 0 0) true r s)
+  goes-opening rc r s = goes-append (bitsFrom 8 0 0x55) (bitsFrom 64 0 (c .code)) _ _ _ (goes-55 rc r s) (goes-code 63 0 r s refl)
+
+  -- 0Fh
+  pub goes-0F : (r : Registers) (s : List ℕ) → Goes (bitsFrom 8 0 0x0F) (ec20 (FunctionCommand 0 0) true r s) (ec20 (Memory (WriteAddress 0 0)) true r s)
+  unfolding sendsOf takesOf functionSlot functionIn hasMemory memoryBegins memoryFunction filled bitOf pick
+  goes-0F r s = (refl, (refl, (refl, (refl, (refl, (refl, (refl, (refl, refl))))))))
+
+  -- a chip that has the address
+  abbrev pub addressed : List ℕ → ℕ → Whole
+  addressed s t = ec20 (Memory (WriteData (t % 32) 0 0 (crcOfAddress 0x0F t))) true (registers t (t % 32)) s
+
+  -- the 16 bits of an address, as the register takes them
+  goes-bits : (t : ℕ) (r : Registers) (s : List ℕ) → Goes (bitsFrom 16 0 t) (ec20 (Memory (WriteAddress 0 0)) true r s) (addressed s (filledBy 0x8000 0 (bitsFrom 16 0 t)))
+  unfolding sendsOf takesOf memorySlot writeAddress addressIn targetOf pick
+  goes-bits t r s = (refl, (refl, (refl, (refl, (refl, (refl, (refl, (refl, (refl, (refl, (refl, (refl, (refl, (refl, (refl, (refl, refl))))))))))))))))
+
+  -- an address
+  pub goes-address : (t : ℕ) (r : Registers) (s : List ℕ) → t < 0x10000 → Goes (bitsFrom 16 0 t) (ec20 (Memory (WriteAddress 0 0)) true r s) (addressed s t)
+  goes-address t r s h = goes-to (bitsFrom 16 0 t) _ _ _ (goes-bits t r s) (ap (addressed s) (address-taken t h))
