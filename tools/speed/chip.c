@@ -121,6 +121,9 @@ void chip_reset(struct chip *chip)
 {
     if (chip->step == WRITE_DATA && chip->b > 0)
         chip->es |= PF;
+    /* A short address sets PF too, which is a rule of the DS28EC20. */
+    if (chip->step == WRITE_ADDRESS && part_of(chip->kind) == MEMORY)
+        chip->es |= PF;
     begin(chip, ROM_COMMAND);
 }
 

@@ -1,7 +1,10 @@
-// The nine bench cases of document 01 and the slips that it names, run on the line as a host runs them at a terminal.
+// The nine bench cases of document 01, the case of M-102 and the slips that document 01 names, run on the line as a host
+// runs them at a terminal.
 //
 // A line of the output is a label and parts with commas between them. All numbers are hexadecimal, but for counts:
 //   write 0006 12 34                 Write Scratchpad: the address, and the data bytes that the host wrote
+//   write 20 cut                     Write Scratchpad that the next reset cuts: the bits of its address that the host wrote
+//   registers 06 00 27               the first three bytes that Read Scratchpad sent: TA1, TA2 and E/S
 //   E/S 07                           the third byte that Read Scratchpad sent
 //   scratchpad 12 34                 the bytes that Read Scratchpad sent after E/S
 //   copy 06 00 07 answers 0 1 0 1    Copy: the three bytes that the host wrote, and the four slots that it read after them
@@ -34,6 +37,7 @@ fn main() {
     memories::case_7(&mut image, &mut pad);
     switches::case_8();
     memories::case_9(&mut image, &mut pad);
+    memories::short_address(&mut image, &mut pad);
     slips::register_page(&mut image, &mut pad);
     slips::past_e(&mut image, &mut pad);
     slips::kind_1(&mut image, &mut pad);

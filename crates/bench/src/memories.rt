@@ -1,4 +1,4 @@
-// Cases 4 to 7 and 9: one DS28EC20, chosen by Match ROM or Skip ROM.
+// Cases 4 to 7 and 9, and that of M-102: one DS28EC20, chosen by Match ROM or Skip ROM.
 use crate::cards;
 use crate::script;
 
@@ -80,6 +80,26 @@ pub fn case_9(images: &mut [u8], pads: &mut [u8]) {
         case 9: held, the scratchpad not trusted, write 0000 99 88<CC 0F 00 00 99 88>, \
         write 0120<CC 0F 20 01>, E/S<CC AA>__?, scratchpad??, \
         copy 20 01 00 answers<CC 55 20 01 00>...., memory 0120<CC F0 20 01>??, E/S<CC AA>__?\n",
+        images,
+        pads,
+    );
+}
+
+// M-102: case 5's write, then a Write Scratchpad that the next reset cuts after 8 bits of its address; and one that it
+// cuts before the first, after a copy that was carried out.
+pub fn short_address(images: &mut [u8], pads: &mut [u8]) {
+    script::run(
+        &cards::MEMORY,
+        b"short address: write 0006 12 34<CC 0F 06 00 12 34>, write 20 cut<CC 0F 20>, registers<CC AA>???, \
+        copy 06 00 27 answers<CC 55 06 00 27>...., memory 0006<CC F0 06 00>??, E/S<CC AA>__?\n",
+        images,
+        pads,
+    );
+    script::run(
+        &cards::MEMORY,
+        b"short address: none of it, after a copy, write 0006 12 34<CC 0F 06 00 12 34>, \
+        copy 06 00 07 answers<CC 55 06 00 07>...., write cut<CC 0F>, registers<CC AA>???, \
+        copy 06 00 A7 answers<CC 55 06 00 A7>...., memory 0006<CC F0 06 00>??, E/S<CC AA>__?\n",
         images,
         pads,
     );

@@ -1,5 +1,5 @@
--- Document 01, "Bench cases": the starred cases, stated together. Each is the run of events that a host puts on the line that a
--- card sets up.
+-- Document 01, "Bench cases": the starred cases, and the case of document 02's M-102, stated together. Each is the run of events
+-- that a host puts on the line that a card sets up.
 use Prim.Native.Nat.{ℕ}
 use mathlib.Core.Bool.{Bool, true, false}
 use mathlib.Core.List.{List, [], _∷_, _++_}
@@ -9,6 +9,7 @@ use Rattle.crc.specs.Crc.{poly8, poly16, crcOf}
 use Rattle.chip.specs.Chip.{Whole}
 use Rattle.line.specs.Event.{Answered, bit}
 use Rattle.line.specs.declared.Event.{Event}
+use Rattle.scratchpad.specs.Registers.{registers}
 use Rattle.scratchpad.specs.declared.MemoryPhase.the-variants.{SendCrc}
 use Rattle.search.specs.Search.{Attached, searchOf, complete, refused}
 use Rattle.histories.specs.Histories.{at, run, lineWire}
@@ -38,6 +39,14 @@ memoryOf n L = bytesRead (session (0xF0 ∷ 0x06 ∷ 0x00 ∷ [])) n L
 -- Copy with three bytes
 abbrev pub copyOf : ℕ → ℕ → ℕ → List Event
 copyOf ta1 ta2 es = session (0x55 ∷ ta1 ∷ ta2 ∷ es ∷ [])
+
+-- Write Scratchpad, cut by a reset after 8 bits of its address: those of 20h, so that half an address in T would show
+abbrev pub shortAddress : List Event
+shortAddress = session (0x0F ∷ 0x20 ∷ []) ++ (resetEvent ∷ [])
+
+-- case 5's write, the short address, and Copy with 06 00 27
+abbrev pub shortCopy : List Event
+shortCopy = write1234 ++ (shortAddress ++ copyOf 0x06 0x00 0x27)
 
 -- a DS28EC20 that is about to send C0C1h as its CRC-16
 abbrev pub crcLine : List Whole
@@ -116,6 +125,14 @@ pub record Cases : Type 0 where
   pub wrong-answers : bytesRead (write1234 ++ copyOf 0x06 0x00 0x06) 2 memoryLine ≡ 0xFF ∷ 0xFF ∷ []
   pub wrong-memory : memoryOf 3 (run (write1234 ++ copyOf 0x06 0x00 0x06) memoryLine) ≡ 0xFF ∷ 0xFF ∷ 0xFF ∷ []
   pub wrong-registers : registersOf (run (write1234 ++ copyOf 0x06 0x00 0x06) memoryLine) ≡ 0x06 ∷ 0x00 ∷ 0x07 ∷ []
+  -- M-102: "case 5's write, then 0Fh and 8 bits, reset: E/S 27h, and a copy with 06 00 27 is not carried out."
+  pub short-reset : at 0 (run (write1234 ++ shortAddress) memoryLine) .chip .registers ≡ registers 0x0006 0x27
+  pub short-registers : registersOf (run (write1234 ++ shortAddress) memoryLine) ≡ 0x06 ∷ 0x00 ∷ 0x27 ∷ []
+  pub short-answers : bytesRead shortCopy 2 memoryLine ≡ 0xFF ∷ 0xFF ∷ []
+  pub short-memory : at 0 (run shortCopy memoryLine) .memory ≡ at 0 memoryLine .memory
+  pub short-kept : registersOf (run shortCopy memoryLine) ≡ 0x06 ∷ 0x00 ∷ 0x27 ∷ []
+  -- M-102: "T, E and AA stay", after a copy that was carried out
+  pub short-after-copy : registersOf (run (write1234 ++ (copyOf 0x06 0x00 0x07 ++ shortAddress)) memoryLine) ≡ 0x06 ∷ 0x00 ∷ 0xA7 ∷ []
   -- "Reset alone leaves RC": Match, a reset, and Resume finds the same chip at the function level
   pub resumed : bytesRead (matchMemory ++ (resetEvent ∷ written (0xA5 ∷ 0xAA ∷ []))) 3 memoryLine ≡ 0x00 ∷ 0x00 ∷ 0x20 ∷ []
   -- 9, into a held block: "Address only, 0120h", then a copy with 20 01 00 of an old scratchpad byte leaves the memory byte

@@ -1,4 +1,4 @@
--- The starred bench cases hold: each comes out by computing the run.
+-- The cases hold: each comes out by computing the run.
 use mathlib.Core.Path.{refl, ap}
 use lib.ListN.{replicate}
 use lib.Dec.{lit≤}
@@ -69,6 +69,12 @@ cases =
       wrong-answers = refl;
       wrong-memory = refl;
       wrong-registers = refl;
+      short-reset = refl;
+      short-registers = refl;
+      short-answers = refl;
+      short-memory = refl;
+      short-kept = refl;
+      short-after-copy = refl;
       resumed = refl;
       stale-held = refl;
       stale-answers = refl;

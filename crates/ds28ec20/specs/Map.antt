@@ -52,7 +52,7 @@ closedToCopying page control lock =
 unfoldable pub padEnd : ℕ → ℕ
 padEnd es = 31
 
--- the map of a DS28EC20; of a write's address, "A cut before that changes nothing."
+-- the map of a DS28EC20; document 02, M-102: "a Write Scratchpad cut before its 16th address bit .. sets PF. From now on it does"
 unfoldable pub ds28ec20 : Map
 ds28ec20 =
     record {
@@ -63,5 +63,5 @@ ds28ec20 =
       falls = onlyFalls;
       closed = closedToCopying;
       end = padEnd;
-      cutSetsPF = false;
+      cutSetsPF = true;
     }

@@ -5,8 +5,8 @@ ghost use Rattle.ds28ec20.specs.Map.{isData, controlAddress, lockAddress
 // The last address that Read Memory reads.
 pub const LAST_ADDRESS: u16 = 0x0A3F;
 
-// A reset inside the address of a write leaves PF.
-pub const CUT_SETS_PF: bool = false;
+// A reset inside the address of a write sets PF.
+pub const CUT_SETS_PF: bool = true;
 
 // A data address.
 pub fn is_data(a: usize) -> bool

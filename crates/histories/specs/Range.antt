@@ -96,7 +96,8 @@ clear-e : (es offset : ℕ) → Clear es → Clear (withE es offset)
 unfolding withE
 clear-e es offset h = omega arith
 
-pf-block : (q k : ℕ) → k < 32 → (q * 64 + 32 + k) / 64 ≡ q
+-- with PF = 1, what E/S holds from bit 6 on stays
+pub pf-block : (q k : ℕ) → k < 32 → (q * 64 + 32 + k) / 64 ≡ q
 pf-block q k h = omega arith
 
 pub clear-pf : (es : ℕ) → Clear es → Clear (withPF es)

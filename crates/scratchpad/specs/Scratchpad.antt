@@ -42,7 +42,7 @@ crcOfAddress command t = crcByte poly16 (crcByte poly16 (crcByte poly16 0 comman
 unfoldable pub addressIn : ℕ → MemoryAfter
 addressIn t = memoryAfter (registers t (t % 32)) (WriteData (t % 32) 0 0 (crcOfAddress 0x0F t)) Nothing
 
--- 0Fh, a bit of the address: "A cut before that changes nothing."
+-- 0Fh, a bit of the address
 unfoldable pub writeAddress : Registers → ℕ → ℕ → Bool → MemoryAfter
 writeAddress r count bits v =
     pick (ltb count 15) (memoryAfter r (WriteAddress (count + 1) (filled 0x8000 bits v)) Nothing)
@@ -163,8 +163,9 @@ memorySends r see (ReadMemory address count) = bitOf (see .memory) count
 unfoldable pub cutOf : Registers → Bool → Registers
 cutOf r counts = pick counts (pfSet r) r
 
--- what a reset does to the registers at each phase; the map says whether one inside the address of a write counts as a cut.
--- "A reset inside a data byte sets PF; its bits are lost, E stays (here)."
+-- what a reset does to the registers at each phase. Document 02, M-102, of "a Write Scratchpad cut before its 16th address bit":
+-- it sets PF "at the reset; T, E and AA stay. A cut before the first address bit counts too."; cut is what the part's map says of
+-- it. "A reset inside a data byte sets PF; its bits are lost, E stays (here)."
 abbrev pub memoryReset : Registers → Bool → MemoryPhase → Registers
 memoryReset r cut Ones = r
 memoryReset r cut (WriteAddress count bits) = cutOf r cut

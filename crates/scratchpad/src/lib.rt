@@ -248,7 +248,7 @@ pub fn sends(r: Registers, see: Sight, p: MemoryPhase) -> bool
     }
 }
 
-// What a reset does to the registers; cut tells whether a cut address sets PF.
+// What a reset does to the registers; cut tells whether one inside the address of a write sets PF.
 pub fn reset(r: Registers, cut: bool, p: MemoryPhase) -> Registers
     ensures { λ s. ⌜ s ≡ memoryReset r cut p ⌝ }
 {

@@ -29,6 +29,11 @@ pub const CASES: &[(&str, Case)] = &[
     ("bench case 7", case_7),
     ("bench case 8", case_8),
     ("bench case 9", case_9),
+    ("a short address sets PF", short_address),
+    ("a short address acts at the reset", short_at_reset),
+    ("a short address after a copy", short_after_copy),
+    ("a power on at a short address", short_power_on),
+    ("other cuts set no PF", other_cuts),
     ("figure 4: the trace of 01h", figure_trace),
     ("figure 4: every byte from every register", figure_bytes),
     ("the DS2413 sheet's write example", sheet_example),
@@ -61,6 +66,13 @@ impl Desk<'_> {
         answer.expect("a line in range")
     }
 
+    /// Writes the lowest bits of a number.
+    fn lowest(&mut self, number: u64, count: usize) {
+        for place in 0..count {
+            self.event(number >> place & 1);
+        }
+    }
+
     fn bits(&mut self, byte: u8) -> u8 {
         let bit = |place: u8| self.event(u64::from(byte >> place & 1)) << place;
         (0..8).map(bit).sum()
@@ -78,12 +90,20 @@ impl Desk<'_> {
         }
     }
 
+    /// TA1, TA2 and E/S of the only memory chip, by Read Scratchpad.
+    fn registers(&mut self) -> [u8; 3] {
+        self.skip(&[0xAA]);
+        [self.read(), self.read(), self.read()]
+    }
+
     /// E/S of the only memory chip, by Read Scratchpad.
     fn es(&mut self) -> u8 {
-        self.skip(&[0xAA]);
-        self.read();
-        self.read();
-        self.read()
+        self.registers()[2]
+    }
+
+    /// T and E/S in the record of the first chip.
+    fn held(&self) -> (u16, u8) {
+        (self.line.table[0].t, self.line.table[0].es)
     }
 }
 
@@ -193,9 +213,15 @@ fn case_4(book: &mut Book) -> bool {
     desk.read() == 0xFF && desk.es() == 0x20 && desk.line.images == [0xFF; IMAGE]
 }
 
-fn case_5(book: &mut Book) -> bool {
+/// A line of one memory chip after case 5's write.
+fn after_write(book: &mut Book) -> Desk<'_> {
     let mut desk = Desk::with(&[DS28EC20], book);
     desk.skip(&[0x0F, 0x06, 0x00, 0x12, 0x34]);
+    desk
+}
+
+fn case_5(book: &mut Book) -> bool {
+    let mut desk = after_write(book);
     let written = desk.es() == 0x07;
     desk.skip(&[0x55, 0x06, 0x00, 0x06]);
     let wrong = desk.read() == 0xFF && desk.es() == 0x07 && desk.line.images[6] == 0xFF;
@@ -255,6 +281,66 @@ fn case_9(book: &mut Book) -> bool {
     desk.line = held;
     desk.skip(&[0x55, 0x20, 0x01, 0x00]);
     es && open && desk.read() == 0xAA && desk.line.images[0x0120] == 0xFF
+}
+
+/// M-102: after case 5's write, 0Fh and 8 bits that are no byte of its address.
+fn short_address(book: &mut Book) -> bool {
+    let mut desk = after_write(book);
+    desk.skip(&[0x0F, 0x20]);
+    let set = desk.registers() == [0x06, 0x00, 0x27];
+    desk.skip(&[0x55, 0x06, 0x00, 0x27]);
+    let ones = desk.read() == 0xFF && desk.registers() == [0x06, 0x00, 0x27];
+    set && ones && desk.line.pads[6..8] == [0x12, 0x34] && desk.line.images == [0xFF; IMAGE]
+}
+
+/// M-102: the record has PF straight after the reset and not before it, at any number of bits.
+fn short_at_reset(book: &mut Book) -> bool {
+    (0..16).all(|count| {
+        let mut desk = after_write(book);
+        desk.skip(&[0x0F]);
+        desk.lowest(0xFFF9, count);
+        let before = desk.held() == (0x0006, 0x07);
+        desk.event(2);
+        before && desk.held() == (0x0006, 0x27)
+    })
+}
+
+/// M-102: E/S 87h becomes A7h, and stays so.
+fn short_after_copy(book: &mut Book) -> bool {
+    let mut desk = after_write(book);
+    desk.skip(&[0x55, 0x06, 0x00, 0x07]);
+    let copied = desk.es() == 0x87;
+    let set = (0..2).all(|_| {
+        desk.skip(&[0x0F, 0x20]);
+        desk.registers() == [0x06, 0x00, 0xA7]
+    });
+    desk.skip(&[0x55, 0x06, 0x00, 0xA7]);
+    copied && set && desk.read() == 0xFF && desk.es() == 0xA7
+}
+
+/// M-102: a power on is no reset.
+fn short_power_on(book: &mut Book) -> bool {
+    let mut desk = after_write(book);
+    desk.skip(&[0x0F, 0x20]);
+    desk.event(3);
+    desk.held() == (0x0000, 0x20) && desk.registers() == [0x00, 0x00, 0x20]
+}
+
+/// M-102: a reset in the address of 55h or F0h, inside 0Fh, or after its 16th address bit.
+fn other_cuts(book: &mut Book) -> bool {
+    let mut desk = after_write(book);
+    let mut stays = |bytes: &[u8], number: u64, count: usize| {
+        desk.skip(bytes);
+        desk.lowest(number, count);
+        desk.event(2);
+        desk.held() == (0x0006, 0x07)
+    };
+    let addresses =
+        (0..16).all(|count| stays(&[0x55], 0xFFF9, count) && stays(&[0xF0], 0xFFF9, count));
+    let command = (0..8).all(|count| stays(&[], 0x0F, count));
+    desk.skip(&[0x0F, 0x20, 0x01]);
+    desk.event(2);
+    addresses && command && desk.held() == (0x0120, 0x00)
 }
 
 /// Both pins to 0, then A to 1 in the next pair.
@@ -400,6 +486,11 @@ mod tests {
         case_7 "bench case 7",
         case_8 "bench case 8",
         case_9 "bench case 9",
+        short_address "a short address sets PF",
+        short_at_reset "a short address acts at the reset",
+        short_after_copy "a short address after a copy",
+        short_power_on "a power on at a short address",
+        other_cuts "other cuts set no PF",
         figure_trace "figure 4: the trace of 01h",
         figure_bytes "figure 4: every byte from every register",
         sheet_example "the DS2413 sheet's write example",

@@ -272,6 +272,14 @@ impl<'a> Bench<'a> {
         self.write(data);
     }
 
+    /// Write Scratchpad with so many address bits, each other than T's.
+    pub fn short_address(&mut self, chip: usize, bits: usize) {
+        self.reach(chip);
+        self.write(&[0x0F]);
+        let other = !self.chip(chip).t;
+        self.write_bits(&other.to_le_bytes(), bits);
+    }
+
     /// Read Scratchpad, so many bytes.
     pub fn read_pad(&mut self, chip: usize, bytes: usize) {
         self.reach(chip);

@@ -29,6 +29,7 @@ pub const STORIES: &[Story] = &[
     story("write scratchpad", Style::OneMemory, write_pad),
     story("write to the end", Style::Mixed, write_to_end),
     story("write cut", Style::Mixed, write_cut),
+    story("short address", Style::OneMemory, short_address),
     story("copy", Style::Mixed, copy),
     story("copy with wrong bytes", Style::Mixed, copy_wrong),
     story("copy cut", Style::OneMemory, copy_cut),
@@ -287,20 +288,12 @@ fn write_to_end(b: &mut Bench<'_>) {
     }
 }
 
-/// Write Scratchpad cut in its address, inside bytes and between them.
+/// Write Scratchpad cut inside bytes and between them.
 fn write_cut(b: &mut Bench<'_>) {
     let Some(chip) = b.some(DS28EC20) else {
         return noise(b);
     };
-    let address = b.address();
     let data = b.bytes(3);
-    b.write_pad(chip, 0x0064, &data);
-    b.reach(chip);
-    b.write(&[0x0F]);
-    let bits = b.rng.between(1, 15);
-    b.write_bits(&[address as u8, (address >> 8) as u8], bits);
-    b.read_pad(chip, 12);
-    b.copy_right(chip);
     for whole in [0, 0, 2, 2] {
         let bits = b.rng.between(1, 7);
         b.write_pad(chip, 0x0064, &data[..whole]);
@@ -315,6 +308,39 @@ fn write_cut(b: &mut Bench<'_>) {
         b.copy_right(chip);
         b.read_page(chip, 0x0064);
     }
+}
+
+/// Write Scratchpad cut before its 16th address bit: PF from 0 and from 1, without AA and with it;
+/// inside its command byte; and by a power on.
+fn short_address(b: &mut Bench<'_>) {
+    let Some(chip) = b.some(DS28EC20) else {
+        return noise(b);
+    };
+    let address = 256 * b.free_block(chip) + 6;
+    for bits in [0, b.rng.between(1, 7), 8, b.rng.between(9, 15)] {
+        let data = b.bytes(2);
+        b.write_pad(chip, address, &data);
+        b.short_address(chip, bits);
+        b.read_pad(chip, 6);
+        b.copy_right(chip);
+        b.read_memory(chip, address, 2);
+        b.commit(chip, address, &data);
+        for _ in 0..2 {
+            b.short_address(chip, bits);
+            b.read_pad(chip, 3);
+        }
+        b.copy_right(chip);
+    }
+    b.write_pad(chip, address, &[0x12, 0x34]);
+    b.reach(chip);
+    let bits = b.rng.between(1, 7);
+    b.write_bits(&[0x0F], bits);
+    b.read_pad(chip, 3);
+    b.copy_right(chip);
+    let bits = b.rng.below(16);
+    b.short_address(chip, bits);
+    b.power_on();
+    b.read_pad(chip, 6);
 }
 
 /// Copy carried out, stale, and carried out again.
@@ -373,7 +399,7 @@ fn copy_cut(b: &mut Bench<'_>) {
     let address = b.in_block(block);
     let data = b.bytes(2);
     b.write_pad(chip, address, &data);
-    for bits in [b.rng.between(1, 23), 23] {
+    for bits in [b.rng.below(16), b.rng.between(16, 22), 23] {
         let right = b.right(chip);
         b.reach(chip);
         b.write(&[0x55]);
@@ -929,7 +955,7 @@ fn memory_exchange(b: &mut Bench<'_>, chip: usize) {
         1 => b.protected(chip),
         _ => b.address(),
     };
-    match b.rng.below(20) {
+    match b.rng.below(21) {
         0..=3 => {
             let data = b.data_for(address);
             b.write_pad(chip, address, &data);
@@ -959,6 +985,11 @@ fn memory_exchange(b: &mut Bench<'_>, chip: usize) {
             b.read_memory(chip, address, bytes);
         }
         18 => b.read_page(chip, near),
+        19 => {
+            let bits = b.rng.below(16);
+            b.short_address(chip, bits);
+            b.read_pad(chip, 3);
+        }
         _ => {
             let command = b.rng.byte();
             b.reach(chip);

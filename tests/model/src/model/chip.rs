@@ -25,7 +25,7 @@ pub fn part_of(kind: u32) -> Option<u32> {
     }
 }
 
-/// E/S: the flag of a cut byte.
+/// E/S: the flag of a cut byte or a short address.
 pub const PF: u8 = 0x20;
 /// E/S: the flag of a copy carried out.
 pub const AA: u8 = 0x80;
@@ -96,6 +96,8 @@ struct Trace {
     read: bool,
     /// No data byte since the last Write Scratchpad's address.
     address_only: bool,
+    /// A short address has set PF, and no whole one has come since.
+    short: bool,
     /// The rule of a byte changed a data byte of this write.
     changed: bool,
     /// What led to ones.
@@ -258,9 +260,16 @@ impl Chip {
             && count
     }
 
+    /// Whether the chip is before the 16th address bit of Write Scratchpad. That a reset there sets
+    /// PF is a rule of the DS28EC20.
+    fn is_short(&self) -> bool {
+        self.is(DS28EC20) && self.step == Step::WriteAddress
+    }
+
     /// Power on: waits for a reset, RC 0, registers and scratchpad or latches anew.
     pub fn power_on(&mut self, pad: &mut [u8], book: &mut Book) {
         self.note_power_on(pad, book);
+        let short = self.is_short();
         self.step = if book.slips(Slip::PowerTakes) {
             Step::RomCommand
         } else {
@@ -269,11 +278,14 @@ impl Chip {
         self.bits.clear();
         self.below.clear();
         self.trace.powered = true;
+        self.trace.short = false;
         if !book.slips(Slip::PowerKeepsRc) {
             self.rc = false;
         }
         if self.is(DS28EC20) {
-            if !book.slips(Slip::PowerKeepsT) {
+            if short && book.slips(Slip::ShortPower) {
+                self.es |= PF;
+            } else if !book.slips(Slip::PowerKeepsT) {
                 self.t = 0;
                 self.es = PF;
             }
@@ -290,9 +302,15 @@ impl Chip {
         }
     }
 
-    /// Reset: takes a ROM command next; inside a data byte PF is set.
+    /// Reset: takes a ROM command next; inside a data byte and at a short address PF is set.
     pub fn reset(&mut self, book: &mut Book) {
         self.note_reset(book);
+        if self.is_short() {
+            self.cut_address(book);
+        }
+        if self.is_taken_for_short(book) {
+            self.es |= PF;
+        }
         if let Step::WriteData(offset) = self.step {
             let inside = !self.bits.is_empty();
             if inside && !book.slips(Slip::NoPf) || !inside && book.slips(Slip::PfBetween) {
@@ -301,9 +319,6 @@ impl Chip {
             if inside && book.slips(Slip::PfByteKept) {
                 self.set_e(offset);
             }
-        }
-        if self.step == Step::WriteAddress && book.slips(Slip::PfAddress) {
-            self.es |= PF;
         }
         if book.slips(Slip::RcReset) {
             self.rc = false;
@@ -316,6 +331,58 @@ impl Chip {
         self.below.clear();
         self.trace.powered = false;
         self.trace.searched = false;
+    }
+
+    /// A reset at a short address: PF is set, the address bits are lost, T, E and AA stay.
+    fn cut_address(&mut self, book: &Book) {
+        self.trace.short |= self.es & PF == 0;
+        let unheard = match self.bits.len() {
+            0 => Slip::ShortNone,
+            1..=7 => Slip::ShortInTa1,
+            8 => Slip::ShortAfterTa1,
+            _ => Slip::ShortInTa2,
+        };
+        let leaves_pf = [Slip::ShortIgnored, Slip::ShortLate, unheard];
+        if book.slips(Slip::ShortTurnsPf) {
+            self.es ^= PF;
+        } else if !leaves_pf.iter().any(|slip| book.slips(*slip)) {
+            self.es |= PF;
+        }
+        if book.slips(Slip::ShortTaken) {
+            self.t = self.half_taken();
+        }
+        if book.slips(Slip::ShortSetsE) {
+            self.set_e(usize::from(self.t) % PAD);
+        }
+        if book.slips(Slip::ShortClearsAa) {
+            self.es &= !AA;
+        }
+    }
+
+    /// T with the address bits that came in place of its lowest.
+    fn half_taken(&self) -> u16 {
+        let put = |t: u16, (place, bit): (usize, &u8)| t & !(1 << place) | u16::from(*bit) << place;
+        self.bits.iter().enumerate().fold(self.t, put)
+    }
+
+    /// Whether the bits taken are the first ones of this byte, and one at least.
+    fn has_begun(&self, byte: u8) -> bool {
+        let mut pairs = self.bits.iter().zip(bits_of(&[byte]));
+        !self.bits.is_empty() && pairs.all(|(bit, own)| *bit == own)
+    }
+
+    /// Whether a slip takes a reset here for one at a short address.
+    fn is_taken_for_short(&self, book: &Book) -> bool {
+        match self.step {
+            Step::FunctionCommand => self.has_begun(0x0F) && book.slips(Slip::ShortCommand),
+            Step::WriteData(offset) => {
+                let first = offset == usize::from(self.t) % PAD && self.bits.is_empty();
+                first && book.slips(Slip::ShortWhole)
+            }
+            Step::CopyBytes => self.bits.len() < 16 && book.slips(Slip::ShortCopy),
+            Step::ReadAddress => book.slips(Slip::ShortRead),
+            _ => false,
+        }
     }
 
     /// New outside levels of a DS2413.
@@ -611,6 +678,10 @@ impl Chip {
 
     /// A whole function command of a DS28EC20.
     fn memory_command(&mut self, command: u8, book: &mut Book) {
+        let late = self.trace.short && book.slips(Slip::ShortLate);
+        if late || command == 0x0F && book.slips(Slip::ShortEarly) {
+            self.es |= PF;
+        }
         match command {
             0x0F => {
                 self.summed = vec![0x0F];
@@ -673,6 +744,7 @@ impl Chip {
         self.summed.extend([ta1, ta2]);
         self.step = Step::WriteData(offset);
         self.trace.address_only = true;
+        self.trace.short = false;
         self.trace.changed = false;
         self.trace.read = false;
     }
@@ -820,6 +892,8 @@ impl Chip {
             Rule::CopyStale
         } else if bytes[2] != self.es {
             Rule::CopyWrongEs
+        } else if self.trace.short {
+            Rule::CopyShort
         } else if self.es == PF && self.t == 0 {
             Rule::CopyAfterPowerOn
         } else if self.es & PF != 0 {
@@ -945,6 +1019,8 @@ impl Chip {
             );
             let inside = matches!(self.step, Step::WriteData(_)) && !self.bits.is_empty();
             book.saw_if(inside, Rule::PowerOnCutsByte);
+            let kept = self.t != 0 || self.es & !PF != 0;
+            book.saw_if(self.is_short() && kept, Rule::PowerOnShort);
         } else {
             book.saw_if(self.latches != 3, Rule::PowerOnLatches);
             book.saw_if(self.levels != 3, Rule::PowerOnLevels);
@@ -954,6 +1030,7 @@ impl Chip {
     /// Counts what a reset meets.
     fn note_reset(&self, book: &mut Book) {
         let begun = !self.bits.is_empty();
+        let no_pf = self.es & PF == 0;
         book.saw_if(self.rc, Rule::ResetKeepsRc);
         if self.is(DS28EC20) {
             book.saw_if(self.t != 0, Rule::ResetKeepsRegisters);
@@ -964,20 +1041,45 @@ impl Chip {
             Step::Wait => book.saw(Rule::LinePresenceWaits),
             Step::RomCommand => book.saw_if(begun && self.rc, Rule::RomCommandCut),
             Step::MatchCode => book.saw_if(self.trace.lost_rc, Rule::RomMatchCut),
-            Step::FunctionCommand => book.saw_if(begun, Rule::FunctionCut),
-            Step::WriteAddress => book.saw_if(begun, Rule::WriteAddressCut),
+            Step::FunctionCommand => {
+                book.saw_if(begun, Rule::FunctionCut);
+                let write = self.is(DS28EC20) && self.has_begun(0x0F);
+                book.saw_if(write && no_pf, Rule::WriteCommandCut);
+            }
+            _ if self.is_short() => self.note_short(book),
             Step::WriteData(_) => book.saw(match (begun, self.trace.address_only) {
                 (true, false) => Rule::WriteCutPf,
                 (true, true) => Rule::WriteCutFirst,
                 (false, false) => Rule::WriteCutBetween,
                 (false, true) => Rule::WriteCutNone,
             }),
-            Step::CopyBytes => book.saw_if(begun, Rule::CopyCut),
-            Step::ReadAddress => book.saw_if(begun, Rule::ReadMemoryCut),
+            Step::CopyBytes => {
+                book.saw_if(begun, Rule::CopyCut);
+                let address = self.bits.len() < 16;
+                book.saw_if(address && no_pf, Rule::CopyAddressCut);
+            }
+            Step::ReadAddress => book.saw_if(no_pf, Rule::ReadMemoryCut),
             Step::PioPair => book.saw_if(begun, Rule::PioWriteCut),
             Step::PioConfirm => book.saw(Rule::PioConfirmCut),
             _ => {}
         }
+    }
+
+    /// Counts what a reset at a short address meets; with PF 1 only that it stays.
+    fn note_short(&self, book: &mut Book) {
+        if self.es & PF != 0 {
+            return book.saw(Rule::WriteShortPf);
+        }
+        book.saw(match self.bits.len() {
+            0 => Rule::WriteShortNone,
+            1..=7 => Rule::WriteShortInTa1,
+            8 => Rule::WriteShortAfterTa1,
+            _ => Rule::WriteShortInTa2,
+        });
+        let e = usize::from(self.es & 0x1F);
+        book.saw_if(self.half_taken() != self.t, Rule::WriteShortT);
+        book.saw_if(e != usize::from(self.t) % PAD, Rule::WriteShortE);
+        book.saw_if(self.es & AA != 0, Rule::WriteShortAa);
     }
 
     /// Counts what the three bytes of a copy meet.

@@ -1,0 +1,3 @@
+pub mod ShortAddress
+pub mod NotCopied
+pub mod Public

@@ -1,0 +1,54 @@
+-- "A short address also sets PF.": of the public event, over a table and its buffers.
+use Prim.Native.Nat.{ℕ, _<_}
+use mathlib.Core.Bool.{Bool}
+use mathlib.Core.List.{List, [], _∷_}
+use mathlib.Core.Path.{_≡_, _∙_, ap}
+use lib.ListN.{length}
+use Rattle.scratchpad.specs.declared.MemoryPhase.the-variants.{WriteAddress}
+use Rattle.chip.specs.Chip.{Whole}
+use Rattle.chip.specs.declared.Level.the-variants.{Memory}
+use Rattle.line.specs.Events.{resetEvent}
+use Rattle.line.specs.declared.Event.{Event}
+use Rattle.search.specs.Search.{Attached}
+use Rattle.histories.specs.Histories.{at, run}
+use Rattle.histories.specs.Standing.{Stands, lineFrom, line-length}
+use Rattle.histories.specs.Joined.{runOn, run-joined, stands-on}
+use Rattle.recovery.specs.Sessions.{bitsFrom}
+use Rattle.recovery.specs.CarriedOut.{NoCopy}
+use Rattle.recovery.specs.Public.{chipOf, TableInstalled, line-installed}
+use Rattle.commands.specs.ShortAddress.{cutShort, cutWhole, matched, cutWrite, short-address, short-write, whole-address}
+use Rattle.commands.specs.NotCopied.{NoAddress, short-not-copied}
+
+-- THEOREM: a reset at whatever count of address bits, on any table that neither 8 nor 5 refuses
+pub short-address-on : (i : ℕ) (l : Attached) → Stands l → i < l .count → chipOf i l .chip .kind ≡ 1
+    → (count bits : ℕ) → chipOf i l .chip .level ≡ Memory (WriteAddress count bits)
+    → chipOf i (runOn (resetEvent ∷ []) l) ≡ cutShort (chipOf i l)
+short-address-on i l s h k count bits e =
+    ap (at i) (run-joined (resetEvent ∷ []) l s) ∙ short-address i (lineFrom l) (rw (line-length l s) h) k count bits e
+
+-- THEOREM: a reset, a match, 0Fh, fewer than 16 bits of an address and a reset
+pub short-write-on : (i : ℕ) (l : Attached) → TableInstalled i l → (bits : List Bool) → length bits < 16
+    → chipOf i (runOn (cutWrite (chipOf i l .chip .code) bits) l) ≡ cutShort (matched (chipOf i l))
+short-write-on i l s bits h =
+    ap (at i) (run-joined (cutWrite (chipOf i l .chip .code) bits) l (s .stands)) ∙ short-write i (lineFrom l) (line-installed i l s) bits h
+
+-- THEOREM: the same with all 16 bits
+pub whole-address-on : (i : ℕ) (l : Attached) → TableInstalled i l → (t : ℕ) → t < 0x10000
+    → chipOf i (runOn (cutWrite (chipOf i l .chip .code) (bitsFrom 16 0 t)) l) ≡ cutWhole t (matched (chipOf i l))
+whole-address-on i l s t h =
+    ap (at i) (run-joined (cutWrite (chipOf i l .chip .code) (bitsFrom 16 0 t)) l (s .stands)) ∙ whole-address i (lineFrom l) (line-installed i l s) t h
+
+-- THEOREM: after a short address no copy is carried out until an address is whole, and the memory is as it was
+pub short-not-copied-on : (i : ℕ) (l : Attached) → TableInstalled i l → (bits : List Bool) → length bits < 16
+    → (rest : List Event) → NoAddress i rest (lineFrom (runOn (cutWrite (chipOf i l .chip .code) bits) l))
+    → NoCopy i rest (lineFrom (runOn (cutWrite (chipOf i l .chip .code) bits) l))
+    × (chipOf i (runOn rest (runOn (cutWrite (chipOf i l .chip .code) bits) l)) .memory ≡ chipOf i l .memory)
+short-not-copied-on i l s bits h rest n =
+    let cut = cutWrite (chipOf i l .chip .code) bits in
+    let j = run-joined cut l (s .stands) in
+    let r = short-not-copied i (lineFrom l) (line-installed i l s) bits h rest (rw j at n) in (
+      rw j (r .0),
+      ap (λ (L : List Whole). at i L .memory) (run-joined rest (runOn cut l) (stands-on cut l (s .stands)))
+          ∙ ap (λ (L : List Whole). at i (run rest L) .memory) j
+          ∙ r .1,
+    )
