@@ -124,6 +124,7 @@ impl Tester {
             tester.damaged(rng, &all[number % all.len()])
         });
         self.repeat(3, 4 * each * SIZES.len(), Tester::wrong_size);
+        self.repeat(7, 16 * each, Tester::short_address);
         self.repeat(4, lines / 4, Tester::card);
         self.repeat(5, lines / 12, Tester::search);
         self.repeat(6, lines, Tester::line);

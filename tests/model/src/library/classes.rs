@@ -2,7 +2,7 @@
 
 use std::collections::BTreeMap;
 
-use crate::model::chip::{part_of, DS28EC20, LAST_KIND};
+use crate::model::chip::{part_of, AA, DS28EC20, LAST_KIND, PF};
 use crate::model::lent::Lent;
 use crate::model::memory::{LAST, PAD};
 use crate::model::record::{filling, shape, word, A, B, ES, KIND, RECORD, STEP, STEPS, T, W};
@@ -16,7 +16,7 @@ const TAKING: [u8; 10] = [1, 3, 4, 5, 17, 18, 22, 23, 25, 34];
 /// Events on a line in range.
 const EVENTS: [&str; 4] = ["slot 0", "slot 1", "reset", "power on"];
 /// The classes that are neither of a step nor of a damage.
-const OTHERS: [&str; 34] = [
+const OTHERS: [&str; 36] = [
     "line: no chips",
     "line: 16 chips",
     "line: 16 memories",
@@ -24,6 +24,8 @@ const OTHERS: [&str; 34] = [
     "copy: carried out",
     "copy: carried out with E below T mod 32",
     "copy: refused with the right bytes",
+    "short address: reset with AA 1",
+    "short address: reset with PF 1",
     "data byte: for an address above 0A3Fh",
     "data byte: an offset below T mod 32",
     "read scratchpad: an offset below T mod 32",
@@ -69,6 +71,11 @@ pub fn kinds_of(step: u8) -> Vec<u32> {
     (1..=LAST_KIND).filter(own).collect()
 }
 
+/// The class of a reset at a short address of so many bits, with PF 0.
+fn after_bits(bits: u8) -> String {
+    format!("short address: reset after {bits} bits")
+}
+
 /// Every class that a run must reach, but for damages.
 pub fn classes() -> Vec<String> {
     let mut all: Vec<String> = OTHERS
@@ -81,6 +88,7 @@ pub fn classes() -> Vec<String> {
             all.extend(EVENTS.map(|event| format!("step {step:>2}, kind {kind}: {event}")));
         }
     }
+    all.extend((0..16).map(after_bits));
     for step in TAKING {
         all.push(format!("step {step:>2}: takes a 0 that another chip sends"));
         if !matches!(step, 3 | 4) {
@@ -149,10 +157,23 @@ impl Classes {
                     ));
                 }
             }
-            if event < 2 {
-                self.note_slot(record, then, answer as u8);
+            match event {
+                0 | 1 => self.note_slot(record, then, answer as u8),
+                2 if step == 17 && part_of(kind.into()) == Some(DS28EC20) => {
+                    self.note_short(record)
+                }
+                _ => {}
             }
         }
+    }
+
+    /// Counts what a reset at a short address meets.
+    fn note_short(&mut self, record: &[u8]) {
+        if record[ES] & PF != 0 {
+            return self.saw("short address: reset with PF 1");
+        }
+        self.saw(&after_bits(record[A]));
+        self.saw_if(record[ES] & AA != 0, "short address: reset with AA 1");
     }
 
     /// Counts what a slot of this value meets at one chip.

@@ -1,6 +1,6 @@
 //! Tables that are no tables: one fault each, in a line that is else in range.
 
-use super::lines::{line_of, record_at};
+use super::lines::{line_of, with_step};
 use crate::gen::rng::Rng;
 use crate::model::chip::{DS2413, DS28EC20, LAST_KIND};
 use crate::model::lent::Lent;
@@ -38,16 +38,6 @@ fn of_length(name: &str, make: impl Fn(&mut Rng, &mut Lent) + 'static) -> Damage
 fn from(rng: &mut Rng, first: u8) -> u8 {
     let last = rng.pick(&[first, 0xFF]);
     rng.between(first.into(), last.into()) as u8
-}
-
-/// A few chips of one kind, one of them at this step; the place of its record.
-fn with_step(rng: &mut Rng, lent: &mut Lent, kind: u32, step: u8) -> usize {
-    let count = rng.between(1, 4);
-    *lent = line_of(rng, &vec![kind; count]);
-    let at = rng.below(count) * RECORD;
-    let code = rng.bits();
-    lent.table[at..at + RECORD].copy_from_slice(&record_at(rng, kind, step, code));
-    at
 }
 
 /// Faults of the whole table.

@@ -89,7 +89,7 @@ fn likely(rng: &mut Rng, record: &[u8]) -> u64 {
 }
 
 /// A record in range at this step.
-pub fn record_at(rng: &mut Rng, kind: u32, step: u8, code: u64) -> [u8; RECORD] {
+fn record_at(rng: &mut Rng, kind: u32, step: u8, code: u64) -> [u8; RECORD] {
     let shape = shape(step).expect("a step");
     let mut record = [0; RECORD];
     record[..8].copy_from_slice(&code.to_le_bytes());
@@ -162,6 +162,16 @@ pub fn line_of(rng: &mut Rng, kinds: &[u32]) -> Lent {
         }
     }
     lent
+}
+
+/// A few chips of one kind, one of them at this step; the place of its record.
+pub fn with_step(rng: &mut Rng, lent: &mut Lent, kind: u32, step: u8) -> usize {
+    let count = rng.between(1, 4);
+    *lent = line_of(rng, &vec![kind; count]);
+    let at = rng.below(count) * RECORD;
+    let code = rng.bits();
+    lent.table[at..at + RECORD].copy_from_slice(&record_at(rng, kind, step, code));
+    at
 }
 
 /// Any line in range.

@@ -3,14 +3,14 @@
 use super::calls::Call;
 use super::classes::SIZES;
 use super::damages::Damage;
-use super::lines::{any_event, any_line, line_of};
+use super::lines::{any_event, any_line, line_of, with_step};
 use super::{Script, Tester};
 use crate::gen::cards::{card_of, damaged_card, good_card, Style, DAMAGES};
 use crate::gen::rng::Rng;
-use crate::model::chip::{part_of, DS2413, DS28EC20};
+use crate::model::chip::{part_of, DS2413, DS28EC20, PF};
 use crate::model::lent::Lent;
 use crate::model::memory::{IMAGE, PAD};
-use crate::model::record::{KIND, RECORD};
+use crate::model::record::{A, ES, KIND, RECORD};
 
 /// Events put on one lent line.
 const EVENTS_PER_LINE: usize = 40;
@@ -124,6 +124,20 @@ impl Tester {
         self.classes
             .saw_if(refused[1] && refused[2], "order: 5 before 6 or 7");
         self.classes.saw_if(searched, "search: refused by 5");
+        script
+    }
+
+    /// A reset while a memory has so many address bits of Write Scratchpad, every other time with PF 0.
+    pub(super) fn short_address(&mut self, rng: &mut Rng, number: usize) -> Script {
+        let mut script = Script::default();
+        let mut lent = Lent::default();
+        let at = with_step(rng, &mut lent, DS28EC20, 17);
+        lent.table[at + A] = (number % 16) as u8;
+        if number / 16 % 2 == 0 {
+            lent.table[at + ES] &= !PF;
+        }
+        script.lend(lent, &mut self.book);
+        self.event(&mut script, (2, 0, 0));
         script
     }
 
