@@ -1,15 +1,26 @@
-/* Bench cases 2 to 9 of document 01 through the library. */
+/* Bench cases 2 to 9 of document 01 through the library, and the case of M-102. */
 #include "check.h"
 
 static struct host host;
 
-/* E/S of the only memory, by Read Scratchpad. */
-static uint8_t read_es(void)
+/* TA1, TA2 and E/S of the only memory by Read Scratchpad, as one number: 060027h for 06 00 27. */
+static uint32_t read_registers(void)
 {
     SKIP(&host, READ_SCRATCHPAD);
-    host_read(&host);
-    host_read(&host);
-    return host_read(&host);
+    uint32_t ta1 = host_read(&host), ta2 = host_read(&host);
+    return ta1 << 16 | ta2 << 8 | host_read(&host);
+}
+
+/* E/S of the only memory. */
+static uint8_t read_es(void) { return read_registers() & 0xFF; }
+
+/* Whether every byte of the memory is FFh. */
+static bool is_erased(void)
+{
+    bool erased = true;
+    for (size_t i = 0; i < host.images_size; i++)
+        erased = erased && host.images[i] == 0xFF;
+    return erased;
 }
 
 static void test_search_cases(void)
@@ -36,10 +47,7 @@ static void test_case_4(void)
     set_up(&host, "1");
     SKIP(&host, COPY_SCRATCHPAD, 0x00, 0x00, 0x20);
     check("case 4: ones", host_read(&host) == 0xFF);
-    bool erased = true;
-    for (size_t i = 0; i < host.images_size; i++)
-        erased = erased && host.images[i] == 0xFF;
-    check("case 4: nothing copied", erased && read_es() == 0x20);
+    check("case 4: nothing copied", is_erased() && read_es() == 0x20);
 }
 
 static void test_case_5(void)
@@ -54,6 +62,22 @@ static void test_case_5(void)
     check("case 5: copy 06 00 07, 0 1 0 1", host_read(&host) == 0xAA && read_es() == 0x87);
     check("case 5: both written",
           host.images[5] == 0xFF && host.images[6] == 0x12 && host.images[7] == 0x34 && host.images[8] == 0xFF);
+}
+
+/* Case 5's write, then 0Fh and 8 bits that are no byte of its address. */
+static void test_short_address(void)
+{
+    set_up(&host, "1");
+    SKIP(&host, WRITE_SCRATCHPAD, 0x06, 0x00, 0x12, 0x34);
+    SKIP(&host, WRITE_SCRATCHPAD, 0x20);
+    check("a short address: 06 00 27", read_registers() == 0x060027);
+    SKIP(&host, COPY_SCRATCHPAD, 0x06, 0x00, 0x27);
+    check("a short address: copy 06 00 27, ones", host_read(&host) == 0xFF && read_registers() == 0x060027);
+    check("a short address: nothing written", is_erased());
+    SKIP(&host, WRITE_SCRATCHPAD, 0x06, 0x00, 0x12, 0x34);
+    SKIP(&host, COPY_SCRATCHPAD, 0x06, 0x00, 0x07);
+    SKIP(&host, WRITE_SCRATCHPAD, 0x20);
+    check("a short address after a copy: 06 00 A7", read_registers() == 0x0600A7);
 }
 
 static void test_case_6(void)
@@ -121,6 +145,7 @@ void test_cases(void)
     test_search_cases();
     test_case_4();
     test_case_5();
+    test_short_address();
     test_case_6();
     test_case_7();
     test_case_8();

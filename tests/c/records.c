@@ -115,6 +115,52 @@ static void test_scratchpad_steps(void)
     check("a reset inside a data byte: PF", registers_are(0x013E, 0x3E, 0));
 }
 
+/* Case 5's write, then 0Fh and so many bits of an address that differs from T in each. */
+static void short_address(int count)
+{
+    SKIP(&host, WRITE_SCRATCHPAD, 0x06, 0x00, 0x12, 0x34);
+    SKIP(&host, WRITE_SCRATCHPAD);
+    bits(0xFFF9, count);
+}
+
+/* Resets; whether T and E/S are still those of case 5's write. */
+static bool reset_keeps(void) { return host_reset(&host) && registers_are(0x0006, 0x07, 0); }
+
+static void test_short_address(void)
+{
+    bool before = true, after = true;
+    set_up(&host, "1");
+    for (int count = 0; count < 16; count++) {
+        short_address(count);
+        before = before && registers_are(0x0006, 0x07, 0);
+        host_reset(&host);
+        after = after && registers_are(0x0006, 0x27, 0);
+    }
+    check("a short address: nothing before the reset", before);
+    check("a short address: PF at the reset, T and E stay", after);
+    check("a short address: the scratchpad stays", host.pads[6] == 0x12 && host.pads[7] == 0x34);
+    AT("a short address: ROM command", 1, 0, 0, 0, 0);
+    short_address(8);
+    check("power on at a short address", host_event(&host, TK_POWER_ON, 0, 0) == 1 && registers_are(0, 0x20, 0));
+    short_address(16);
+    host_reset(&host);
+    check("16 bits: no short address", registers_are(0xFFF9, 0x19, 0));
+    SKIP(&host, WRITE_SCRATCHPAD, 0x06, 0x00, 0x12, 0x34);
+    host_skip(&host);
+    bits(WRITE_SCRATCHPAD, 7);
+    check("a reset inside 0Fh: no PF", reset_keeps());
+    SKIP(&host, COPY_SCRATCHPAD, 0x20);
+    check("a reset in the address of 55h: no PF", reset_keeps());
+    SKIP(&host, READ_MEMORY, 0x20);
+    check("a reset in the address of F0h: no PF", reset_keeps());
+    SKIP(&host, COPY_SCRATCHPAD, 0x06, 0x00, 0x07);
+    for (int i = 0; i < 2; i++) {
+        SKIP(&host, WRITE_SCRATCHPAD, 0x20);
+        host_reset(&host);
+        check("a short address after a copy: PF and AA", registers_are(0x0006, 0xA7, 0));
+    }
+}
+
 static void test_memory_steps(void)
 {
     set_up(&host, "1");
@@ -175,6 +221,7 @@ void test_records(void)
 {
     test_rom_steps();
     test_scratchpad_steps();
+    test_short_address();
     test_memory_steps();
     test_switch_steps();
 }
