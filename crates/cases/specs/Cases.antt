@@ -40,9 +40,13 @@ memoryOf n L = bytesRead (session (0xF0 ∷ 0x06 ∷ 0x00 ∷ [])) n L
 abbrev pub copyOf : ℕ → ℕ → ℕ → List Event
 copyOf ta1 ta2 es = session (0x55 ∷ ta1 ∷ ta2 ∷ es ∷ [])
 
--- Write Scratchpad, cut by a reset after 8 bits of its address: those of 20h, so that half an address in T would show
+-- Write Scratchpad with 8 bits of its address: those of 20h, so that half an address in T would show
+abbrev pub eightBits : List Event
+eightBits = session (0x0F ∷ 0x20 ∷ [])
+
+-- the same, and the reset that cuts it
 abbrev pub shortAddress : List Event
-shortAddress = session (0x0F ∷ 0x20 ∷ []) ++ (resetEvent ∷ [])
+shortAddress = eightBits ++ (resetEvent ∷ [])
 
 -- case 5's write, the short address, and Copy with 06 00 27
 abbrev pub shortCopy : List Event
@@ -126,6 +130,7 @@ pub record Cases : Type 0 where
   pub wrong-memory : memoryOf 3 (run (write1234 ++ copyOf 0x06 0x00 0x06) memoryLine) ≡ 0xFF ∷ 0xFF ∷ 0xFF ∷ []
   pub wrong-registers : registersOf (run (write1234 ++ copyOf 0x06 0x00 0x06) memoryLine) ≡ 0x06 ∷ 0x00 ∷ 0x07 ∷ []
   -- M-102: "case 5's write, then 0Fh and 8 bits, reset: E/S 27h, and a copy with 06 00 27 is not carried out."
+  pub short-before : at 0 (run (write1234 ++ eightBits) memoryLine) .chip .registers ≡ registers 0x0006 0x07
   pub short-reset : at 0 (run (write1234 ++ shortAddress) memoryLine) .chip .registers ≡ registers 0x0006 0x27
   pub short-registers : registersOf (run (write1234 ++ shortAddress) memoryLine) ≡ 0x06 ∷ 0x00 ∷ 0x27 ∷ []
   pub short-answers : bytesRead shortCopy 2 memoryLine ≡ 0xFF ∷ 0xFF ∷ []

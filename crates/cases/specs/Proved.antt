@@ -69,6 +69,7 @@ cases =
       wrong-answers = refl;
       wrong-memory = refl;
       wrong-registers = refl;
+      short-before = refl;
       short-reset = refl;
       short-registers = refl;
       short-answers = refl;

@@ -1,3 +1,4 @@
+pub mod Reset
 pub mod ShortAddress
 pub mod NotCopied
 pub mod Public

@@ -31,7 +31,8 @@ use Rattle.histories.specs.Histories.{at, afterOf, run}
 use Rattle.histories.specs.Keeps.{level-either}
 use Rattle.recovery.specs.CarriedOut.{isCopy, carriesOut, Idle, NoCopy, no-copy}
 use Rattle.recovery.specs.Installed.{Installed}
-use Rattle.commands.specs.ShortAddress.{cutShort, cutWrite, only-pf, matched, short-write}
+use Rattle.commands.specs.Reset.{afterCut, only-pf}
+use Rattle.commands.specs.ShortAddress.{cutWrite, matched, short-write}
 
 -- the next slot is that of the 16th bit of a Write Scratchpad's address, at each phase of a memory
 abbrev pub phaseEnds : MemoryPhase → Bool
@@ -125,7 +126,7 @@ unfolding takesOf
 slot-pf v w h k = level-kept w v (w .chip .level) h k .0
 
 reset-pf : (w : Whole) → HasPF w → HasPF (actOf Reset w)
-unfolding resetOf resetChip cutShort
+unfolding resetOf resetChip afterCut
 reset-pf w h = level-either (λ (r : Registers). pf (r .es) ≡ true) (w .chip) h (only-pf w .pf-set) (w .chip .level)
 
 fresh-pf : pf (powerOnRegisters .es) ≡ true
@@ -190,10 +191,10 @@ pub short-not-copied : (i : ℕ) (L : List Whole) → Installed i L → (bits : 
     → (rest : List Event) → NoAddress i rest (run (cutWrite (at i L .chip .code) bits) L)
     → NoCopy i rest (run (cutWrite (at i L .chip .code) bits) L)
     × (at i (run rest (run (cutWrite (at i L .chip .code) bits) L)) .memory ≡ at i L .memory)
-unfolding cutShort
+unfolding afterCut
 short-not-copied i L s bits h rest n =
     let K = run (cutWrite (at i L .chip .code) bits) L in
-    let e : at i K ≡ cutShort (matched (at i L)) = short-write i L s bits h in
+    let e : at i K ≡ afterCut (matched (at i L)) = short-write i L s bits h in
     let p : HasPF (at i K) = ap (λ (w : Whole). pf (w .chip .registers .es)) e ∙ only-pf (matched (at i L)) .pf-set in
     let q = pf-no-copy i rest K p n in
     (q, no-copy i rest K q ∙ ap (λ (w : Whole). w .memory) e)

@@ -4,8 +4,10 @@ use mathlib.Core.Bool.{Bool}
 use mathlib.Core.List.{List, [], _∷_}
 use mathlib.Core.Path.{_≡_, _∙_, ap}
 use lib.ListN.{length}
+use Rattle.base.specs.Pick.{pick}
+use Rattle.scratchpad.specs.Registers.{pfSet}
 use Rattle.scratchpad.specs.declared.MemoryPhase.the-variants.{WriteAddress}
-use Rattle.chip.specs.Chip.{Whole}
+use Rattle.chip.specs.Chip.{Whole, resetOf}
 use Rattle.chip.specs.declared.Level.the-variants.{Memory}
 use Rattle.line.specs.Events.{resetEvent}
 use Rattle.line.specs.declared.Event.{Event}
@@ -16,25 +18,40 @@ use Rattle.histories.specs.Joined.{runOn, run-joined, stands-on}
 use Rattle.recovery.specs.Sessions.{bitsFrom}
 use Rattle.recovery.specs.CarriedOut.{NoCopy}
 use Rattle.recovery.specs.Public.{chipOf, TableInstalled, line-installed}
-use Rattle.commands.specs.ShortAddress.{cutShort, cutWhole, matched, cutWrite, short-address, short-write, whole-address}
+use Rattle.commands.specs.Reset.{isCut, awaiting, afterCut, reset-exactly, short-address}
+use Rattle.commands.specs.ShortAddress.{begunWrite, cutWrite, matched, afterAddress, short-before, short-write, whole-address}
 use Rattle.commands.specs.NotCopied.{NoAddress, short-not-copied}
 
--- THEOREM: a reset at whatever count of address bits, on any table that neither 8 nor 5 refuses
+-- THEOREM: a reset on any table that neither 8 nor 5 refuses, at any level of a DS28EC20
+pub reset-exactly-on : (i : ℕ) (l : Attached) → Stands l → i < l .count → chipOf i l .chip .kind ≡ 1
+    → chipOf i (runOn (resetEvent ∷ []) l)
+    ≡ awaiting (pick (isCut (chipOf i l .chip .level)) (pfSet (chipOf i l .chip .registers)) (chipOf i l .chip .registers)) (chipOf i l)
+reset-exactly-on i l s h k =
+    ap (at i) (run-joined (resetEvent ∷ []) l s) ∙ reset-exactly i (lineFrom l) (rw (line-length l s) h) k
+
+-- THEOREM: at whatever count of address bits
 pub short-address-on : (i : ℕ) (l : Attached) → Stands l → i < l .count → chipOf i l .chip .kind ≡ 1
     → (count bits : ℕ) → chipOf i l .chip .level ≡ Memory (WriteAddress count bits)
-    → chipOf i (runOn (resetEvent ∷ []) l) ≡ cutShort (chipOf i l)
+    → chipOf i (runOn (resetEvent ∷ []) l) ≡ afterCut (chipOf i l)
 short-address-on i l s h k count bits e =
     ap (at i) (run-joined (resetEvent ∷ []) l s) ∙ short-address i (lineFrom l) (rw (line-length l s) h) k count bits e
 
--- THEOREM: a reset, a match, 0Fh, fewer than 16 bits of an address and a reset
+-- THEOREM: a reset, a match, 0Fh and fewer than 16 bits of an address
+pub short-before-on : (i : ℕ) (l : Attached) → TableInstalled i l → (bits : List Bool) → length bits < 16
+    → chipOf i (runOn (begunWrite (chipOf i l .chip .code) bits) l) .chip .registers ≡ resetOf (chipOf i l) .chip .registers
+short-before-on i l s bits h =
+    ap (λ (L : List Whole). at i L .chip .registers) (run-joined (begunWrite (chipOf i l .chip .code) bits) l (s .stands))
+    ∙ short-before i (lineFrom l) (line-installed i l s) bits h
+
+-- THEOREM: and a reset
 pub short-write-on : (i : ℕ) (l : Attached) → TableInstalled i l → (bits : List Bool) → length bits < 16
-    → chipOf i (runOn (cutWrite (chipOf i l .chip .code) bits) l) ≡ cutShort (matched (chipOf i l))
+    → chipOf i (runOn (cutWrite (chipOf i l .chip .code) bits) l) ≡ afterCut (matched (chipOf i l))
 short-write-on i l s bits h =
     ap (at i) (run-joined (cutWrite (chipOf i l .chip .code) bits) l (s .stands)) ∙ short-write i (lineFrom l) (line-installed i l s) bits h
 
 -- THEOREM: the same with all 16 bits
 pub whole-address-on : (i : ℕ) (l : Attached) → TableInstalled i l → (t : ℕ) → t < 0x10000
-    → chipOf i (runOn (cutWrite (chipOf i l .chip .code) (bitsFrom 16 0 t)) l) ≡ cutWhole t (matched (chipOf i l))
+    → chipOf i (runOn (cutWrite (chipOf i l .chip .code) (bitsFrom 16 0 t)) l) ≡ afterAddress t (matched (chipOf i l))
 whole-address-on i l s t h =
     ap (at i) (run-joined (cutWrite (chipOf i l .chip .code) (bitsFrom 16 0 t)) l (s .stands)) ∙ whole-address i (lineFrom l) (line-installed i l s) t h
 

@@ -1,123 +1,51 @@
--- Document 02, M-102, "A short address also sets PF.": what becomes of a Write Scratchpad that a reset cuts inside its address,
--- and of one that it cuts straight after it.
-use Prim.Native.Nat.{ℕ, zero, suc, _+_, _*_, _/_, _%_, _<_}
+-- Document 02, M-102, "A short address also sets PF.": a whole session, from any state of the line. A Write Scratchpad that a reset
+-- cuts inside its address, and one that it cuts straight after it.
+use Prim.Native.Nat.{ℕ, _+_, _%_, _<_}
 use native.Mathlib.Omega.{arith}
-use native.Mathlib.Nat.{not-suc-le-zero, mod-lt}
 use mathlib.Core.Bool.{Bool, true}
-use mathlib.Core.List.{List, [], _∷_, _++_, map}
+use mathlib.Core.List.{List, [], _∷_, _++_}
 use mathlib.Core.Path.{_≡_, refl, _∙_, ap, sym}
-use lib.Dec.{eqb}
 use lib.ListN.{length}
 use borrow.Author.Tests.{lt-ltb}
-use Rattle.base.specs.Pick.{pick, pick-true}
-use Rattle.base.specs.Bits.{bitOf, filled}
+use Rattle.base.specs.Pick.{pick}
+use Rattle.base.specs.Bits.{filled}
 use Rattle.rom.specs.declared.RomStep.the-variants.{Command}
-use Rattle.scratchpad.specs.Registers.{registers, pf, withPF, pfSet}
-use Rattle.scratchpad.specs.Scratchpad.{writeAddress, cutOf}
+use Rattle.scratchpad.specs.Registers.{registers, withPF, pfSet}
+use Rattle.scratchpad.specs.Scratchpad.{writeAddress}
 use Rattle.scratchpad.specs.declared.Registers.{Registers}
 use Rattle.scratchpad.specs.declared.MemoryPhase.the-variants.{WriteAddress}
-use Rattle.ds28ec20.specs.Map.{ds28ec20}
-use Rattle.memory.specs.Part.{mapOf}
-use Rattle.chip.specs.Kinds.{partOf}
-use Rattle.chip.specs.With.{withKind, withRc, withLevel, withRegisters}
-use Rattle.chip.specs.Chip.{Whole, whole, chipMap, memorySlot, takesOf, sendsOf, levelReset, resetChip, resetOf}
+use Rattle.chip.specs.With.{withKind, withRc}
+use Rattle.chip.specs.Chip.{Whole, whole, memorySlot, takesOf, sendsOf, levelReset, resetChip, resetOf}
 use Rattle.chip.specs.declared.Chip.{Chip}
 use Rattle.chip.specs.declared.Level.the-variants.{Rom, Memory}
-use Rattle.line.specs.Line.{actOf}
 use Rattle.line.specs.Events.{resetEvent}
-use Rattle.line.specs.declared.Act.the-variants.{Reset}
 use Rattle.line.specs.declared.Event.{Event}
 use Rattle.histories.specs.Histories.{at, run}
-use Rattle.histories.specs.Range.{pf-block}
 use Rattle.histories.specs.Keeps.{level-either}
 use Rattle.recovery.specs.Sessions.{bitsFrom, opening, session}
 use Rattle.recovery.specs.Filled.{filledBy}
 use Rattle.recovery.specs.Goes.{Goes, goes-from, goes-append, ec20, goes-opening, goes-0F, addressed, goes-address}
 use Rattle.recovery.specs.Among.{among-at}
 use Rattle.recovery.specs.Installed.{Installed, installed-run}
-use Rattle.recovery.specs.Matched.{reset-after, reset-is, session-among}
+use Rattle.recovery.specs.Matched.{reset-is, session-among}
 use Rattle.recovery.specs.Recovery.{run-append}
+use Rattle.commands.specs.Reset.{isCut, awaiting, afterCut, reset-exactly, short-address}
 
--- a chip that takes a ROM command next, with these registers; all else of it is as it was
-abbrev atReset : Registers → Whole → Whole
-atReset r w = whole (withLevel (Rom (Command 0 0)) (withRegisters r (w .chip))) (w .memory) (w .pad)
+-- 0Fh and bits of an address, in a session that matches the code
+abbrev pub begunWrite : ℕ → List Bool → List Event
+begunWrite code bits = session code (bitsFrom 8 0 0x0F ++ bits)
 
--- a chip after the reset that cut an address: PF is 1, and RC, T, E, AA, memory and scratchpad are as they were
-unfoldable pub cutShort : Whole → Whole
-cutShort w = atReset (pfSet (w .chip .registers)) w
-
--- a chip after a reset straight after the address t: "T is set, E = T mod 32, PF = AA = 0", and no data came
-unfoldable pub cutWhole : ℕ → Whole → Whole
-cutWhole t w = atReset (registers t (t % 32)) w
+-- the same, and the reset that cuts it
+abbrev pub cutWrite : ℕ → List Bool → List Event
+cutWrite code bits = begunWrite code bits ++ (resetEvent ∷ [])
 
 -- a chip that was matched: RC is 1
 abbrev pub matched : Whole → Whole
 matched w = whole (withRc true (w .chip)) (w .memory) (w .pad)
 
--- a reset, a match of the code, 0Fh, these bits of an address, and the reset that cuts the command
-abbrev pub cutWrite : ℕ → List Bool → List Event
-cutWrite code bits = session code (bitsFrom 8 0 0x0F ++ bits) ++ (resetEvent ∷ [])
-
--- "T, E and AA stay" and PF is 1, where registers are set so; bit 6 stays too
-pub record OnlyPF (before after : Registers) : Type 0 where
-  pub t-stays : after .t ≡ before .t
-  pub e-stays : after .es % 32 ≡ before .es % 32
-  pub aa-stays : bitOf (after .es) 7 ≡ bitOf (before .es) 7
-  pub pf-set : pf (after .es) ≡ true
-  pub six-stays : bitOf (after .es) 6 ≡ bitOf (before .es) 6
-
--- what E/S with PF = 1 holds from bit 5 on, where it has q from bit 6 on
-from-five : (q e : ℕ) → e < 32 → (q * 64 + 32 + e) / 32 ≡ q * 2 + 1
-from-five q e h = omega arith
-
--- and from bit 7 on, by bit 6 on
-from-seven : (n : ℕ) → n / 128 ≡ n / 64 / 2
-from-seven n = omega arith
-
-odd : (q : ℕ) → (q * 2 + 1) % 2 ≡ 1
-odd q = omega arith
-
--- THEOREM: the cut sets PF and leaves T, E and AA
-pub only-pf : (w : Whole) → OnlyPF (w .chip .registers) (cutShort w .chip .registers)
-unfolding cutShort withPF pf bitOf
-only-pf w =
-    let es = w .chip .registers .es in
-    let n = es / 64 * 64 + 32 + es % 32 in
-    let h = mod-lt es {m = 32} (omega arith) in
-    let six : n / 64 ≡ es / 64 = pf-block (es / 64) (es % 32) h in
-    let seven : n / 128 ≡ es / 128 = from-seven n ∙ ap (λ (q : ℕ). q / 2) six ∙ sym (from-seven es) in
-    record {
-      t-stays = refl;
-      e-stays = omega arith;
-      aa-stays = ap (λ (q : ℕ). eqb (q % 2) 1) seven;
-      pf-set = ap (λ (q : ℕ). eqb (q % 2) 1) (from-five (es / 64) (es % 32) h) ∙ ap (λ (b : ℕ). eqb b 1) (odd (es / 64));
-      six-stays = ap (λ (q : ℕ). eqb (q % 2) 1) six;
-    }
-
--- a cut address counts for a DS28EC20
-cut-counts : (k : ℕ) → k ≡ 1 → mapOf (partOf k) .cutSetsPF ≡ true
-unfolding mapOf partOf ds28ec20
-cut-counts k e = ap (λ (n : ℕ). mapOf (partOf n) .cutSetsPF) e
-
--- chip i, where the same is done to each chip
-at-map : (f : Whole → Whole) (i : ℕ) (L : List Whole) → i < length L → at i (map f L) ≡ f (at i L)
-at-map f i [] h = absurd (not-suc-le-zero h)
-at-map f zero (w ∷ L) h = refl
-at-map f (suc i) (w ∷ L) h = at-map f i L (omega arith)
-
--- chip i after a reset
-reset-at : (i : ℕ) (L : List Whole) → i < length L → at i (run (resetEvent ∷ []) L) ≡ resetOf (at i L)
-reset-at i L h = ap (at i) (reset-after L) ∙ at-map (actOf Reset) i L h
-
--- THEOREM: a reset, at whatever count of address bits a Write Scratchpad of a DS28EC20 is, and whatever else is on the line
-pub short-address : (i : ℕ) (L : List Whole) → i < length L → at i L .chip .kind ≡ 1
-    → (count bits : ℕ) → at i L .chip .level ≡ Memory (WriteAddress count bits)
-    → at i (run (resetEvent ∷ []) L) ≡ cutShort (at i L)
-unfolding resetOf resetChip cutShort cutOf
-short-address i L h k count bits e =
-    let w = at i L in
-    reset-at i L h
-    ∙ ap (λ (r : Registers). atReset r w) (ap (levelReset (w .chip)) e ∙ pick-true (chipMap (w .chip) .cutSetsPF) _ _ (cut-counts (w .chip .kind) k))
+-- a chip after a reset straight after the address t: "T is set, E = T mod 32, PF = AA = 0", and no data came
+unfoldable pub afterAddress : ℕ → Whole → Whole
+afterAddress t w = awaiting (registers t (t % 32)) w
 
 -- a DS28EC20 that takes the bits of an address
 module _ (c : Chip) (m : List ℕ) where
@@ -165,44 +93,55 @@ opened w =
     (ap (registers (w .chip .registers .t)) (pf-again (w .chip .registers .es))) (w .chip .level)
 
 module _ (i : ℕ) (L : List Whole) (s : Installed i L) where
-  -- chip i, and its code
+  -- chip i, its code, and its registers after the reset that opens the session
   abbrev own : Whole
   own = at i L
 
   abbrev code : ℕ
   code = own .chip .code
 
-  -- where a session that goes so for the chip alone brings it on the line
-  comes : (vs : List Bool) (u : Whole)
-      → Goes (opening code ++ vs) (ec20 (own .chip) (own .memory) (Rom (Command 0 0)) (own .chip .rc) (levelReset (own .chip) (own .chip .level)) (own .pad)) u
-      → at i (run (session code vs) L) ≡ u
+  abbrev first : Registers
+  first = levelReset (own .chip) (own .chip .level)
+
+  -- where bits that go so for the chip alone bring it on the line
+  comes : (vs : List Bool) (u : Whole) → Goes (opening code ++ vs) (ec20 (own .chip) (own .memory) (Rom (Command 0 0)) (own .chip .rc) first (own .pad)) u → at i (run (session code vs) L) ≡ u
   comes vs u g = among-at (session-among i L s code refl vs u (goes-from (opening code ++ vs) _ _ _ (reset-is own (s .kind)) g))
 
-  -- THEOREM: a reset, a match, 0Fh, fewer than 16 bits of an address and a reset, from any state of the line. It comes to PF = 1
-  -- and RC = 1 by the match; the bits are lost
-  pub short-write : (bits : List Bool) → length bits < 16 → at i (run (cutWrite code bits) L) ≡ cutShort (matched own)
-  unfolding cutShort
-  short-write bits h =
-      let vs = bitsFrom 8 0 0x0F ++ bits in
-      let r = levelReset (own .chip) (own .chip .level) in
-      let u = ec20 (own .chip) (own .memory) (Memory (WriteAddress (length bits) (filledBy 0x8000 0 bits))) true r (own .pad) in
-      let e : at i (run (session code vs) L) ≡ u = comes vs u (goes-short (own .chip) (own .memory) bits (own .chip .rc) r (own .pad) h) in
-      let k = installed-run i (session code vs) L s in
-      ap (at i) (run-append (session code vs) (resetEvent ∷ []) L)
-      ∙ short-address i (run (session code vs) L) (k .attached) (k .kind) (length bits) (filledBy 0x8000 0 bits) (ap (λ (w : Whole). w .chip .level) e)
-      ∙ ap cutShort e
-      ∙ (λ j. atReset (opened own j) (matched (whole (withKind (sym (s .kind) j) (own .chip)) (own .memory) (own .pad))))
+  -- a chip that was matched, with its kind written out
+  ec20-is : (r : Registers) → awaiting r (ec20 (own .chip) (own .memory) (Rom (Command 0 0)) true r (own .pad)) ≡ awaiting r (matched own)
+  ec20-is r = λ j. awaiting r (matched (whole (withKind (sym (s .kind) j) (own .chip)) (own .memory) (own .pad)))
 
-  -- THEOREM: with all 16 in, the address is taken, and the reset is no cut
-  pub whole-address : (t : ℕ) → t < 0x10000 → at i (run (cutWrite code (bitsFrom 16 0 t)) L) ≡ cutWhole t (matched own)
-  unfolding resetOf resetChip cutOf cutWhole pick
+  module _ (bits : List Bool) (h : length bits < 16) where
+    -- the chip with these bits of an address in
+    begun : at i (run (begunWrite code bits) L) ≡ ec20 (own .chip) (own .memory) (Memory (WriteAddress (length bits) (filledBy 0x8000 0 bits))) true first (own .pad)
+    begun = comes (bitsFrom 8 0 0x0F ++ bits) _ (goes-short (own .chip) (own .memory) bits (own .chip .rc) first (own .pad) h)
+
+    -- THEOREM: a reset, a match, 0Fh and fewer than 16 bits of an address leave T and E/S as that reset left them ..
+    pub short-before : at i (run (begunWrite code bits) L) .chip .registers ≡ resetOf own .chip .registers
+    unfolding resetOf resetChip
+    short-before = ap (λ (w : Whole). w .chip .registers) begun
+
+    -- THEOREM: .. and the next reset sets PF: from any state of the line, the chip is as it was but for PF = 1, RC = 1 by the match,
+    -- and its level
+    pub short-write : at i (run (cutWrite code bits) L) ≡ afterCut (matched own)
+    unfolding afterCut
+    short-write =
+        let k = installed-run i (begunWrite code bits) L s in
+        ap (at i) (run-append (begunWrite code bits) (resetEvent ∷ []) L)
+        ∙ short-address i (run (begunWrite code bits) L) (k .attached) (k .kind) (length bits) (filledBy 0x8000 0 bits) (ap (λ (w : Whole). w .chip .level) begun)
+        ∙ ap afterCut begun
+        ∙ ec20-is (pfSet first)
+        ∙ ap (λ (r : Registers). awaiting r (matched own)) (opened own)
+
+  -- THEOREM: with all 16 bits in, the address is taken, and the reset is no cut
+  pub whole-address : (t : ℕ) → t < 0x10000 → at i (run (cutWrite code (bitsFrom 16 0 t)) L) ≡ afterAddress t (matched own)
+  unfolding afterAddress pick
   whole-address t h =
-      let vs = bitsFrom 8 0 0x0F ++ bitsFrom 16 0 t in
-      let r = levelReset (own .chip) (own .chip .level) in
+      let bits = bitsFrom 16 0 t in
       let u = addressed (own .chip) (own .memory) (own .pad) t in
-      let e : at i (run (session code vs) L) ≡ u = comes vs u (goes-whole (own .chip) (own .memory) t (own .chip .rc) r (own .pad) h) in
-      let k = installed-run i (session code vs) L s in
-      ap (at i) (run-append (session code vs) (resetEvent ∷ []) L)
-      ∙ reset-at i (run (session code vs) L) (k .attached)
-      ∙ ap resetOf e
-      ∙ (λ j. atReset (registers t (t % 32)) (matched (whole (withKind (sym (s .kind) j) (own .chip)) (own .memory) (own .pad))))
+      let e : at i (run (begunWrite code bits) L) ≡ u = comes (bitsFrom 8 0 0x0F ++ bits) u (goes-whole (own .chip) (own .memory) t (own .chip .rc) first (own .pad) h) in
+      let k = installed-run i (begunWrite code bits) L s in
+      ap (at i) (run-append (begunWrite code bits) (resetEvent ∷ []) L)
+      ∙ reset-exactly i (run (begunWrite code bits) L) (k .attached) (k .kind)
+      ∙ ap (λ (w : Whole). awaiting (pick (isCut (w .chip .level)) (pfSet (w .chip .registers)) (w .chip .registers)) w) e
+      ∙ ec20-is (registers t (t % 32))
