@@ -1,20 +1,20 @@
 -- Document 01, "Bench cases": the starred cases, and the case of document 02's M-102, stated together. Each is the run of events
 -- that a host puts on the line that a card sets up.
 use Prim.Native.Nat.{ℕ}
-use mathlib.Core.Bool.{Bool, true, false}
+use mathlib.Core.Bool.{true, false}
 use mathlib.Core.List.{List, [], _∷_, _++_}
 use mathlib.Core.Path.{_≡_}
 use lib.ListN.{replicate}
 use Rattle.crc.specs.Crc.{poly8, poly16, crcOf}
 use Rattle.chip.specs.Chip.{Whole}
-use Rattle.line.specs.Event.{Answered, bit}
+use Rattle.line.specs.Event.{bit}
 use Rattle.line.specs.declared.Event.{Event}
 use Rattle.scratchpad.specs.Registers.{registers}
 use Rattle.scratchpad.specs.declared.MemoryPhase.the-variants.{SendCrc}
 use Rattle.search.specs.Search.{Attached, searchOf, complete, refused}
 use Rattle.histories.specs.Histories.{at, run, lineWire}
-use Rattle.line.specs.Events.{resetEvent, outsideEvent}
-use Rattle.search.specs.Host.{Listed, listed, play, searchHost}
+use Rattle.line.specs.Events.{resetEvent, powerOnEvent, outsideEvent}
+use Rattle.search.specs.Host.{listed, play, searchHost}
 use Rattle.cases.specs.Bench.{lineOfCard, tableOfCard, record12, session, written, bytesRead, bitsRead, withByte, atPhase}
 
 -- one DS28EC20, and one DS2413
@@ -130,12 +130,14 @@ pub record Cases : Type 0 where
   pub wrong-memory : memoryOf 3 (run (write1234 ++ copyOf 0x06 0x00 0x06) memoryLine) ≡ 0xFF ∷ 0xFF ∷ 0xFF ∷ []
   pub wrong-registers : registersOf (run (write1234 ++ copyOf 0x06 0x00 0x06) memoryLine) ≡ 0x06 ∷ 0x00 ∷ 0x07 ∷ []
   -- M-102: "case 5's write, then 0Fh and 8 bits, reset: E/S 27h, and a copy with 06 00 27 is not carried out."
-  pub short-before : at 0 (run (write1234 ++ eightBits) memoryLine) .chip .registers ≡ registers 0x0006 0x07
+  pub short-begun : at 0 (run (write1234 ++ eightBits) memoryLine) .chip .registers ≡ registers 0x0006 0x07
   pub short-reset : at 0 (run (write1234 ++ shortAddress) memoryLine) .chip .registers ≡ registers 0x0006 0x27
   pub short-registers : registersOf (run (write1234 ++ shortAddress) memoryLine) ≡ 0x06 ∷ 0x00 ∷ 0x27 ∷ []
   pub short-answers : bytesRead shortCopy 2 memoryLine ≡ 0xFF ∷ 0xFF ∷ []
   pub short-memory : at 0 (run shortCopy memoryLine) .memory ≡ at 0 memoryLine .memory
   pub short-kept : registersOf (run shortCopy memoryLine) ≡ 0x06 ∷ 0x00 ∷ 0x27 ∷ []
+  -- M-102: a power on in place of the reset, "Power on: T 0000h, E/S 20h"
+  pub short-power-on : at 0 (run (write1234 ++ (eightBits ++ (powerOnEvent ∷ []))) memoryLine) .chip .registers ≡ registers 0x0000 0x20
   -- M-102: "T, E and AA stay", after a copy that was carried out
   pub short-after-copy : registersOf (run (write1234 ++ (copyOf 0x06 0x00 0x07 ++ shortAddress)) memoryLine) ≡ 0x06 ∷ 0x00 ∷ 0xA7 ∷ []
   -- "Reset alone leaves RC": Match, a reset, and Resume finds the same chip at the function level

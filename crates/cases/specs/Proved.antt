@@ -21,7 +21,6 @@ use Rattle.line.specs.Layout.{capped}
 use Rattle.line.specs.Event.{planEvent, askedBy, outsideFits}
 use Rattle.records.specs.Records.{headAt}
 use Rattle.rom.specs.Rom.{commandOf, commandBit, readBit, matchBit, searchBit, searchSends}
-use Rattle.line.specs.Event.{verdictOf}
 use Rattle.histories.specs.Histories.{answerOf, afterOf}
 use Rattle.scratchpad.specs.Registers.{pf, withE, withPF, withAA, targetOf, mark, ruleOfByte}
 use Rattle.scratchpad.specs.Scratchpad.{memoryFunction, crcOfAddress, addressIn, writeAddress, afterByte, byteIn, writeData, crcSent, padBegins, registerSent, padByteSent, padSent, copyAddress, carriedOut, authorized, copyEnd, readAddress, memorySent, cutOf, inPage}
@@ -69,12 +68,13 @@ cases =
       wrong-answers = refl;
       wrong-memory = refl;
       wrong-registers = refl;
-      short-before = refl;
+      short-begun = refl;
       short-reset = refl;
       short-registers = refl;
       short-answers = refl;
       short-memory = refl;
       short-kept = refl;
+      short-power-on = refl;
       short-after-copy = refl;
       resumed = refl;
       stale-held = refl;

@@ -1,9 +1,10 @@
--- What M-102 is for: a host whose address was cut cannot copy what an earlier write left. PF stays 1 until a Write Scratchpad has
--- its whole address, and with PF = 1 no copy is carried out.
-use Prim.Native.Nat.{ℕ, zero, suc, _+_, _*_, _/_, _%_, _<_}
+-- A host whose Write Scratchpad was cut cannot copy what an earlier one left. PF stays 1 until a Write Scratchpad has its whole
+-- address, as the flow chart of source document 003 notes ("It is cleared only if a complete 16-bit target address is transmitted."),
+-- and with PF = 1 no copy is carried out.
+use Prim.Native.Nat.{ℕ, _+_, _*_, _/_, _%_, _<_}
 use native.Mathlib.Omega.{arith}
 use mathlib.Core.Bool.{Bool, true, false, not, true≢false}
-use mathlib.Core.List.{List, [], _∷_, map}
+use mathlib.Core.List.{List, [], _∷_}
 use mathlib.Core.Path.{_≡_, refl, _∙_, ap, sym}
 use lib.Dec.{eqb, ltb}
 use lib.ListN.{length}
@@ -21,18 +22,18 @@ use Rattle.chip.specs.declared.ChipAfter.{ChipAfter}
 use Rattle.chip.specs.Chip.{Whole, levelSeen, levelTakesBy, romSlot, functionIn, functionSlot, memorySight, memorySlot, switchSlot, takesOf, resetChip, resetOf, powerOnChip, powerOnOf, outsideChip, outsideOf}
 use Rattle.chip.specs.declared.Level.{Level}
 use Rattle.chip.specs.declared.Level.the-variants.{Waiting, Rom, FunctionCommand, Memory, Pio}
-use Rattle.line.specs.Line.{valueOf, actOf, outsideAt, afterBy}
+use Rattle.line.specs.Line.{valueOf, actOf, afterBy}
 use Rattle.line.specs.Event.{planOn}
+use Rattle.line.specs.Events.{resetEvent}
 use Rattle.line.specs.declared.Plan.{Plan}
 use Rattle.line.specs.declared.Plan.the-variants as plan
 use Rattle.line.specs.declared.Act.the-variants.{Take, Reset, PowerOn}
 use Rattle.line.specs.declared.Event.{Event}
 use Rattle.histories.specs.Histories.{at, afterOf, run}
 use Rattle.histories.specs.Keeps.{level-either}
+use Rattle.histories.specs.Place.{map-at, outside-at}
 use Rattle.recovery.specs.CarriedOut.{isCopy, carriesOut, Idle, NoCopy, no-copy}
-use Rattle.recovery.specs.Installed.{Installed}
-use Rattle.commands.specs.Reset.{afterCut, only-pf}
-use Rattle.commands.specs.ShortAddress.{cutWrite, matched, short-write}
+use Rattle.commands.specs.Reset.{isCut, afterCut, only-pf, reset-cuts}
 
 -- the next slot is that of the 16th bit of a Write Scratchpad's address, at each phase of a memory
 abbrev pub phaseEnds : MemoryPhase → Bool
@@ -57,17 +58,17 @@ endsAddress (Memory p) = phaseEnds p
 endsAddress (Pio p) = false
 
 -- an event gives chip i no whole address of a Write Scratchpad
-abbrev pub Short : Plan → ℕ → List Whole → Type 0
-Short (plan.Refused r) i L = Unit
-Short (plan.Slot b) i L = endsAddress (at i L .chip .level) ≡ false
-Short plan.Reset i L = Unit
-Short plan.PowerOn i L = Unit
-Short (plan.Outside j l) i L = Unit
+abbrev pub EndsNoAddress : Plan → ℕ → List Whole → Type 0
+EndsNoAddress (plan.Refused r) i L = Unit
+EndsNoAddress (plan.Slot b) i L = endsAddress (at i L .chip .level) ≡ false
+EndsNoAddress plan.Reset i L = Unit
+EndsNoAddress plan.PowerOn i L = Unit
+EndsNoAddress (plan.Outside j l) i L = Unit
 
 -- nor does any event of a history
 abbrev pub NoAddress : ℕ → List Event → List Whole → Type 0
 NoAddress i [] L = Unit
-NoAddress i (e ∷ es) L = Short (planOn e L) i L × NoAddress i es (afterOf e L)
+NoAddress i (e ∷ es) L = EndsNoAddress (planOn e L) i L × NoAddress i es (afterOf e L)
 
 -- PF of a chip is 1
 abbrev pub HasPF : Whole → Type 0
@@ -77,6 +78,7 @@ HasPF w = pf (w .chip .registers .es) ≡ true
 abbrev Kept : ChipAfter → Type 0
 Kept t = (pf (t .chip .registers .es) ≡ true) × (isCopy (t .deed) ≡ false)
 
+-- the same of a slot of a memory
 abbrev MemoryKept : MemoryAfter → Type 0
 MemoryKept t = (pf (t .registers .es) ≡ true) × (isCopy (t .deed) ≡ false)
 
@@ -129,6 +131,7 @@ reset-pf : (w : Whole) → HasPF w → HasPF (actOf Reset w)
 unfolding resetOf resetChip afterCut
 reset-pf w h = level-either (λ (r : Registers). pf (r .es) ≡ true) (w .chip) h (only-pf w .pf-set) (w .chip .level)
 
+-- PF after power on
 fresh-pf : pf (powerOnRegisters .es) ≡ true
 unfolding pf bitOf
 fresh-pf = refl
@@ -141,29 +144,15 @@ outside-pf : (l : ℕ) (w : Whole) → HasPF w → HasPF (outsideOf l w)
 unfolding outsideOf outsideChip
 outside-pf l w h = h
 
--- chip i, where the same is done to each chip
-map-pf : (f : Whole → Whole) (i : ℕ) (L : List Whole) → HasPF (at i L) → HasPF (f (at i L)) → HasPF (at i (map f L))
-map-pf f i [] h k = h
-map-pf f zero (w ∷ L) h k = k
-map-pf f (suc i) (w ∷ L) h k = map-pf f i L h k
-
--- chip i, where one chip has new outside levels
-outside-at : (i j l : ℕ) (L : List Whole) → HasPF (at i L) → HasPF (at i (outsideAt j l L))
-outside-at i j l [] h = h
-outside-at zero zero l (w ∷ L) h = outside-pf l w h
-outside-at (suc i) zero l (w ∷ L) h = h
-outside-at zero (suc j) l (w ∷ L) h = h
-outside-at (suc i) (suc j) l (w ∷ L) h = outside-at i j l L h
-
 -- chip i over one event
-plan-pf : (i : ℕ) (p : Plan) (L : List Whole) → HasPF (at i L) → Short p i L → HasPF (at i (afterBy p L))
+plan-pf : (i : ℕ) (p : Plan) (L : List Whole) → HasPF (at i L) → EndsNoAddress p i L → HasPF (at i (afterBy p L))
 plan-pf i (plan.Refused r) L h k = h
-plan-pf i (plan.Slot b) L h k = let v = valueOf b L in map-pf (actOf (Take v)) i L h (slot-pf v (at i L) h k)
-plan-pf i plan.Reset L h k = map-pf (actOf Reset) i L h (reset-pf (at i L) h)
-plan-pf i plan.PowerOn L h k = map-pf (actOf PowerOn) i L h (power-pf (at i L) h)
-plan-pf i (plan.Outside j l) L h k = outside-at i j l L h
+plan-pf i (plan.Slot b) L h k = let v = valueOf b L in map-at HasPF (actOf (Take v)) i L h (slot-pf v (at i L) h k)
+plan-pf i plan.Reset L h k = map-at HasPF (actOf Reset) i L h (reset-pf (at i L) h)
+plan-pf i plan.PowerOn L h k = map-at HasPF (actOf PowerOn) i L h (power-pf (at i L) h)
+plan-pf i (plan.Outside j l) L h k = outside-at HasPF i j l L h (outside-pf l (at i L) h)
 
-plan-idle : (i : ℕ) (p : Plan) (L : List Whole) → HasPF (at i L) → Short p i L → Idle p i L
+plan-idle : (i : ℕ) (p : Plan) (L : List Whole) → HasPF (at i L) → EndsNoAddress p i L → Idle p i L
 unfolding carriesOut
 plan-idle i (plan.Refused r) L h k = tt
 plan-idle i (plan.Slot b) L h k = level-kept (at i L) (valueOf b L) (at i L .chip .level) h k .1
@@ -171,7 +160,8 @@ plan-idle i plan.Reset L h k = tt
 plan-idle i plan.PowerOn L h k = tt
 plan-idle i (plan.Outside j l) L h k = tt
 
-event-pf : (i : ℕ) (e : Event) (L : List Whole) → HasPF (at i L) → Short (planOn e L) i L → HasPF (at i (afterOf e L))
+-- by what the event comes to
+event-pf : (i : ℕ) (e : Event) (L : List Whole) → HasPF (at i L) → EndsNoAddress (planOn e L) i L → HasPF (at i (afterOf e L))
 unfolding afterOf
 event-pf i e L h k = plan-pf i (planOn e L) L h k
 
@@ -185,16 +175,16 @@ pub pf-no-copy : (i : ℕ) (es : List Event) (L : List Whole) → HasPF (at i L)
 pf-no-copy i [] L h n = tt
 pf-no-copy i (e ∷ es) L h (k, n) = (plan-idle i (planOn e L) L h k, pf-no-copy i es (afterOf e L) (event-pf i e L h k) n)
 
--- THEOREM: so after a short address, from any state of the line and whatever the host does, until a Write Scratchpad of the chip
--- has its whole address, it carries out no copy, and its memory is as it was
-pub short-not-copied : (i : ℕ) (L : List Whole) → Installed i L → (bits : List Bool) → length bits < 16
-    → (rest : List Event) → NoAddress i rest (run (cutWrite (at i L .chip .code) bits) L)
-    → NoCopy i rest (run (cutWrite (at i L .chip .code) bits) L)
-    × (at i (run rest (run (cutWrite (at i L .chip .code) bits) L)) .memory ≡ at i L .memory)
+-- THEOREM: so after a reset that cuts a Write Scratchpad, whatever opened its session, whatever else is on the line and whatever
+-- the host does then: until a Write Scratchpad of the chip has its whole address it carries out no copy, and its memory is as it was
+pub cut-not-copied : (i : ℕ) (L : List Whole) → i < length L → at i L .chip .kind ≡ 1 → isCut (at i L .chip .level) ≡ true
+    → (rest : List Event) → NoAddress i rest (run (resetEvent ∷ []) L)
+    → NoCopy i rest (run (resetEvent ∷ []) L)
+    × (at i (run rest (run (resetEvent ∷ []) L)) .memory ≡ at i L .memory)
 unfolding afterCut
-short-not-copied i L s bits h rest n =
-    let K = run (cutWrite (at i L .chip .code) bits) L in
-    let e : at i K ≡ afterCut (matched (at i L)) = short-write i L s bits h in
-    let p : HasPF (at i K) = ap (λ (w : Whole). pf (w .chip .registers .es)) e ∙ only-pf (matched (at i L)) .pf-set in
+cut-not-copied i L h k c rest n =
+    let K = run (resetEvent ∷ []) L in
+    let e : at i K ≡ afterCut (at i L) = reset-cuts i L h k c in
+    let p : HasPF (at i K) = ap (λ (w : Whole). pf (w .chip .registers .es)) e ∙ only-pf (at i L) .pf-set in
     let q = pf-no-copy i rest K p n in
     (q, no-copy i rest K q ∙ ap (λ (w : Whole). w .memory) e)

@@ -1,6 +1,6 @@
 -- "A short address also sets PF.": of the public event, over a table and its buffers.
 use Prim.Native.Nat.{ℕ, _<_}
-use mathlib.Core.Bool.{Bool}
+use mathlib.Core.Bool.{Bool, true}
 use mathlib.Core.List.{List, [], _∷_}
 use mathlib.Core.Path.{_≡_, _∙_, ap}
 use lib.ListN.{length}
@@ -9,7 +9,7 @@ use Rattle.scratchpad.specs.Registers.{pfSet}
 use Rattle.scratchpad.specs.declared.MemoryPhase.the-variants.{WriteAddress}
 use Rattle.chip.specs.Chip.{Whole, resetOf}
 use Rattle.chip.specs.declared.Level.the-variants.{Memory}
-use Rattle.line.specs.Events.{resetEvent}
+use Rattle.line.specs.Events.{resetEvent, powerOnEvent}
 use Rattle.line.specs.declared.Event.{Event}
 use Rattle.search.specs.Search.{Attached}
 use Rattle.histories.specs.Histories.{at, run}
@@ -18,9 +18,9 @@ use Rattle.histories.specs.Joined.{runOn, run-joined, stands-on}
 use Rattle.recovery.specs.Sessions.{bitsFrom}
 use Rattle.recovery.specs.CarriedOut.{NoCopy}
 use Rattle.recovery.specs.Public.{chipOf, TableInstalled, line-installed}
-use Rattle.commands.specs.Reset.{isCut, awaiting, afterCut, reset-exactly, short-address}
-use Rattle.commands.specs.ShortAddress.{begunWrite, cutWrite, matched, afterAddress, short-before, short-write, whole-address}
-use Rattle.commands.specs.NotCopied.{NoAddress, short-not-copied}
+use Rattle.commands.specs.Reset.{isCut, awaiting, afterCut, afterPowerOn, reset-exactly, short-address, power-on-exactly}
+use Rattle.commands.specs.ShortAddress.{begunWrite, endedWrite, matched, afterAddress, short-before, short-write, whole-address}
+use Rattle.commands.specs.NotCopied.{NoAddress, cut-not-copied}
 
 -- THEOREM: a reset on any table that neither 8 nor 5 refuses, at any level of a DS28EC20
 pub reset-exactly-on : (i : ℕ) (l : Attached) → Stands l → i < l .count → chipOf i l .chip .kind ≡ 1
@@ -36,6 +36,11 @@ pub short-address-on : (i : ℕ) (l : Attached) → Stands l → i < l .count �
 short-address-on i l s h k count bits e =
     ap (at i) (run-joined (resetEvent ∷ []) l s) ∙ short-address i (lineFrom l) (rw (line-length l s) h) k count bits e
 
+-- THEOREM: a power on, at any level of it
+pub power-on-exactly-on : (i : ℕ) (l : Attached) → Stands l → i < l .count → chipOf i l .chip .kind ≡ 1
+    → chipOf i (runOn (powerOnEvent ∷ []) l) ≡ afterPowerOn (chipOf i l)
+power-on-exactly-on i l s h k = ap (at i) (run-joined (powerOnEvent ∷ []) l s) ∙ power-on-exactly i (lineFrom l) (rw (line-length l s) h) k
+
 -- THEOREM: a reset, a match, 0Fh and fewer than 16 bits of an address
 pub short-before-on : (i : ℕ) (l : Attached) → TableInstalled i l → (bits : List Bool) → length bits < 16
     → chipOf i (runOn (begunWrite (chipOf i l .chip .code) bits) l) .chip .registers ≡ resetOf (chipOf i l) .chip .registers
@@ -45,27 +50,27 @@ short-before-on i l s bits h =
 
 -- THEOREM: and a reset
 pub short-write-on : (i : ℕ) (l : Attached) → TableInstalled i l → (bits : List Bool) → length bits < 16
-    → chipOf i (runOn (cutWrite (chipOf i l .chip .code) bits) l) ≡ afterCut (matched (chipOf i l))
+    → chipOf i (runOn (endedWrite (chipOf i l .chip .code) bits) l) ≡ afterCut (matched (chipOf i l))
 short-write-on i l s bits h =
-    ap (at i) (run-joined (cutWrite (chipOf i l .chip .code) bits) l (s .stands)) ∙ short-write i (lineFrom l) (line-installed i l s) bits h
+    ap (at i) (run-joined (endedWrite (chipOf i l .chip .code) bits) l (s .stands)) ∙ short-write i (lineFrom l) (line-installed i l s) bits h
 
 -- THEOREM: the same with all 16 bits
 pub whole-address-on : (i : ℕ) (l : Attached) → TableInstalled i l → (t : ℕ) → t < 0x10000
-    → chipOf i (runOn (cutWrite (chipOf i l .chip .code) (bitsFrom 16 0 t)) l) ≡ afterAddress t (matched (chipOf i l))
+    → chipOf i (runOn (endedWrite (chipOf i l .chip .code) (bitsFrom 16 0 t)) l) ≡ afterAddress t (matched (chipOf i l))
 whole-address-on i l s t h =
-    ap (at i) (run-joined (cutWrite (chipOf i l .chip .code) (bitsFrom 16 0 t)) l (s .stands)) ∙ whole-address i (lineFrom l) (line-installed i l s) t h
+    ap (at i) (run-joined (endedWrite (chipOf i l .chip .code) (bitsFrom 16 0 t)) l (s .stands)) ∙ whole-address i (lineFrom l) (line-installed i l s) t h
 
--- THEOREM: after a short address no copy is carried out until an address is whole, and the memory is as it was
-pub short-not-copied-on : (i : ℕ) (l : Attached) → TableInstalled i l → (bits : List Bool) → length bits < 16
-    → (rest : List Event) → NoAddress i rest (lineFrom (runOn (cutWrite (chipOf i l .chip .code) bits) l))
-    → NoCopy i rest (lineFrom (runOn (cutWrite (chipOf i l .chip .code) bits) l))
-    × (chipOf i (runOn rest (runOn (cutWrite (chipOf i l .chip .code) bits) l)) .memory ≡ chipOf i l .memory)
-short-not-copied-on i l s bits h rest n =
-    let cut = cutWrite (chipOf i l .chip .code) bits in
-    let j = run-joined cut l (s .stands) in
-    let r = short-not-copied i (lineFrom l) (line-installed i l s) bits h rest (rw j at n) in (
+-- THEOREM: after a reset that cuts a Write Scratchpad no copy is carried out until an address is whole, and the memory is as it was
+pub cut-not-copied-on : (i : ℕ) (l : Attached) → Stands l → i < l .count → chipOf i l .chip .kind ≡ 1 → isCut (chipOf i l .chip .level) ≡ true
+    → (rest : List Event) → NoAddress i rest (lineFrom (runOn (resetEvent ∷ []) l))
+    → NoCopy i rest (lineFrom (runOn (resetEvent ∷ []) l))
+    × (chipOf i (runOn rest (runOn (resetEvent ∷ []) l)) .memory ≡ chipOf i l .memory)
+cut-not-copied-on i l s h k c rest n =
+    let cut = resetEvent ∷ [] in
+    let j = run-joined cut l s in
+    let r = cut-not-copied i (lineFrom l) (rw (line-length l s) h) k c rest (rw j at n) in (
       rw j (r .0),
-      ap (λ (L : List Whole). at i L .memory) (run-joined rest (runOn cut l) (stands-on cut l (s .stands)))
+      ap (λ (L : List Whole). at i L .memory) (run-joined rest (runOn cut l) (stands-on cut l s))
           ∙ ap (λ (L : List Whole). at i (run rest L) .memory) j
           ∙ r .1,
     )

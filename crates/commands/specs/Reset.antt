@@ -1,34 +1,38 @@
 -- What a reset does to a DS28EC20, exactly: it cuts a Write Scratchpad or it does not. Document 01: "Reset alone leaves RC, memory,
--- scratchpad, registers and latches, save for the PF rule below."; document 02, M-102: "A short address also sets PF."
-use Prim.Native.Nat.{ℕ, zero, suc, _+_, _*_, _/_, _%_, _<_}
+-- scratchpad, registers and latches, save for the PF rule below."; document 02, M-102: "A short address also sets PF." And what a
+-- power on does in its place.
+use Prim.Native.Nat.{ℕ, _+_, _*_, _/_, _%_, _<_}
 use native.Mathlib.Omega.{arith}
-use native.Mathlib.Nat.{not-suc-le-zero, mod-lt}
+use native.Mathlib.Nat.{mod-lt}
 use mathlib.Core.Bool.{Bool, true, false}
-use mathlib.Core.List.{List, [], _∷_, map}
+use mathlib.Core.List.{List, [], _∷_}
 use mathlib.Core.Path.{_≡_, refl, _∙_, ap, sym}
 use lib.Dec.{eqb, ltb}
-use lib.ListN.{length}
-use Rattle.base.specs.Pick.{pick, pick-true}
+use lib.ListN.{length, replicate}
+use Rattle.base.specs.Pick.{pick, pick-true, pick-false}
 use Rattle.base.specs.Bits.{bitOf}
 use Rattle.rom.specs.declared.RomStep.the-variants.{Command}
-use Rattle.scratchpad.specs.Registers.{pf, withPF, pfSet}
+use Rattle.scratchpad.specs.Registers.{registers, pf, withPF, pfSet, powerOnRegisters}
 use Rattle.scratchpad.specs.Scratchpad.{cutOf, memoryReset}
 use Rattle.scratchpad.specs.declared.Registers.{Registers}
 use Rattle.scratchpad.specs.declared.MemoryPhase.{MemoryPhase}
 use Rattle.scratchpad.specs.declared.MemoryPhase.the-variants as memory
 use Rattle.ds28ec20.specs.Map.{ds28ec20}
 use Rattle.memory.specs.Part.{mapOf}
-use Rattle.chip.specs.Kinds.{partOf}
-use Rattle.chip.specs.With.{withLevel, withRegisters}
-use Rattle.chip.specs.Chip.{Whole, whole, chipMap, levelReset, resetChip, resetOf}
+use Rattle.ds2413.specs.Switch.{switchPowerOn}
+use Rattle.chip.specs.Kinds.{partOf, hasScratchpad, hasRegisters, hasSwitch}
+use Rattle.chip.specs.With.{withRc, withLevel, withRegisters, withSwitch}
+use Rattle.chip.specs.Chip.{Whole, whole, chipMap, levelReset, resetChip, resetOf, powerOnChip, powerOnPad, powerOnOf}
 use Rattle.chip.specs.declared.Chip.{Chip}
 use Rattle.chip.specs.declared.Level.{Level}
 use Rattle.chip.specs.declared.Level.the-variants.{Waiting, Rom, FunctionCommand, Memory, Pio}
 use Rattle.line.specs.Line.{actOf}
-use Rattle.line.specs.Events.{resetEvent}
-use Rattle.line.specs.declared.Act.the-variants.{Reset}
-use Rattle.histories.specs.Histories.{at, run}
+use Rattle.line.specs.Event.{askedBy, planEvent, outsideFits}
+use Rattle.line.specs.Events.{resetEvent, powerOnEvent}
+use Rattle.line.specs.declared.Act.the-variants.{Reset, PowerOn}
+use Rattle.histories.specs.Histories.{at, afterOf, run}
 use Rattle.histories.specs.Range.{pf-block}
+use Rattle.histories.specs.Place.{at-map}
 use Rattle.recovery.specs.Matched.{reset-after}
 
 -- a reset cuts a Write Scratchpad "before its 16th address bit" and "inside a data byte", at each phase of a memory
@@ -77,6 +81,7 @@ from-five q e h = omega arith
 from-seven : (n : ℕ) → n / 128 ≡ n / 64 / 2
 from-seven n = omega arith
 
+-- an odd number has 1 for its last bit
 odd : (q : ℕ) → (q * 2 + 1) % 2 ≡ 1
 odd q = omega arith
 
@@ -125,12 +130,6 @@ level-reset c e (FunctionCommand count bits) = refl
 level-reset c e (Memory p) = phase-reset (c .registers) (chipMap c .cutSetsPF) (cut-counts (c .kind) e) p
 level-reset c e (Pio p) = refl
 
--- chip i, where the same is done to each chip
-at-map : (f : Whole → Whole) (i : ℕ) (L : List Whole) → i < length L → at i (map f L) ≡ f (at i L)
-at-map f i [] h = absurd (not-suc-le-zero h)
-at-map f zero (w ∷ L) h = refl
-at-map f (suc i) (w ∷ L) h = at-map f i L (omega arith)
-
 -- THEOREM: a reset, on any line and at any level of the DS28EC20 at place i: where it cuts a Write Scratchpad PF is 1, else T and E/S
 -- are as they were; RC, latches, outside levels, memory and scratchpad are as they were
 pub reset-exactly : (i : ℕ) (L : List Whole) → i < length L → at i L .chip .kind ≡ 1
@@ -141,11 +140,44 @@ reset-exactly i L h e =
     let w = at i L in
     ap (at i) (reset-after L) ∙ at-map (actOf Reset) i L h ∙ ap (λ (r : Registers). awaiting r w) (level-reset (w .chip) e (w .chip .level))
 
--- THEOREM: so at whatever count of address bits it cuts a Write Scratchpad
+-- THEOREM: so a reset that cuts a Write Scratchpad sets PF
+pub reset-cuts : (i : ℕ) (L : List Whole) → i < length L → at i L .chip .kind ≡ 1 → isCut (at i L .chip .level) ≡ true
+    → at i (run (resetEvent ∷ []) L) ≡ afterCut (at i L)
+unfolding afterCut
+reset-cuts i L h k e =
+    let w = at i L in
+    reset-exactly i L h k ∙ ap (λ (r : Registers). awaiting r w) (pick-true (isCut (w .chip .level)) _ _ e)
+
+-- THEOREM: and it cuts one at whatever count of address bits
 pub short-address : (i : ℕ) (L : List Whole) → i < length L → at i L .chip .kind ≡ 1
     → (count bits : ℕ) → at i L .chip .level ≡ Memory (memory.WriteAddress count bits)
     → at i (run (resetEvent ∷ []) L) ≡ afterCut (at i L)
-unfolding afterCut pick
-short-address i L h k count bits e =
+short-address i L h k count bits e = reset-cuts i L h k (ap isCut e)
+
+-- a chip after a power on: it waits, RC is 0, "T 0000h, E/S 20h, scratchpad all FFh"; all else is as it was
+unfoldable pub afterPowerOn : Whole → Whole
+afterPowerOn w = whole (withLevel Waiting (withRc false (withRegisters (registers 0x0000 0x20) (w .chip)))) (w .memory) (replicate (length (w .pad)) 0xFF)
+
+-- what power on asks of a kind, of a DS28EC20
+has-registers : (k : ℕ) → k ≡ 1 → hasRegisters k ≡ true
+unfolding hasRegisters
+has-registers k e = ap hasRegisters e
+
+has-pad : (k : ℕ) → k ≡ 1 → hasScratchpad k ≡ true
+unfolding hasScratchpad
+has-pad k e = ap hasScratchpad e
+
+no-switch : (k : ℕ) → k ≡ 1 → hasSwitch k ≡ false
+unfolding hasSwitch
+no-switch k e = ap hasSwitch e
+
+-- THEOREM: a power on in place of the reset is no reset: at any level, inside an address too
+pub power-on-exactly : (i : ℕ) (L : List Whole) → i < length L → at i L .chip .kind ≡ 1 → at i (run (powerOnEvent ∷ []) L) ≡ afterPowerOn (at i L)
+unfolding afterOf planEvent outsideFits askedBy powerOnOf powerOnChip powerOnPad afterPowerOn pick
+power-on-exactly i L h e =
     let w = at i L in
-    reset-exactly i L h k ∙ ap (λ (l : Level). awaiting (pick (isCut l) (pfSet (w .chip .registers)) (w .chip .registers)) w) e
+    let r = pick-true (hasRegisters (w .chip .kind)) powerOnRegisters (w .chip .registers) (has-registers (w .chip .kind) e) in
+    let s = pick-false (hasSwitch (w .chip .kind)) (switchPowerOn (w .chip .switch)) (w .chip .switch) (no-switch (w .chip .kind) e) in
+    let p = pick-true (hasScratchpad (w .chip .kind)) (replicate (length (w .pad)) 0xFF) (w .pad) (has-pad (w .chip .kind) e) in
+    at-map (actOf PowerOn) i L h
+    ∙ (λ j. whole (withLevel Waiting (withRc false (withRegisters (r j) (withSwitch (s j) (w .chip))))) (w .memory) (p j))

@@ -1,5 +1,5 @@
--- Document 02, M-102, "A short address also sets PF.": a whole session, from any state of the line. A Write Scratchpad that a reset
--- cuts inside its address, and one that it cuts straight after it.
+-- Document 02, M-102, "A short address also sets PF.": a whole session of a line whose codes all differ, from any state of it. A
+-- Write Scratchpad that a reset ends inside its address, and one that it ends straight after it.
 use Prim.Native.Nat.{ℕ, _+_, _%_, _<_}
 use native.Mathlib.Omega.{arith}
 use mathlib.Core.Bool.{Bool, true}
@@ -22,7 +22,7 @@ use Rattle.line.specs.Events.{resetEvent}
 use Rattle.line.specs.declared.Event.{Event}
 use Rattle.histories.specs.Histories.{at, run}
 use Rattle.histories.specs.Keeps.{level-either}
-use Rattle.recovery.specs.Sessions.{bitsFrom, opening, session}
+use Rattle.recovery.specs.Sessions.{bitsFrom, opening, matchSession}
 use Rattle.recovery.specs.Filled.{filledBy}
 use Rattle.recovery.specs.Goes.{Goes, goes-from, goes-append, ec20, goes-opening, goes-0F, addressed, goes-address}
 use Rattle.recovery.specs.Among.{among-at}
@@ -33,11 +33,11 @@ use Rattle.commands.specs.Reset.{isCut, awaiting, afterCut, reset-exactl
 
 -- 0Fh and bits of an address, in a session that matches the code
 abbrev pub begunWrite : ℕ → List Bool → List Event
-begunWrite code bits = session code (bitsFrom 8 0 0x0F ++ bits)
+begunWrite code bits = matchSession code (bitsFrom 8 0 0x0F ++ bits)
 
--- the same, and the reset that cuts it
-abbrev pub cutWrite : ℕ → List Bool → List Event
-cutWrite code bits = begunWrite code bits ++ (resetEvent ∷ [])
+-- the same, and a reset
+abbrev pub endedWrite : ℕ → List Bool → List Event
+endedWrite code bits = begunWrite code bits ++ (resetEvent ∷ [])
 
 -- a chip that was matched: RC is 1
 abbrev pub matched : Whole → Whole
@@ -61,18 +61,18 @@ module _ (c : Chip) (m : List ℕ) where
   address-bit v k b r s h = simp (lt-ltb k 15 h)
 
   -- fewer than 16
-  goes-bits : (vs : List Bool) (k n b : ℕ) (r : Registers) (s : List ℕ) → k + length vs ≡ n → n < 16
+  goes-fewer : (vs : List Bool) (k n b : ℕ) (r : Registers) (s : List ℕ) → k + length vs ≡ n → n < 16
       → Goes vs (ec20 c m (Memory (WriteAddress k b)) true r s) (ec20 c m (Memory (WriteAddress n (filledBy 0x8000 b vs))) true r s)
-  goes-bits [] k n b r s e h = let z : k ≡ n = omega arith in ap (λ (j : ℕ). ec20 c m (Memory (WriteAddress j b)) true r s) z
-  goes-bits (v ∷ vs) k n b r s e h =
-      (address-sends k b r s, goes-from vs _ _ _ (address-bit v k b r s (omega arith)) (goes-bits vs (k + 1) n (filled 0x8000 b v) r s (omega arith) h))
+  goes-fewer [] k n b r s e h = let z : k ≡ n = omega arith in ap (λ (j : ℕ). ec20 c m (Memory (WriteAddress j b)) true r s) z
+  goes-fewer (v ∷ vs) k n b r s e h =
+      (address-sends k b r s, goes-from vs _ _ _ (address-bit v k b r s (omega arith)) (goes-fewer vs (k + 1) n (filled 0x8000 b v) r s (omega arith) h))
 
   -- from the reset to there
   goes-short : (vs : List Bool) (rc : Bool) (r : Registers) (s : List ℕ) → length vs < 16
       → Goes (opening (c .code) ++ (bitsFrom 8 0 0x0F ++ vs)) (ec20 c m (Rom (Command 0 0)) rc r s) (ec20 c m (Memory (WriteAddress (length vs) (filledBy 0x8000 0 vs))) true r s)
   goes-short vs rc r s h =
       goes-append (opening (c .code)) (bitsFrom 8 0 0x0F ++ vs) _ _ _ (goes-opening c m rc r s)
-      (goes-append (bitsFrom 8 0 0x0F) vs _ _ _ (goes-0F c m r s) (goes-bits vs 0 (length vs) 0 r s (omega arith) h))
+      (goes-append (bitsFrom 8 0 0x0F) vs _ _ _ (goes-0F c m r s) (goes-fewer vs 0 (length vs) 0 r s (omega arith) h))
 
   -- all 16
   goes-whole : (t : ℕ) (rc : Bool) (r : Registers) (s : List ℕ) → t < 0x10000
@@ -104,8 +104,10 @@ module _ (i : ℕ) (L : List Whole) (s : Installed i L) where
   first = levelReset (own .chip) (own .chip .level)
 
   -- where bits that go so for the chip alone bring it on the line
-  comes : (vs : List Bool) (u : Whole) → Goes (opening code ++ vs) (ec20 (own .chip) (own .memory) (Rom (Command 0 0)) (own .chip .rc) first (own .pad)) u → at i (run (session code vs) L) ≡ u
-  comes vs u g = among-at (session-among i L s code refl vs u (goes-from (opening code ++ vs) _ _ _ (reset-is own (s .kind)) g))
+  brings : (vs : List Bool) (u : Whole)
+      → Goes (opening code ++ vs) (ec20 (own .chip) (own .memory) (Rom (Command 0 0)) (own .chip .rc) first (own .pad)) u
+      → at i (run (matchSession code vs) L) ≡ u
+  brings vs u g = among-at (session-among i L s code refl vs u (goes-from (opening code ++ vs) _ _ _ (reset-is own (s .kind)) g))
 
   -- a chip that was matched, with its kind written out
   ec20-is : (r : Registers) → awaiting r (ec20 (own .chip) (own .memory) (Rom (Command 0 0)) true r (own .pad)) ≡ awaiting r (matched own)
@@ -114,7 +116,7 @@ module _ (i : ℕ) (L : List Whole) (s : Installed i L) where
   module _ (bits : List Bool) (h : length bits < 16) where
     -- the chip with these bits of an address in
     begun : at i (run (begunWrite code bits) L) ≡ ec20 (own .chip) (own .memory) (Memory (WriteAddress (length bits) (filledBy 0x8000 0 bits))) true first (own .pad)
-    begun = comes (bitsFrom 8 0 0x0F ++ bits) _ (goes-short (own .chip) (own .memory) bits (own .chip .rc) first (own .pad) h)
+    begun = brings (bitsFrom 8 0 0x0F ++ bits) _ (goes-short (own .chip) (own .memory) bits (own .chip .rc) first (own .pad) h)
 
     -- THEOREM: a reset, a match, 0Fh and fewer than 16 bits of an address leave T and E/S as that reset left them ..
     pub short-before : at i (run (begunWrite code bits) L) .chip .registers ≡ resetOf own .chip .registers
@@ -123,7 +125,7 @@ module _ (i : ℕ) (L : List Whole) (s : Installed i L) where
 
     -- THEOREM: .. and the next reset sets PF: from any state of the line, the chip is as it was but for PF = 1, RC = 1 by the match,
     -- and its level
-    pub short-write : at i (run (cutWrite code bits) L) ≡ afterCut (matched own)
+    pub short-write : at i (run (endedWrite code bits) L) ≡ afterCut (matched own)
     unfolding afterCut
     short-write =
         let k = installed-run i (begunWrite code bits) L s in
@@ -134,12 +136,12 @@ module _ (i : ℕ) (L : List Whole) (s : Installed i L) where
         ∙ ap (λ (r : Registers). awaiting r (matched own)) (opened own)
 
   -- THEOREM: with all 16 bits in, the address is taken, and the reset is no cut
-  pub whole-address : (t : ℕ) → t < 0x10000 → at i (run (cutWrite code (bitsFrom 16 0 t)) L) ≡ afterAddress t (matched own)
+  pub whole-address : (t : ℕ) → t < 0x10000 → at i (run (endedWrite code (bitsFrom 16 0 t)) L) ≡ afterAddress t (matched own)
   unfolding afterAddress pick
   whole-address t h =
       let bits = bitsFrom 16 0 t in
       let u = addressed (own .chip) (own .memory) (own .pad) t in
-      let e : at i (run (begunWrite code bits) L) ≡ u = comes (bitsFrom 8 0 0x0F ++ bits) u (goes-whole (own .chip) (own .memory) t (own .chip .rc) first (own .pad) h) in
+      let e : at i (run (begunWrite code bits) L) ≡ u = brings (bitsFrom 8 0 0x0F ++ bits) u (goes-whole (own .chip) (own .memory) t (own .chip .rc) first (own .pad) h) in
       let k = installed-run i (begunWrite code bits) L s in
       ap (at i) (run-append (begunWrite code bits) (resetEvent ∷ []) L)
       ∙ reset-exactly i (run (begunWrite code bits) L) (k .attached) (k .kind)

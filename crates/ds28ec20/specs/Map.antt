@@ -52,7 +52,7 @@ closedToCopying page control lock =
 unfoldable pub padEnd : ℕ → ℕ
 padEnd es = 31
 
--- the map of a DS28EC20; document 02, M-102: "a Write Scratchpad cut before its 16th address bit .. sets PF. From now on it does"
+-- the map of a DS28EC20; a short address: "the flow chart of source document 003 notes that it sets PF. From now on it does" (02, M-102)
 unfoldable pub ds28ec20 : Map
 ds28ec20 =
     record {

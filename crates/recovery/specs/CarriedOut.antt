@@ -1,11 +1,10 @@
 -- Which slots carry out a copy; and a chip that carries out none keeps its memory.
-use Prim.Native.Nat.{ℕ, zero, suc, _<_}
+use Prim.Native.Nat.{ℕ}
 use mathlib.Core.Bool.{Bool, true, false, true≢false}
 use mathlib.Core.List.{List, [], _∷_, map}
 use mathlib.Core.Path.{_≡_, refl, _∙_, ap}
 use lib.Dec.{ltb}
-use borrow.Author.Tests.{ltb-true}
-use Rattle.base.specs.Pick.{pick, pick-both, pick-if}
+use Rattle.base.specs.Pick.{pick}
 use Rattle.base.specs.Bits.{filled}
 use Rattle.scratchpad.specs.Scratchpad.{carriedOut, authorized, copyEnd}
 use Rattle.scratchpad.specs.declared.MemoryAfter.{MemoryAfter}
@@ -15,14 +14,15 @@ use Rattle.scratchpad.specs.declared.Deed.the-variants.{Nothing, Put, Copy}
 use Rattle.memory.specs.Memory.{done}
 use Rattle.chip.specs.Chip.{Whole, chipMap, levelSeen, levelTakesBy, memorySight, memorySlot, takesOf, resetOf, powerOnOf, outsideOf}
 use Rattle.chip.specs.declared.Level.{Level}
-use Rattle.chip.specs.declared.Level.the-variants.{Waiting, Rom, FunctionCommand, Memory, Pio}
-use Rattle.line.specs.Line.{valueOf, actOf, outsideAt, afterBy}
+use Rattle.chip.specs.declared.Level.the-variants.{Memory}
+use Rattle.line.specs.Line.{valueOf, actOf, afterBy}
 use Rattle.line.specs.Event.{planOn}
 use Rattle.line.specs.declared.Plan.{Plan}
 use Rattle.line.specs.declared.Plan.the-variants as plan
 use Rattle.line.specs.declared.Event.{Event}
 use Rattle.line.specs.declared.Act.the-variants.{Take, Reset, PowerOn}
 use Rattle.histories.specs.Histories.{at, afterOf, run}
+use Rattle.histories.specs.Place.{map-at, outside-at}
 
 -- the deed is a copy
 abbrev pub isCopy : Deed → Bool
@@ -91,17 +91,7 @@ module _ (w : Whole) where
 
 -- chip i, where the same is done to each chip
 map-stays : (f : Whole → Whole) (i : ℕ) (L : List Whole) → f (at i L) .memory ≡ at i L .memory → at i (map f L) .memory ≡ at i L .memory
-map-stays f i [] e = refl
-map-stays f zero (w ∷ L) e = e
-map-stays f (suc i) (w ∷ L) e = map-stays f i L e
-
--- chip i, where one chip has new outside levels
-outside-at : (i j l : ℕ) (L : List Whole) → at i (outsideAt j l L) .memory ≡ at i L .memory
-outside-at i j l [] = refl
-outside-at zero zero l (w ∷ L) = outside-stay w l
-outside-at (suc i) zero l (w ∷ L) = refl
-outside-at zero (suc j) l (w ∷ L) = refl
-outside-at (suc i) (suc j) l (w ∷ L) = outside-at i j l L
+map-stays f i L e = map-at (λ (w : Whole). w .memory ≡ at i L .memory) f i L refl e
 
 -- chip i over one event
 plan-stays : (i : ℕ) (p : Plan) (L : List Whole) → Idle p i L → at i (afterBy p L) .memory ≡ at i L .memory
@@ -109,7 +99,7 @@ plan-stays i (plan.Refused r) L n = refl
 plan-stays i (plan.Slot b) L n = map-stays (actOf (Take (valueOf b L))) i L (slot-stays (at i L) (valueOf b L) n)
 plan-stays i plan.Reset L n = map-stays (actOf Reset) i L (reset-stays (at i L))
 plan-stays i plan.PowerOn L n = map-stays (actOf PowerOn) i L (power-stays (at i L))
-plan-stays i (plan.Outside j l) L n = outside-at i j l L
+plan-stays i (plan.Outside j l) L n = outside-at (λ (w : Whole). w .memory ≡ at i L .memory) i j l L refl (outside-stay (at i L) l)
 
 event-stays : (i : ℕ) (e : Event) (L : List Whole) → Idle (planOn e L) i L → at i (afterOf e L) .memory ≡ at i L .memory
 unfolding afterOf

@@ -1,6 +1,6 @@
 -- "Recovery after noise: after a reset, a match and a full-page scratchpad write, a chip's whole state no longer depends on what
 -- happened between, unless it copied."
--- The words are: SetUp in SetUp.antt; NoCopy in CarriedOut.antt; Page, write and Addressed in Sessions.antt; writtenTo in
+-- The words are: Installed in Installed.antt; NoCopy in CarriedOut.antt; Page, write and Addressed in Sessions.antt; writtenTo in
 -- Written.antt; Recovered in Recovery.antt.
 use Prim.Native.Nat.{ℕ}
 use mathlib.Core.List.{List, _++_}

@@ -17,7 +17,7 @@ use Rattle.line.specs.declared.Act.the-variants.{Reset}
 use Rattle.line.specs.declared.Plan.{Plan}
 use Rattle.line.specs.declared.Plan.the-variants as plan
 use Rattle.histories.specs.Histories.{at, answerOf, afterOf, run, answers, came}
-use Rattle.recovery.specs.Sessions.{opening, Addressed, slots, slotted, session}
+use Rattle.recovery.specs.Sessions.{opening, Addressed, slots, slotted, matchSession}
 use Rattle.recovery.specs.Among.{Own, Among, ownRun, ownAnswers, toComes, both-one, alone, alone-answers}
 use Rattle.recovery.specs.Goes.{Goes, ofKind, ec20}
 use Rattle.recovery.specs.Installed.{Installed, reset-among, reset-own}
@@ -88,7 +88,7 @@ module _ (i : ℕ) (L : List Whole) (s : Installed i L) (code : ℕ) (e : at i L
   among = subst (λ (c : ℕ). Among c (opening c) (resetOf (at i L)) i (map (actOf Reset) L)) e (reset-among i L s)
 
   -- THEOREM: on the line chip i comes to u, among chips of other codes that wait
-  pub session-among : Among code [] u i (run (session code vs) L)
+  pub session-among : Among code [] u i (run (matchSession code vs) L)
   session-among =
       let sent = opening code ++ vs in
       let K = map (actOf Reset) L in
@@ -99,7 +99,7 @@ module _ (i : ℕ) (L : List Whole) (s : Installed i L) (code : ℕ) (e : at i L
       (alone code (opening code) (slots sent) (resetOf (at i L)) i K (addressed-slots code (opening code) vs K) own among))))
 
   -- THEOREM: and every bit of the session is on the line as the host wrote it
-  pub session-answers : answers (session code vs) L ≡ bit false ∷ map bit (opening code ++ vs)
+  pub session-answers : answers (matchSession code vs) L ≡ bit false ∷ map bit (opening code ++ vs)
   session-answers =
       let sent = opening code ++ vs in
       ap (λ (a : Answered). a ∷ answers (slots sent) (afterOf resetEvent L)) (reset-answer i L (s .attached))

@@ -57,9 +57,9 @@ slots vs = map slotEvent vs
 abbrev pub slotted : List Bool → List Plan
 slotted vs = map (λ (v : Bool). plan.Slot v) vs
 
--- a session: a reset, a match of the code, and these bits
-abbrev pub session : ℕ → List Bool → List Event
-session code vs = resetEvent ∷ slots (opening code ++ vs)
+-- a session that matches a code: a reset, Match ROM of the code, and these bits
+abbrev pub matchSession : ℕ → List Bool → List Event
+matchSession code vs = resetEvent ∷ slots (opening code ++ vs)
 
 -- 0Fh, the address t, the bytes
 abbrev pub writeBits : ℕ → List ℕ → List Bool
@@ -67,7 +67,7 @@ writeBits t bytes = bitsFrom 8 0 0x0F ++ (bitsFrom 16 0 t ++ bitsOf bytes)
 
 -- a reset, a match of the code, and Write Scratchpad of these bytes at t
 abbrev pub write : ℕ → ℕ → List ℕ → List Event
-write code t bytes = session code (writeBits t bytes)
+write code t bytes = matchSession code (writeBits t bytes)
 
 -- numbers below 256
 abbrev pub Bytes : List ℕ → Type 0

@@ -163,9 +163,9 @@ memorySends r see (ReadMemory address count) = bitOf (see .memory) count
 unfoldable pub cutOf : Registers → Bool → Registers
 cutOf r counts = pick counts (pfSet r) r
 
--- what a reset does to the registers at each phase. Document 02, M-102, of "a Write Scratchpad cut before its 16th address bit":
--- it sets PF "at the reset; T, E and AA stay. A cut before the first address bit counts too."; cut is what the part's map says of
--- it. "A reset inside a data byte sets PF; its bits are lost, E stays (here)."
+-- what a reset does to the registers at each phase. Inside a data byte: "A reset inside a data byte sets PF; its bits are lost, E
+-- stays (here)." Inside an address, where the part's map says so (cut), by document 02, M-102: "the flow chart of source document 003
+-- notes that it sets PF. From now on it does, at the reset; T, E and AA stay. A cut before the first address bit counts too."
 abbrev pub memoryReset : Registers → Bool → MemoryPhase → Registers
 memoryReset r cut Ones = r
 memoryReset r cut (WriteAddress count bits) = cutOf r cut
