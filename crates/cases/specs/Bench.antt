@@ -1,24 +1,23 @@
 -- What a bench does: a line set up from a card, sessions put on it, and bytes read.
 use Prim.Native.Nat.{ℕ, zero, suc, _+_, _*_}
-use mathlib.Core.Bool.{Bool, true, false}
-use mathlib.Core.List.{List, [], _∷_, _++_, map}
+use mathlib.Core.Bool.{true}
+use mathlib.Core.List.{List, [], _∷_}
 use lib.ListN.{replicate, take, drop, getD, set}
 use Rattle.base.specs.Pick.{pick}
-use Rattle.base.specs.Bits.{bitOf}
 use Rattle.scratchpad.specs.declared.MemoryPhase.{MemoryPhase}
 use Rattle.chip.specs.With.{withLevel}
 use Rattle.chip.specs.Chip.{Whole, whole}
 use Rattle.chip.specs.declared.Level.the-variants.{Memory}
-use Rattle.chip.specs.Kinds.{imageSize, padSize}
 use Rattle.chip.specs.With.{noChip}
-use Rattle.line.specs.Event.{Answered, bit, refused}
+use Rattle.line.specs.Event.{Answered, bit}
 use Rattle.line.specs.Layout.{lineOf, imagesSize, padsSize}
 use Rattle.line.specs.declared.Event.{Event}
 use Rattle.card.specs.Card.{SetUp, setUpOf}
 use Rattle.search.specs.Search.{Attached, attached}
 use Rattle.line.specs.Events.{slotEvent, resetEvent, powerOnEvent}
 use Rattle.search.specs.Host.{heard}
-use Rattle.histories.specs.Histories.{at, run, answers}
+use Rattle.histories.specs.Histories.{run, answers}
+use Rattle.histories.specs.Sent.{written}
 
 -- a table of 16 places without chips
 abbrev emptySetUp : List ℕ → SetUp
@@ -41,17 +40,6 @@ tableOfCard card =
 -- a record of a card: its kind and its code, first byte first
 abbrev pub record12 : ℕ → ℕ → List ℕ
 record12 kind family = 10 ∷ 0 ∷ kind ∷ 0 ∷ family ∷ 0 ∷ 0 ∷ 0 ∷ 0 ∷ 0 ∷ 0 ∷ 0 ∷ []
-
--- eight slots that write a byte, least significant bit first
-abbrev pub byteSlots : ℕ → List Event
-byteSlots b =
-    slotEvent (bitOf b 0) ∷ slotEvent (bitOf b 1) ∷ slotEvent (bitOf b 2) ∷ slotEvent (bitOf b 3)
-    ∷ slotEvent (bitOf b 4) ∷ slotEvent (bitOf b 5) ∷ slotEvent (bitOf b 6) ∷ slotEvent (bitOf b 7) ∷ []
-
--- the slots that write some bytes
-abbrev pub written : List ℕ → List Event
-written [] = []
-written (b ∷ bs) = byteSlots b ++ written bs
 
 -- a session to every chip: a reset, Skip ROM, and bytes
 abbrev pub session : List ℕ → List Event

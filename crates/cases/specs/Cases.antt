@@ -13,9 +13,10 @@ use Rattle.scratchpad.specs.Registers.{registers}
 use Rattle.scratchpad.specs.declared.MemoryPhase.the-variants.{SendCrc}
 use Rattle.search.specs.Search.{Attached, searchOf, complete, refused}
 use Rattle.histories.specs.Histories.{at, run, lineWire}
+use Rattle.histories.specs.Sent.{written}
 use Rattle.line.specs.Events.{resetEvent, powerOnEvent, outsideEvent}
 use Rattle.search.specs.Host.{listed, play, searchHost}
-use Rattle.cases.specs.Bench.{lineOfCard, tableOfCard, record12, session, written, bytesRead, bitsRead, withByte, atPhase}
+use Rattle.cases.specs.Bench.{lineOfCard, tableOfCard, record12, session, bytesRead, bitsRead, withByte, atPhase}
 
 -- one DS28EC20, and one DS2413
 abbrev pub memoryLine : List Whole

@@ -15,7 +15,7 @@ use Rattle.search.specs.Search.{Attached}
 use Rattle.histories.specs.Histories.{at, run}
 use Rattle.histories.specs.Standing.{Stands, lineFrom, line-length}
 use Rattle.histories.specs.Joined.{runOn, run-joined, stands-on}
-use Rattle.recovery.specs.Sessions.{bitsFrom}
+use Rattle.histories.specs.Sent.{bitsFrom}
 use Rattle.recovery.specs.CarriedOut.{NoCopy}
 use Rattle.recovery.specs.Public.{chipOf, TableInstalled, line-installed}
 use Rattle.commands.specs.Reset.{isCut, awaiting, afterCut, afterPowerOn, reset-exactly, short-address, power-on-exactly}

@@ -22,7 +22,8 @@ use Rattle.line.specs.Events.{resetEvent}
 use Rattle.line.specs.declared.Event.{Event}
 use Rattle.histories.specs.Histories.{at, run}
 use Rattle.histories.specs.Keeps.{level-either}
-use Rattle.recovery.specs.Sessions.{bitsFrom, opening, matchSession}
+use Rattle.histories.specs.Sent.{bitsFrom}
+use Rattle.recovery.specs.Sessions.{opening, matchSession}
 use Rattle.recovery.specs.Filled.{filledBy}
 use Rattle.recovery.specs.Goes.{Goes, goes-from, goes-append, ec20, goes-opening, goes-0F, addressed, goes-address}
 use Rattle.recovery.specs.Among.{among-at}

@@ -22,6 +22,10 @@ at i L = getD L i noWhole
 abbrev pub codesOf : List Whole → List ℕ
 codesOf L = map (λ (w : Whole). w .chip .code) L
 
+-- and their kinds
+abbrev pub kindsOf : List Whole → List ℕ
+kindsOf L = map (λ (w : Whole). w .chip .kind) L
+
 -- what an event answers on a line that stands well, and the line that it leaves; a refused event leaves it as it was
 unfoldable pub answerOf : Event → List Whole → Answered
 answerOf e L = answerBy (planOn e L) L

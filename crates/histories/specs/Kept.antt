@@ -4,6 +4,7 @@ use Prim.Native.Nat.{ℕ, zero, suc, _≤_}
 use mathlib.Core.Bool.{true}
 use mathlib.Core.List.{List, [], _∷_, map}
 use mathlib.Core.Path.{_≡_, refl, _∙_, ap}
+use lib.ListN.{length}
 use Rattle.chip.specs.Kinds.{takesOutside}
 use Rattle.chip.specs.Chip.{Whole, outsideOf}
 use Rattle.line.specs.Line.{valueOf, actOf, outsideAt, afterBy}
@@ -14,8 +15,9 @@ use Rattle.line.specs.declared.Event.{Event}
 use Rattle.line.specs.declared.Act.{Act}
 use Rattle.line.specs.declared.Plan.{Plan}
 use Rattle.line.specs.declared.Act.the-variants.{Take, Reset, PowerOn}
-use Rattle.histories.specs.Histories.{noWhole, at, afterOf, run}
-use Rattle.histories.specs.Standing.{at-chip}
+use Rattle.histories.specs.Histories.{noWhole, at, codesOf, kindsOf, afterOf, run}
+use Rattle.histories.specs.Keeps.{Named, act-named, outside-named}
+use Rattle.histories.specs.Standing.{at-chip, after-length}
 
 -- two lines of one length, chip by chip
 pub data Each (R : Whole → Whole → Type 0) : List Whole → List Whole → Type 0 where
@@ -72,3 +74,20 @@ module _ (R : Whole → Whole → Type 0) (same : (w : Whole) → R w w) (onto :
   pub run-kept : (es : List Event) (L : List Whole) → Each R L (run es L)
   run-kept [] L = each-same L
   run-kept (e ∷ es) L = each-onto (after-kept e L) (run-kept es (afterOf e L))
+
+-- every chip over a history keeps its code and its kind
+run-named : (es : List Event) (L : List Whole) → Each Named L (run es L)
+run-named es L = run-kept Named (λ w. (refl, refl)) (λ w u x r q. (q .0 ∙ r .0, q .1 ∙ r .1)) act-named (λ l w e h. outside-named l w) es L
+
+-- so a history leaves the codes of a line
+pub run-codes : (es : List Event) (L : List Whole) → codesOf (run es L) ≡ codesOf L
+run-codes es L = each-map (λ (w : Whole). w .chip .code) (λ w u s. s .0) (run-named es L)
+
+-- its kinds
+pub run-kinds : (es : List Event) (L : List Whole) → kindsOf (run es L) ≡ kindsOf L
+run-kinds es L = each-map (λ (w : Whole). w .chip .kind) (λ w u s. s .1) (run-named es L)
+
+-- and the number of its chips
+pub run-length : (es : List Event) (L : List Whole) → length (run es L) ≡ length L
+run-length [] L = refl
+run-length (e ∷ es) L = run-length es (afterOf e L) ∙ after-length e L

@@ -1,17 +1,15 @@
 -- A line that stands well goes on standing well: refusals 8 and 5 never come up in a history from a good line, and what the public
 -- event does to a table and its buffers is what happens to the line of whole chips.
-use Prim.Native.Nat.{ℕ, zero, suc, _+_, _<_, _≤_}
+use Prim.Native.Nat.{ℕ, zero, suc, _+_, _≤_}
 use native.Mathlib.Omega.{arith}
-use native.Mathlib.Nat.{not-suc-le-zero, le-of-suc-le-suc}
 use mathlib.Core.Bool.{Bool, true, false, true≢false}
 use mathlib.Core.List.{List, [], _∷_, _++_, map}
 use mathlib.Core.Path.{_≡_, refl, _∙_, ap, sym}
-use lib.Dec.{eqb, ltb, leb}
+use lib.Dec.{leb}
 use lib.ListN.{length, take, drop, getD, length-append, length-drop, take-append-drop}
 use lib.Seq.{length-take-le, take-at, drop-at}
-use borrow.Author.Tests.{eqb-true, leb-true, le-leb, eq-eqb}
+use borrow.Author.Tests.{le-leb, eq-eqb}
 use Rattle.base.specs.Pick.{pick, pick-true, pick-if}
-use Rattle.base.specs.Bits.{both}
 use Rattle.base.specs.Both.{both-holds}
 use Rattle.chip.specs.Chip.{Whole}
 use Rattle.chip.specs.Range.{inRange}
@@ -20,7 +18,7 @@ use Rattle.chip.specs.declared.Chip.{Chip}
 use Rattle.line.specs.Line.{valueOf, actOf, outsideAt, afterBy}
 use Rattle.line.specs.Layout.{imagesSize, padsSize, split, chipsOf, imagesOf, padsOf, lent, lineOf, lentFrom}
 use Rattle.chip.specs.With.{noChip}
-use Rattle.line.specs.Event.{allInRange, tableInRange, sizesFit, verdictOf, askedBy, planIn, planBy, planOf, planOn, answerBy, doneOf, eventOf}
+use Rattle.line.specs.Event.{allInRange, tableInRange, sizesFit, planIn, planBy, planOf, planOn, answerBy, doneOf, eventOf}
 use Rattle.line.specs.Refusals.{chips-split, images-split, pads-split, fit, in-range-few, well-judged, Comes, slot, reset, power-on, outside, refused, comes}
 use Rattle.line.specs.Prefix.{length-split, length-after}
 use Rattle.line.specs.declared.Event.{Event}

@@ -3,8 +3,8 @@ use Prim.Native.Nat.{ℕ, zero, suc, _^_, _<_}
 use mathlib.Core.Bool.{Bool, true, false}
 use mathlib.Core.List.{List, [], _∷_, map}
 use mathlib.Core.Path.{_≡_, refl, _∙_, ap, sym}
-use lib.ListN.{length, getD}
-use Rattle.base.specs.Pick.{pick, pick-true}
+use lib.ListN.{length, length-map, getD}
+use Rattle.base.specs.Pick.{pick-true}
 use Rattle.base.specs.Bits.{both}
 use Rattle.chip.specs.Kinds.{takesOutside}
 use Rattle.chip.specs.Chip.{Whole, takesOf, sendsOf, resetOf, powerOnChip, powerOnOf, outsideChip, outsideOf}
@@ -20,11 +20,12 @@ use Rattle.line.specs.declared.Event.{Event}
 use Rattle.line.specs.declared.Plan.{Plan}
 use Rattle.line.specs.declared.Plan.the-variants as plan
 use Rattle.line.specs.declared.Act.the-variants.{Take, Reset, PowerOn}
-use Rattle.histories.specs.Histories.{at, answerOf, afterOf, run, answers, came}
+use Rattle.histories.specs.Histories.{at, kindsOf, answerOf, afterOf, run, answers, came}
 use Rattle.histories.specs.Keeps.{act-named}
+use Rattle.histories.specs.Kept.{run-kinds}
 use Rattle.histories.specs.Standing.{at-chip, length-chips}
 use Rattle.recovery.specs.Sessions.{opening, toCome, Next, Addressed}
-use Rattle.recovery.specs.Stays.{not-taken, kindsOf, length-kinds, run-kinds}
+use Rattle.recovery.specs.Stays.{not-taken}
 use Rattle.recovery.specs.Opening.{Silent, Waits, waiting-takes, opening-silent}
 
 -- a chip that has another code, with these bits of an opening to come
@@ -216,7 +217,7 @@ abbrev planAmong : Event → List ℕ → Plan
 planAmong e ks = planEvent e (length ks) (getD ks (e .chip) 0)
 
 plan-among : (e : Event) (L : List Whole) → planOn e L ≡ planAmong e (kindsOf L)
-plan-among e L = λ j. planEvent e ((length-chips L ∙ sym (length-kinds L)) j) (kind-at (e .chip) L j)
+plan-among e L = λ j. planEvent e ((length-chips L ∙ sym (length-map L (λ (w : Whole). w .chip .kind))) j) (kind-at (e .chip) L j)
 
 -- and so does what a history comes to
 pub came-alike : (es : List Event) (A B : List Whole) → kindsOf A ≡ kindsOf B → came es A ≡ came es B

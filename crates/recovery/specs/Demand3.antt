@@ -10,7 +10,8 @@ use Rattle.line.specs.declared.Event.{Event}
 use Rattle.histories.specs.Histories.{at, run}
 use Rattle.recovery.specs.Sessions.{write, Page}
 use Rattle.recovery.specs.CarriedOut.{NoCopy, no-copy}
-use Rattle.recovery.specs.Stays.{run-stays, run-kinds}
+use Rattle.histories.specs.Kept.{run-kinds}
+use Rattle.recovery.specs.Stays.{run-stays}
 use Rattle.recovery.specs.Among.{among-at}
 use Rattle.recovery.specs.Written.{writtenTo}
 use Rattle.recovery.specs.Installed.{Installed, installed-run}

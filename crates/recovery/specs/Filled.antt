@@ -10,7 +10,7 @@ use lib.Bits.{shifted-half}
 use lib.Pow.{pow-add, mod-pow-add}
 use Rattle.base.specs.Pick.{pick}
 use Rattle.base.specs.Bits.{bitOf, filled}
-use Rattle.recovery.specs.Sessions.{bitsFrom}
+use Rattle.histories.specs.Sent.{bitsFrom}
 
 -- a register after these bits
 abbrev pub filledBy : ℕ → ℕ → List Bool → ℕ

@@ -20,7 +20,8 @@ use Rattle.chip.specs.Chip.{Whole, whole, romSlot, functionIn, functionSlot, me
 use Rattle.chip.specs.declared.Chip.{Chip}
 use Rattle.chip.specs.declared.Level.{Level}
 use Rattle.chip.specs.declared.Level.the-variants.{Rom, FunctionCommand, Memory}
-use Rattle.recovery.specs.Sessions.{bitsFrom, opening}
+use Rattle.histories.specs.Sent.{bitsFrom}
+use Rattle.recovery.specs.Sessions.{opening}
 use Rattle.recovery.specs.Filled.{filledBy, address-taken}
 
 -- fed these bits, a chip sends 1 all along and comes to exactly u

@@ -17,7 +17,8 @@ use Rattle.line.specs.declared.Act.the-variants.{Reset}
 use Rattle.line.specs.declared.Plan.{Plan}
 use Rattle.line.specs.declared.Plan.the-variants as plan
 use Rattle.histories.specs.Histories.{at, answerOf, afterOf, run, answers, came}
-use Rattle.recovery.specs.Sessions.{opening, Addressed, slots, slotted, matchSession}
+use Rattle.histories.specs.Sent.{slots}
+use Rattle.recovery.specs.Sessions.{opening, Addressed, slotted, matchSession}
 use Rattle.recovery.specs.Among.{Own, Among, ownRun, ownAnswers, toComes, both-one, alone, alone-answers}
 use Rattle.recovery.specs.Goes.{Goes, ofKind, ec20}
 use Rattle.recovery.specs.Installed.{Installed, reset-among, reset-own}

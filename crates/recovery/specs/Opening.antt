@@ -19,7 +19,8 @@ use Rattle.chip.specs.Chip.{Whole, whole, levelOf, romSlot, takesOf, sendsOf, r
 use Rattle.chip.specs.Level.{takes-in, sends-in}
 use Rattle.chip.specs.declared.Level.{Level}
 use Rattle.chip.specs.declared.Level.the-variants.{Waiting, Rom}
-use Rattle.recovery.specs.Sessions.{bitsFrom, opening}
+use Rattle.histories.specs.Sent.{bitsFrom}
+use Rattle.recovery.specs.Sessions.{opening}
 
 -- a chip after outside levels, one after the other
 abbrev pub outsides : List ℕ → Whole → Whole

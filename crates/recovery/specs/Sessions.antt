@@ -1,25 +1,15 @@
--- What a host sends: bits of numbers, the opening that matches a code, histories in which every session opens so, and the
--- session that writes a whole page into a scratchpad.
-use Prim.Native.Nat.{ℕ, zero, suc, _+_, _%_, _<_}
+-- Sessions: the opening that matches a code, histories in which every session opens so, and the session that writes a whole page
+-- into a scratchpad.
+use Prim.Native.Nat.{ℕ, _%_, _<_}
 use mathlib.Core.Bool.{Bool}
 use mathlib.Core.List.{List, [], _∷_, _++_, map}
 use mathlib.Core.Path.{_≡_}
 use lib.ListN.{length}
-use Rattle.base.specs.Bits.{bitOf}
 use Rattle.line.specs.declared.Event.{Event}
 use Rattle.line.specs.declared.Plan.{Plan}
 use Rattle.line.specs.declared.Plan.the-variants as plan
-use Rattle.line.specs.Events.{slotEvent, resetEvent}
-
--- so many bits of a number from a place on, least significant first
-abbrev pub bitsFrom : ℕ → ℕ → ℕ → List Bool
-bitsFrom zero place n = []
-bitsFrom (suc k) place n = bitOf n place ∷ bitsFrom k (place + 1) n
-
--- the eight bits of each byte
-abbrev pub bitsOf : List ℕ → List Bool
-bitsOf [] = []
-bitsOf (b ∷ bs) = bitsFrom 8 0 b ++ bitsOf bs
+use Rattle.line.specs.Events.{resetEvent}
+use Rattle.histories.specs.Sent.{bitsFrom, bitsOf, slots}
 
 -- "55h: RC = 0, then take 64 bits.": the bits by which a session matches a code
 abbrev pub opening : ℕ → List Bool
@@ -49,11 +39,7 @@ abbrev pub Addressed : ℕ → List Bool → List Plan → Type 0
 Addressed code bs [] = Unit
 Addressed code bs (p ∷ ps) = Next bs p × Addressed code (toCome code bs p) ps
 
--- slots of these bits
-abbrev pub slots : List Bool → List Event
-slots vs = map slotEvent vs
-
--- what they come to
+-- what slots of these bits come to
 abbrev pub slotted : List Bool → List Plan
 slotted vs = map (λ (v : Bool). plan.Slot v) vs
 

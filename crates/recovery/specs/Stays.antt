@@ -1,9 +1,8 @@
 -- What no event changes: a chip's code and kind, its good standing, and all of a DS28EC20's record that a session does not set.
-use Prim.Native.Nat.{ℕ, suc, _≤_}
+use Prim.Native.Nat.{ℕ, _≤_}
 use mathlib.Core.Bool.{Bool, true, false, true≢false}
-use mathlib.Core.List.{List, [], _∷_, map}
+use mathlib.Core.List.{List}
 use mathlib.Core.Path.{_≡_, refl, _∙_, ap, sym}
-use lib.ListN.{length}
 use Rattle.base.specs.Pick.{pick, pick-false, pick-both, pick-if}
 use Rattle.base.specs.Both.{both-holds}
 use Rattle.ds2413.specs.Switch.{phaseInRange}
@@ -21,9 +20,9 @@ use Rattle.line.specs.Line.{actOf}
 use Rattle.line.specs.declared.Act.{Act}
 use Rattle.line.specs.declared.Act.the-variants.{Take, Reset, PowerOn}
 use Rattle.line.specs.declared.Event.{Event}
-use Rattle.histories.specs.Histories.{at, run, codesOf}
+use Rattle.histories.specs.Histories.{at, run}
 use Rattle.histories.specs.Keeps.{Good, act-good, act-named, outside-good, outside-named}
-use Rattle.histories.specs.Kept.{Each, each-at, each-map, run-kept}
+use Rattle.histories.specs.Kept.{Each, each-at, run-kept}
 
 -- a chip's record without what a session sets: its level, RC, T and E/S
 abbrev pub bare : Chip → Chip
@@ -102,24 +101,3 @@ run-each es L = run-kept Stays stays-same stays-onto act-stays outside-stays es 
 -- chip i over a history
 pub run-stays : (i : ℕ) (es : List Event) (L : List Whole) → Stays (at i L) (at i (run es L))
 run-stays i es L = each-at (stays-same _) i (run-each es L)
-
--- the kinds of a line
-abbrev pub kindsOf : List Whole → List ℕ
-kindsOf L = map (λ (w : Whole). w .chip .kind) L
-
--- a history leaves the codes
-pub run-codes : (es : List Event) (L : List Whole) → codesOf (run es L) ≡ codesOf L
-run-codes es L = each-map (λ (w : Whole). w .chip .code) (λ w u s. s .code) (run-each es L)
-
--- a history leaves the kinds
-pub run-kinds : (es : List Event) (L : List Whole) → kindsOf (run es L) ≡ kindsOf L
-run-kinds es L = each-map (λ (w : Whole). w .chip .kind) (λ w u s. s .kind) (run-each es L)
-
--- a line has as many kinds as chips
-pub length-kinds : (L : List Whole) → length (kindsOf L) ≡ length L
-length-kinds [] = refl
-length-kinds (w ∷ L) = ap suc (length-kinds L)
-
--- a history leaves the number of chips
-pub run-length : (es : List Event) (L : List Whole) → length (run es L) ≡ length L
-run-length es L = sym (length-kinds (run es L)) ∙ ap length (run-kinds es L) ∙ length-kinds L
