@@ -9,11 +9,10 @@ use Rattle.chip.specs.declared.Chip.{Chip}
 use Rattle.line.specs.Layout.{chipsOf, imagesOf, padsOf, lent}
 use Rattle.line.specs.Event.{Answered}
 use Rattle.line.specs.declared.Event.{Event}
-use Rattle.search.specs.Host.{Host, done, ask, Played, played, more, resetsOf, slotsOf, play, searchHost}
+use Rattle.search.specs.Host.{Host, done, ask, Wire, Played, played, more, resetsOf, slotsOf, play, searchHost}
 use Rattle.line.specs.Refusals.{well-judged}
 use Rattle.line.specs.declared.Verdict.{Verdict}
 use Rattle.search.specs.Search.{Attached, saysOf, leavesOf, wire, fromPlayed, searchBy, searchOf}
-use Rattle.base.specs.Pick.{pick-true}
 use Rattle.histories.specs.Histories.{answerOf, afterOf, run, answers, lineWire}
 use Rattle.histories.specs.Standing.{Stands, lineFrom, withLine, line-length, put-back, says-is, leaves-is, stands-after, line-after, after-length, length-chips}
 
@@ -71,3 +70,30 @@ answers-joined (e ∷ es) l s =
 pub stands-on : (es : List Event) (l : Attached) → Stands l → Stands (runOn es l)
 stands-on [] l s = s
 stands-on (e ∷ es) l s = stands-on es (leavesOf e l) (stands-after l e s)
+
+-- one history after another is one history
+pub run-onward : (es fs : List Event) (l : Attached) → runOn fs (runOn es l) ≡ runOn (es ++ fs) l
+run-onward [] fs l = refl
+run-onward (e ∷ es) fs l = run-onward es fs (leavesOf e l)
+
+-- the events that a host puts on a wire
+abbrev pub eventsOf : (W : Wire) {A : Type 0} → Host A → W .L → List Event
+eventsOf W (done a) l = []
+eventsOf W (ask e f) l = e ∷ eventsOf W (f (W .says e l)) (W .does e l)
+
+-- a host leaves a table as the history of its events does
+pub play-runs : {A : Type 0} (h : Host A) (l : Attached) → play wire h l .line ≡ runOn (eventsOf wire h l) l
+unfolding play
+play-runs (done a) l = refl
+play-runs (ask e f) l = play-runs (f (saysOf e l)) (leavesOf e l)
+
+-- the events of a search, on a table that stands well
+abbrev pub searchEvents : ℕ → Attached → List Event
+searchEvents places l = eventsOf wire (searchHost places) l
+
+-- so a search is part of a history: it leaves the table as its events do
+pub search-runs : (list : List ℕ) (l : Attached) → Stands l → searchOf list l .line ≡ runOn (searchEvents (length list) l) l
+unfolding searchOf
+search-runs list l s =
+    ap (λ (v : Verdict). searchBy v list l .line) (well-judged (l .count) (l .lent .chips) (l .lent .images) (l .lent .pads) (s .range) (s .sizes))
+    ∙ play-runs (searchHost (length list)) l
