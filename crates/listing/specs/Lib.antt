@@ -10,3 +10,5 @@ pub mod Pass
 pub mod Passes
 pub mod Listing
 pub mod Public
+pub mod AfterTrouble
+pub mod Case

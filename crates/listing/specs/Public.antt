@@ -1,19 +1,18 @@
 -- Demand 2, "the search lists each code once, in branch order": of the public search, over a table, its buffers and a lent list.
 use Prim.Native.Nat.{ℕ, max, _*_, _≤_}
 use native.Mathlib.Omega.{arith}
-use mathlib.Core.Bool.{Bool}
 use mathlib.Core.List.{List, _++_}
-use mathlib.Core.Path.{_≡_, refl, _∙_, ap, sym}
+use mathlib.Core.Path.{_≡_, _∙_, ap}
 use lib.Dec.{leb}
 use lib.ListN.{length, take, drop}
 use Rattle.base.specs.Pick.{pick}
 use Rattle.line.specs.Refusals.{in-range-few}
-use Rattle.search.specs.Host.{Played, Listed, play, searchHost}
-use Rattle.search.specs.Search.{Attached, Search, Searched, complete, refused, searchOf, fromPlayed}
+use Rattle.search.specs.Host.{Listed, play, searchHost}
+use Rattle.search.specs.Search.{Attached, Search, complete, refused, searchOf}
 use Rattle.histories.specs.Histories.{lineWire, codesOf}
 use Rattle.histories.specs.Standing.{Stands, lineFrom, line-length}
-use Rattle.histories.specs.Joined.{inTable, search-joined}
-use Rattle.listing.specs.Order.{branchOrder, Codes, Lists}
+use Rattle.histories.specs.Joined.{search-joined}
+use Rattle.listing.specs.Order.{branchOrder, Codes}
 use Rattle.listing.specs.Listing.{listing-of-16}
 
 -- the codes of a table's line, in branch order

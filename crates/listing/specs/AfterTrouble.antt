@@ -1,0 +1,96 @@
+-- Document 02, M-111, "The list after trouble": "the search's list and count depend only on the set of codes attached and the places
+-- given: not on memory, latches, RC, scratchpads or any events before, where neither 8 nor 5 is given." Of the public search, over a
+-- table, its buffers and a lent list. Refusal 4 is inside: that it is given, and what is listed under it. Nothing is said of the line
+-- that a search leaves.
+use Prim.Native.Nat.{ℕ, _*_, max, _≤_}
+use native.Mathlib.Omega.{arith}
+use mathlib.Core.List.{List, _++_}
+use mathlib.Core.Path.{_≡_, refl, _∙_, ap, sym}
+use lib.Dec.{leb}
+use lib.ListN.{length, take, drop, length-take}
+use Rattle.base.specs.Pick.{pick}
+use Rattle.line.specs.declared.Event.{Event}
+use Rattle.search.specs.Search.{Attached, Search, complete, refused, searchOf}
+use Rattle.histories.specs.Histories.{codesOf}
+use Rattle.histories.specs.Standing.{Stands, lineFrom}
+use Rattle.histories.specs.Joined.{runOn, run-joined, stands-on, run-onward, searchEvents, search-runs}
+use Rattle.histories.specs.Kept.{run-codes}
+use Rattle.listing.specs.Order.{Codes, SameMembers}
+use Rattle.listing.specs.Listing.{branch-order, branch-order-unique}
+use Rattle.listing.specs.Public.{orderOf, Found, search-finds}
+
+-- what two searches come to, each with its own list: the same answer, the same codes in the first places of both lists, as many as
+-- both say, and the same counts of resets and of slots; past the codes each list is as it was found
+pub record ListedAlike (list list′ : List ℕ) (s t : Search) : Type 0 where
+  pub codes : List ℕ
+  pub places : length codes ≤ length list
+  pub answer : s .answer ≡ t .answer
+  pub number : (s .number ≡ length codes) × (t .number ≡ length codes)
+  pub listed : (s .list ≡ codes ++ drop (length codes) list) × (t .list ≡ codes ++ drop (length codes) list′)
+  pub resets : s .resets ≡ t .resets
+  pub slots : s .slots ≡ t .slots
+
+-- what two searches with one list come to: all of it is the same, but for the line that they leave
+pub record SameSearch (s t : Search) : Type 0 where
+  pub answer : s .answer ≡ t .answer
+  pub number : s .number ≡ t .number
+  pub list : s .list ≡ t .list
+  pub resets : s .resets ≡ t .resets
+  pub slots : s .slots ≡ t .slots
+
+-- where the codes in branch order and the places are the same, so is what is found
+found-same : (list list′ : List ℕ) (l k : Attached) (s t : Search) (o : orderOf l ≡ orderOf k) (e : length list ≡ length list′)
+    → Found list l s → Found list′ k t → ListedAlike list list′ s t
+found-same list list′ l k s t o e f g =
+    let cut : take (length list) (orderOf l) ≡ take (length list′) (orderOf k) = λ j. take (e j) (o j) in
+    record {
+      codes = take (length list) (orderOf l);
+      places = omega (arith, length-take (length list) (orderOf l));
+      answer = f .answer ∙ (λ j. pick (leb (length (o j)) (e j)) complete (refused 4)) ∙ sym (g .answer);
+      number = (f .number, g .number ∙ ap length (sym cut));
+      listed = (f .list, g .list ∙ ap (λ (c : List ℕ). c ++ drop (length c) list′) (sym cut));
+      resets = f .resets ∙ ap (λ (c : List ℕ). max 1 (length c)) cut ∙ sym (g .resets);
+      slots = f .slots ∙ ap (λ (c : List ℕ). 200 * length c) cut ∙ sym (g .slots);
+    }
+
+-- M-111. Two tables with their buffers, each refused by neither 8 nor 5, that have the same codes, in whatever order and however
+-- often, on chips of whatever kinds in whatever state; and two lists of one length, whatever stands in them.
+pub same-codes-same-list : (list list′ : List ℕ) (l k : Attached) → Stands l → Stands k → Codes (codesOf (lineFrom l))
+    → SameMembers (codesOf (lineFrom l)) (codesOf (lineFrom k))
+    → length list ≡ length list′
+    → ListedAlike list list′ (searchOf list l) (searchOf list′ k)
+same-codes-same-list list list′ l k s t fits same long =
+    let fits′ : Codes (codesOf (lineFrom k)) = λ x i. fits x (same x .1 i) in
+    let o : orderOf l ≡ orderOf k = branch-order-unique (codesOf (lineFrom l)) (codesOf (lineFrom k)) (orderOf l) (branch-order (codesOf (lineFrom l)) fits) fits′ same in
+    let e : length list ≡ length list′ = omega arith in
+    found-same list list′ l k (searchOf list l) (searchOf list′ k) o e (search-finds list l s fits) (search-finds list′ k t fits′)
+
+-- with one list the lists that are left are equal
+pub one-list : (list : List ℕ) (s t : Search) → ListedAlike list list s t → SameSearch s t
+one-list list s t c = record {
+  answer = c .answer;
+  number = c .number .0 ∙ sym (c .number .1);
+  list = c .listed .0 ∙ sym (c .listed .1);
+  resets = c .resets;
+  slots = c .slots;
+}
+
+-- a history leaves the codes of a table
+pub run-on-codes : (es : List Event) (l : Attached) → Stands l → codesOf (lineFrom (runOn es l)) ≡ codesOf (lineFrom l)
+run-on-codes es l s = ap codesOf (run-joined es l s) ∙ run-codes es (lineFrom l)
+
+-- M-111. A table with its buffers that is refused by neither 8 nor 5; then any events, refused ones counted in; then a search. It
+-- answers, lists and counts what it would have on the table before.
+pub list-after-trouble : (es : List Event) (list : List ℕ) (l : Attached) → Stands l → Codes (codesOf (lineFrom l))
+    → SameSearch (searchOf list (runOn es l)) (searchOf list l)
+list-after-trouble es list l s fits =
+    let e = run-on-codes es l s in
+    one-list list (searchOf list (runOn es l)) (searchOf list l)
+    (same-codes-same-list list list (runOn es l) l (stands-on es l s) s (rw e fits) (rw e (λ x. ((λ i. i), (λ i. i)))) refl)
+
+-- Earlier searches are such events: after a search with any list, and any events, a second search answers, lists and counts what it
+-- would have before the first. One that was broken off is some of the events of a whole one.
+pub second-list : (first : List ℕ) (es : List Event) (list : List ℕ) (l : Attached) → Stands l → Codes (codesOf (lineFrom l))
+    → SameSearch (searchOf list (runOn es (searchOf first l .line))) (searchOf list l)
+second-list first es list l s fits =
+    rw (search-runs first l s, run-onward (searchEvents (length first) l) es l) (list-after-trouble (searchEvents (length first) l ++ es) list l s fits)
