@@ -1,7 +1,7 @@
 -- Demand 1 for the search: 8 and 5 "both without an event, counts 0".
-use Prim.Native.Nat.{ℕ}
+use Prim.Native.Nat.{ℕ, _≤_}
 use native.Mathlib.Omega.{arith}
-use mathlib.Core.Bool.{Bool, true, false}
+use mathlib.Core.Bool.{Bool, true, false, true≢false}
 use mathlib.Core.List.{List}
 use mathlib.Core.Path.{_≡_, refl, _∙_, ap, sym}
 use lib.ListN.{length}
@@ -9,8 +9,9 @@ use Rattle.base.specs.Pick.{pick, pick-if, pick-of}
 use Rattle.base.specs.Exactly.{Iff, by-else, by-then, by-neither}
 use Rattle.line.specs.Event.{tableInRange, sizesFit, verdictOf}
 use Rattle.line.specs.declared.Verdict.{Verdict}
-use Rattle.search.specs.Host.{Played, Listed, play, searchHost}
+use Rattle.search.specs.Host.{play, searchHost}
 use Rattle.search.specs.Search.{Searched, complete, refused, completeOr4, Attached, wire, Search, outcome, searchBy, searchOf}
+use Rattle.histories.specs.Standing.{Stands}
 
 numbered : (r s : ℕ) → (r ≡ s → ⊥) → refused r ≡ refused s → ⊥
 numbered r s n e = n (number e)
@@ -69,3 +70,13 @@ module _ (list : List ℕ) (l : Attached) where
       pick-if (λ (v : Verdict). Eventless (searchBy v list l)) _ _ _
       (λ a. pick-if (λ (v : Verdict). Eventless (searchBy v list l)) _ _ _ (λ b r k p. absurd (past-4 r (λ q. k (sym q)) p)) (λ b. plainly 5))
       (λ a. plainly 8)
+
+  -- neither 8 nor 5 is given exactly where the table stands well, which is what theorems about searches ask for
+  pub given-neither : l .count ≤ length (l .lent .chips)
+      → Iff ((searchOf list l .answer ≡ refused 8 → ⊥) × (searchOf list l .answer ≡ refused 5 → ⊥)) (Stands l)
+  given-neither places = ((λ n. go ranged sized refl refl n), (λ s. ((λ p. true≢false (sym (s .range) ∙ refused-8 .0 p)), (λ p. true≢false (sym (s .sizes) ∙ refused-5 .0 p .1)))))
+    where
+      go : (a b : Bool) → ranged ≡ a → sized ≡ b → (searchOf list l .answer ≡ refused 8 → ⊥) × (searchOf list l .answer ≡ refused 5 → ⊥) → Stands l
+      go true true e f n = record { range = e; sizes = f; places = places }
+      go true false e f n = absurd (n .1 (refused-5 .1 (e, f)))
+      go false b e f n = absurd (n .0 (refused-8 .1 e))
