@@ -34,6 +34,7 @@ pub const CASES: &[(&str, Case)] = &[
     ("a short address after a copy", short_after_copy),
     ("a power on at a short address", short_power_on),
     ("other cuts set no PF", other_cuts),
+    ("the list after trouble", after_trouble),
     ("figure 4: the trace of 01h", figure_trace),
     ("figure 4: every byte from every register", figure_bytes),
     ("the DS2413 sheet's write example", sheet_example),
@@ -86,6 +87,16 @@ impl Desk<'_> {
     fn skip(&mut self, bytes: &[u8]) {
         self.event(2);
         for byte in [0xCC].iter().chain(bytes) {
+            self.bits(*byte);
+        }
+    }
+
+    /// Reset, Match ROM with a code and bytes.
+    fn matched(&mut self, code: u64, bytes: &[u8]) {
+        self.event(2);
+        self.bits(0x55);
+        self.lowest(code, 64);
+        for byte in bytes {
             self.bits(*byte);
         }
     }
@@ -343,6 +354,43 @@ fn other_cuts(book: &mut Book) -> bool {
     addresses && command && desk.held() == (0x0120, 0x00)
 }
 
+/// M-111: the four codes of bench case 2 in another order, ACh on chips of both kinds, with a pin of AFh held
+/// low and after case 5's write to 88h.
+fn troubled(book: &mut Book) -> Desk<'_> {
+    let chips = [(2, 0xAF), (1, 0x88), (2, 0xAC), (1, 0x55), (1, 0xAC)];
+    let table = chips.map(|(kind, code)| Chip::at_set_up(kind, code));
+    let line = Line::set_up(table.to_vec(), book);
+    let mut desk = Desk { line, book };
+    desk.line.event(4, 0, 2, desk.book).expect("a DS2413");
+    desk.matched(0x88, &[0x0F, 0x06, 0x00, 0x12, 0x34]);
+    desk
+}
+
+/// M-111: the list and the counts of a line in trouble are those of a fresh line with its codes: inside a copy,
+/// after a copy, and after a search that ends at the 5th bit of 88h.
+fn after_trouble(book: &mut Book) -> bool {
+    let mut desk = troubled(book);
+    desk.matched(0x88, &[0x55, 0x06, 0x00]);
+    desk.lowest(0x07, 3);
+    let begun = desk.line.table[1].rc && desk.line.table[1].bits.len() == 19;
+    let mut lines = vec![desk.line];
+    let mut desk = troubled(desk.book);
+    desk.matched(0x88, &[0x55, 0x06, 0x00, 0x07]);
+    lines.push(desk.line.clone());
+    desk.event(2);
+    desk.bits(0xF0);
+    desk.lowest(0b011_111_011_011_011, 15);
+    let broken = desk.line.table[1].step == Step::SearchBit(5);
+    lines.push(desk.line);
+    let fresh = four(desk.book);
+    let mut found = |line: &Line, places| search_line(&mut line.clone(), places, desk.book);
+    let mut same = |places: usize| {
+        let want = found(&fresh, places);
+        lines.iter().all(|line| found(line, places) == want)
+    };
+    begun && broken && same(0) && same(2) && same(4) && same(16)
+}
+
 /// Both pins to 0, then A to 1 in the next pair.
 fn sheet_example(book: &mut Book) -> bool {
     let mut desk = Desk::with(&[DS2413], book);
@@ -491,6 +539,7 @@ mod tests {
         short_after_copy "a short address after a copy",
         short_power_on "a power on at a short address",
         other_cuts "other cuts set no PF",
+        after_trouble "the list after trouble",
         figure_trace "figure 4: the trace of 01h",
         figure_bytes "figure 4: every byte from every register",
         sheet_example "the DS2413 sheet's write example",

@@ -100,6 +100,8 @@ struct Trace {
     short: bool,
     /// The rule of a byte changed a data byte of this write.
     changed: bool,
+    /// The place at which the last reset found a search, by a slip; else 0.
+    broken_at: usize,
     /// What led to ones.
     ones: Option<Rule>,
 }
@@ -326,11 +328,39 @@ impl Chip {
         if self.is(DS2413) && book.slips(Slip::ResetOpensLatches) {
             self.latches = 3;
         }
-        self.step = Step::RomCommand;
+        self.trace.broken_at = self.broken_at(book);
+        self.step = if self.is_copying() && book.slips(Slip::CopyDeaf) {
+            Step::Wait
+        } else {
+            Step::RomCommand
+        };
         self.bits.clear();
         self.below.clear();
         self.trace.powered = false;
         self.trace.searched = false;
+    }
+
+    /// Whether the chip is in the middle of a copy: before its 24th bit, or after a copy carried out.
+    fn is_copying(&self) -> bool {
+        matches!(self.step, Step::CopyBytes | Step::CopyDone)
+    }
+
+    /// The place of Search ROM at which a slip goes on after a reset.
+    fn broken_at(&self, book: &Book) -> usize {
+        match self.step {
+            Step::SearchBit(place) | Step::SearchComplement(place) | Step::SearchTake(place)
+                if book.slips(Slip::SearchResumes) =>
+            {
+                place
+            }
+            _ => 0,
+        }
+    }
+
+    /// Whether a slip keeps the chip from answering F0h.
+    fn is_deaf(&self, book: &Book) -> bool {
+        let held_low = self.is(DS2413) && self.levels < 3;
+        self.rc && book.slips(Slip::RcDeaf) || held_low && book.slips(Slip::PinDeaf)
     }
 
     /// A reset at a short address: PF is set, the address bits are lost, T, E and AA stay.
@@ -601,10 +631,11 @@ impl Chip {
                 self.rc = rc && book.slips(Slip::RcMatchLate);
                 self.step = Step::MatchCode;
             }
+            0xF0 if self.is_deaf(book) => self.wait(),
             0xF0 => {
                 book.saw_if(rc, Rule::RomSearchClearsRc);
                 self.rc = false;
-                self.step = Step::SearchBit(0);
+                self.step = Step::SearchBit(self.trace.broken_at);
             }
             0xCC => {
                 book.saw(Rule::RomSkip);

@@ -49,7 +49,28 @@ pub fn search_line(line: &mut Line, places: usize, book: &mut Book) -> Found {
             slots: 0,
         };
     }
-    search(&mut OnLine { line, book }, places)
+    let mut found = search(&mut OnLine { line, book }, places);
+    leak(&mut found.list, line, book);
+    found.list.truncate(places);
+    found
+}
+
+/// What two slips make of a list by the table, which no host knows.
+fn leak(list: &mut Vec<u64>, line: &Line, book: &Book) {
+    let kinds = |code: u64| {
+        let own = line.table.iter().filter(move |chip| chip.code == code);
+        own.map(|chip| chip.kind)
+    };
+    if book.slips(Slip::KindsTwice) {
+        let both = |code: u64| kinds(code).min() != kinds(code).max();
+        let twice = |code: &u64| vec![*code; if both(*code) { 2 } else { 1 }];
+        *list = list.iter().flat_map(twice).collect();
+    }
+    let first = line.table.first().map(|chip| chip.code);
+    let at = list.iter().position(|code| Some(*code) == first);
+    if let (Some(at), true) = (at, book.slips(Slip::TableFirst)) {
+        list[..=at].rotate_right(1);
+    }
 }
 
 /// The search itself: 0 first at each branch, the 1 side of a branch in a later pass.
