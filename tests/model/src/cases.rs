@@ -3,6 +3,7 @@
 
 use std::collections::VecDeque;
 
+use crate::library::trouble::{each_part_shows, shared_slips_show};
 use crate::model::book::Book;
 use crate::model::card::read_card;
 use crate::model::chip::{Chip, Step, AA, DS2413, DS28EC20, LAST_KIND};
@@ -35,6 +36,7 @@ pub const CASES: &[(&str, Case)] = &[
     ("a power on at a short address", short_power_on),
     ("other cuts set no PF", other_cuts),
     ("the list after trouble", after_trouble),
+    ("lists held against one another", lists_compared),
     ("figure 4: the trace of 01h", figure_trace),
     ("figure 4: every byte from every register", figure_bytes),
     ("the DS2413 sheet's write example", sheet_example),
@@ -391,6 +393,11 @@ fn after_trouble(book: &mut Book) -> bool {
     begun && broken && same(0) && same(2) && same(4) && same(16)
 }
 
+/// M-111: lists held against one another show what library and model have in common.
+fn lists_compared(_: &mut Book) -> bool {
+    shared_slips_show() && each_part_shows()
+}
+
 /// Both pins to 0, then A to 1 in the next pair.
 fn sheet_example(book: &mut Book) -> bool {
     let mut desk = Desk::with(&[DS2413], book);
@@ -540,6 +547,7 @@ mod tests {
         short_power_on "a power on at a short address",
         other_cuts "other cuts set no PF",
         after_trouble "the list after trouble",
+        lists_compared "lists held against one another",
         figure_trace "figure 4: the trace of 01h",
         figure_bytes "figure 4: every byte from every register",
         sheet_example "the DS2413 sheet's write example",

@@ -1,11 +1,13 @@
 //! Runs the library's functions on lent lines that no history need reach, and holds every
-//! answer and every byte against the model.
+//! answer and every byte against the model, and lists of one set of codes against one another.
 
 pub mod calls;
 mod classes;
 mod damages;
 mod lines;
+mod lists;
 mod scripts;
+pub mod trouble;
 
 use std::time::{Duration, Instant};
 
@@ -19,6 +21,7 @@ use crate::report::hex;
 use calls::Call;
 use classes::{classes, Classes, SIZES};
 use damages::damages;
+use trouble::COUNTS;
 
 /// What to run.
 pub struct Options {
@@ -45,6 +48,8 @@ struct Script {
     answers: Vec<Vec<u8>>,
     /// The line before each call.
     tables: Vec<Vec<u8>>,
+    /// Whether all lines have one set of codes, so that searches with equally many places answer alike.
+    one_set: bool,
 }
 
 impl Script {
@@ -66,6 +71,23 @@ impl Script {
     /// The calls as bytes.
     fn bytes(&self) -> Vec<u8> {
         self.calls.iter().flat_map(Call::bytes).collect()
+    }
+
+    /// What the driver wrote as an answer for each call; short ones where it wrote too little.
+    fn answered<'a>(&self, got: &'a [u8]) -> Vec<&'a [u8]> {
+        let mut rest = got;
+        let mut next = |want: &Vec<u8>| {
+            let (answer, later) = rest.split_at(want.len().min(rest.len()));
+            rest = later;
+            answer
+        };
+        self.answers.iter().map(&mut next).collect()
+    }
+
+    /// The first call that is not answered as the model answers it.
+    fn first_difference(&self, got: &[&[u8]]) -> Option<usize> {
+        let mut pairs = self.answers.iter().zip(got);
+        pairs.position(|(want, got)| want != got)
     }
 }
 
@@ -125,6 +147,9 @@ impl Tester {
         });
         self.repeat(3, 4 * each * SIZES.len(), Tester::wrong_size);
         self.repeat(7, 16 * each, Tester::short_address);
+        self.repeat(8, COUNTS * each, |tester, rng, number| {
+            trouble::script(rng, number, &mut tester.book, &mut tester.classes)
+        });
         self.repeat(4, lines / 4, Tester::card);
         self.repeat(5, lines / 12, Tester::search);
         self.repeat(6, lines, Tester::line);
@@ -164,21 +189,22 @@ impl Tester {
         }
     }
 
-    /// Puts a script to the driver; shows the first call on which it differs.
+    /// Puts a script to the driver; shows the first call on which it differs from the model, and the first
+    /// fault in its lists.
     fn agrees(&mut self, script: &Script) -> bool {
         self.program.send(&script.bytes());
         let size = script.answers.iter().map(Vec::len).sum();
         let got = self.program.receive(size);
-        let mut at = 0;
-        for (number, want) in script.answers.iter().enumerate() {
-            let got = &got[at.min(got.len())..(at + want.len()).min(got.len())];
-            if got != want {
-                self.report(script, number, got);
-                return false;
-            }
-            at += want.len();
+        let got = script.answered(&got);
+        let difference = script.first_difference(&got);
+        if let Some(number) = difference {
+            self.report(script, number, got[number]);
         }
-        true
+        let fault = lists::fault(script, &got);
+        if let Some(fault) = fault {
+            fault.report(script, &got);
+        }
+        difference.is_none() && fault.is_none()
     }
 
     /// Shows a call on which driver and model differ.

@@ -2,10 +2,12 @@
 
 use std::collections::BTreeMap;
 
-use crate::model::chip::{part_of, AA, DS28EC20, LAST_KIND, PF};
+use crate::model::chip::{part_of, AA, DS2413, DS28EC20, LAST_KIND, PF};
 use crate::model::lent::Lent;
 use crate::model::memory::{LAST, PAD};
-use crate::model::record::{filling, shape, word, A, B, ES, KIND, RECORD, STEP, STEPS, T, W};
+use crate::model::record::{
+    filling, shape, word, A, B, ES, KIND, LATCHES, LEVELS, RC, RECORD, STEP, STEPS, T, W,
+};
 
 /// Counts how often each class was reached.
 #[derive(Default)]
@@ -54,6 +56,31 @@ const OTHERS: [&str; 36] = [
     "card: refused by 1 with fewer than 16 places",
     "card: refused by 1 at a 17th record",
 ];
+/// The classes of lists that are held against one another.
+const TROUBLES: [&str; 22] = [
+    "after trouble: no chips",
+    "after trouble: 16 codes",
+    "after trouble: no places",
+    "after trouble: fewer places than codes",
+    "after trouble: as many places as codes",
+    "after trouble: more places than codes",
+    "after trouble: over 16 places",
+    "after trouble: another order of the table",
+    "after trouble: a code twice on one line alone",
+    "after trouble: a code on chips of both kinds",
+    "after trouble: kinds exchanged",
+    "after trouble: RC 1",
+    "after trouble: a latch at 0",
+    "after trouble: a pin held low from outside",
+    "after trouble: inside a command",
+    "after trouble: in the middle of a copy",
+    "after trouble: a copy carried out",
+    "after trouble: PF 1",
+    "after trouble: a search broken off",
+    "after trouble: an earlier search",
+    "after trouble: an earlier search refused by 4",
+    "after trouble: a refused event",
+];
 /// The wrong sizes of images and scratchpads.
 pub const SIZES: [&str; 6] = [
     "size: images one byte short",
@@ -76,16 +103,35 @@ fn after_bits(bits: u8) -> String {
     format!("short address: reset after {bits} bits")
 }
 
+/// The class of a list, held against others, of a line with a chip of this kind at this step.
+fn listed_from(step: u8, kind: u8) -> String {
+    format!("step {step:>2}, kind {kind}: the list")
+}
+
+/// The codes of a line, each with the kinds of its chips, in the order in which they first stand.
+fn codes_of(lent: &Lent) -> Vec<(&[u8], Vec<u8>)> {
+    let mut codes: Vec<(&[u8], Vec<u8>)> = Vec::new();
+    for record in lent.table.chunks_exact(RECORD) {
+        match codes.iter_mut().find(|(code, _)| *code == &record[..8]) {
+            Some((_, kinds)) => kinds.push(record[KIND]),
+            None => codes.push((&record[..8], vec![record[KIND]])),
+        }
+    }
+    codes
+}
+
 /// Every class that a run must reach, but for damages.
 pub fn classes() -> Vec<String> {
     let mut all: Vec<String> = OTHERS
         .iter()
         .chain(&SIZES)
+        .chain(&TROUBLES)
         .map(|name| (*name).into())
         .collect();
     for step in STEPS {
         for kind in kinds_of(step) {
             all.extend(EVENTS.map(|event| format!("step {step:>2}, kind {kind}: {event}")));
+            all.push(listed_from(step, kind as u8));
         }
     }
     all.extend((0..16).map(after_bits));
@@ -208,6 +254,82 @@ impl Classes {
                 "read memory: the last address",
             ),
             _ => {}
+        }
+    }
+
+    /// Counts in what two lines with one set of codes differ.
+    pub fn note_pair(&mut self, one: &Lent, other: &Lent) {
+        let [one, other] = [one, other].map(codes_of);
+        let order = |codes: &[(&[u8], Vec<u8>)]| -> Vec<Vec<u8>> {
+            codes.iter().map(|(code, _)| code.to_vec()).collect()
+        };
+        self.saw_if(
+            order(&one) != order(&other),
+            "after trouble: another order of the table",
+        );
+        for (code, kinds) in &one {
+            let same = other.iter().find(|(known, _)| known == code);
+            let others = &same.expect("one set of codes").1;
+            let twice = (kinds.len() > 1) != (others.len() > 1);
+            self.saw_if(twice, "after trouble: a code twice on one line alone");
+            let both = [kinds, others].iter().any(|kinds| {
+                let first = kinds[0];
+                kinds.iter().any(|kind| *kind != first)
+            });
+            self.saw_if(both, "after trouble: a code on chips of both kinds");
+            let exchanged = kinds.iter().all(|kind| !others.contains(kind));
+            self.saw_if(exchanged, "after trouble: kinds exchanged");
+        }
+    }
+
+    /// Counts how many places a list has beside the codes, by the answer.
+    pub fn note_places(&mut self, answer: i32, places: usize, codes: usize) {
+        let listed = answer > 0;
+        self.saw_if(answer == 0 && codes == 0, "after trouble: no chips");
+        self.saw_if(answer == 16, "after trouble: 16 codes");
+        self.saw_if(answer == -4 && places == 0, "after trouble: no places");
+        let fewer = answer == -4 && places > 0;
+        self.saw_if(fewer, "after trouble: fewer places than codes");
+        let as_many = listed && places == codes;
+        self.saw_if(as_many, "after trouble: as many places as codes");
+        let more = listed && places > codes;
+        self.saw_if(more, "after trouble: more places than codes");
+        self.saw_if(listed && places > 16, "after trouble: over 16 places");
+    }
+
+    /// Counts what an earlier search answered, if there was one.
+    pub fn note_earlier(&mut self, answer: Option<i32>) {
+        let whole = answer.is_some_and(|answer| answer > 0);
+        self.saw_if(whole, "after trouble: an earlier search");
+        let refused = answer == Some(-4);
+        self.saw_if(refused, "after trouble: an earlier search refused by 4");
+    }
+
+    /// Counts the step of each chip of a line that is searched.
+    pub fn note_steps(&mut self, lent: &Lent) {
+        for record in lent.table.chunks_exact(RECORD) {
+            self.saw(&listed_from(record[STEP], record[KIND]));
+        }
+    }
+
+    /// Counts what the events before a search have left.
+    pub fn note_trouble(&mut self, lent: &Lent) {
+        for record in lent.table.chunks_exact(RECORD) {
+            let step = record[STEP];
+            let part = part_of(record[KIND].into());
+            let [memory, switch] = [DS28EC20, DS2413].map(|known| part == Some(known));
+            self.saw_if(record[RC] == 1, "after trouble: RC 1");
+            let begun = matches!(step, 1 | 5) && record[A] > 0;
+            self.saw_if(begun, "after trouble: inside a command");
+            let copying = matches!(step, 22 | 23);
+            self.saw_if(copying, "after trouble: in the middle of a copy");
+            self.saw_if(step == 24, "after trouble: a copy carried out");
+            self.saw_if(step == 4, "after trouble: a search broken off");
+            self.saw_if(memory && record[ES] & PF != 0, "after trouble: PF 1");
+            let latch = switch && record[LATCHES] < 3;
+            self.saw_if(latch, "after trouble: a latch at 0");
+            let low = switch && record[LEVELS] < 3;
+            self.saw_if(low, "after trouble: a pin held low from outside");
         }
     }
 }

@@ -2,11 +2,12 @@
 
 use super::classes::kinds_of;
 use crate::gen::rng::Rng;
-use crate::model::chip::{part_of, DS2413, DS28EC20};
+use crate::model::chip::{part_of, Chip, DS2413, DS28EC20};
 use crate::model::lent::Lent;
+use crate::model::line::MOST;
 use crate::model::memory::{BLOCK_LOCK, CONTROLS, IMAGE, LAST, PAD, PAGE_LOCK};
 use crate::model::record::{
-    filling, shape, word, A, B, C, ES, KIND, LATCHES, LEVELS, RC, RECORD, STEP, STEPS, T, W,
+    filling, pack, shape, word, A, B, C, ES, KIND, LATCHES, LEVELS, RC, RECORD, STEP, STEPS, T, W,
 };
 
 /// Commands that a ROM level or a function level knows, and a few that it does not.
@@ -141,6 +142,14 @@ fn steps_of(kind: u32) -> Vec<u8> {
     STEPS.into_iter().filter(own).collect()
 }
 
+/// Adds what a chip of this kind asks for: any memory and scratchpad for a DS28EC20.
+fn lend_memory(rng: &mut Rng, lent: &mut Lent, kind: u32) {
+    if part_of(kind) == Some(DS28EC20) {
+        lent.images.extend(image(rng));
+        lent.pads.extend((0..PAD).map(|_| byte(rng)));
+    }
+}
+
 /// A line of chips of these kinds, each at any step.
 pub fn line_of(rng: &mut Rng, kinds: &[u32]) -> Lent {
     let mut lent = Lent::default();
@@ -156,10 +165,7 @@ pub fn line_of(rng: &mut Rng, kinds: &[u32]) -> Lent {
         codes.push(code(rng, &codes));
         lent.table
             .extend(record_at(rng, *kind, step, codes[codes.len() - 1]));
-        if part_of(*kind) == Some(DS28EC20) {
-            lent.images.extend(image(rng));
-            lent.pads.extend((0..PAD).map(|_| byte(rng)));
-        }
+        lend_memory(rng, &mut lent, *kind);
     }
     lent
 }
@@ -184,6 +190,61 @@ pub fn any_line(rng: &mut Rng) -> Lent {
             .collect(),
     };
     line_of(rng, &kinds)
+}
+
+/// So many different codes.
+pub fn different_codes(rng: &mut Rng, count: usize) -> Vec<u64> {
+    let mut codes = Vec::new();
+    while codes.len() < count {
+        let next = code(rng, &codes);
+        if !codes.contains(&next) {
+            codes.push(next);
+        }
+    }
+    codes
+}
+
+/// Chips for a set of codes, as kind and code: each code once or, often, some of them more than once, at
+/// most 16 chips, in any order, of one kind or of both.
+fn chips_for(rng: &mut Rng, set: &[u64]) -> Vec<(u32, u64)> {
+    let mut codes = set.to_vec();
+    if !set.is_empty() && rng.chance(60) {
+        for _ in 0..rng.below(MOST - set.len() + 1) {
+            codes.push(rng.pick(set));
+        }
+    }
+    for at in 1..codes.len() {
+        codes.swap(at, rng.below(at + 1));
+    }
+    let kinds = rng.pick(&[
+        &[DS28EC20][..],
+        &[DS2413],
+        &[DS28EC20, DS2413],
+        &[DS28EC20, DS2413],
+    ]);
+    let chips = codes.into_iter();
+    chips.map(|code| (rng.pick(kinds), code)).collect()
+}
+
+/// A line with this set of codes, its chips in any state in range.
+pub fn any_line_of(rng: &mut Rng, set: &[u64]) -> Lent {
+    let chips = chips_for(rng, set);
+    let kinds: Vec<u32> = chips.iter().map(|(kind, _)| *kind).collect();
+    let mut lent = line_of(rng, &kinds);
+    for (record, (_, code)) in lent.table.chunks_exact_mut(RECORD).zip(&chips) {
+        record[..8].copy_from_slice(&code.to_le_bytes());
+    }
+    lent
+}
+
+/// A line with this set of codes, its chips as set-up writes them, with any memory.
+pub fn fresh_line_of(rng: &mut Rng, set: &[u64]) -> Lent {
+    let mut lent = Lent::default();
+    for (kind, code) in chips_for(rng, set) {
+        lent.table.extend(pack(&Chip::at_set_up(kind, code)));
+        lend_memory(rng, &mut lent, kind);
+    }
+    lent
 }
 
 /// A host's bit that lets some chip of the line go on with something likely.
