@@ -1,4 +1,4 @@
-/* Bench cases 2 to 9 of document 01 through the library, and the case of M-102. */
+/* Bench cases 2 to 9 of document 01 through the library, and the cases of M-102 and M-111. */
 #include "check.h"
 
 static struct host host;
@@ -40,6 +40,74 @@ static void test_search_cases(void)
                       &resets, &slots);
     check("case 3: two places, refusal 4",
           found == -TK_TOO_FEW_PLACES && list[0] == 0x88 && list[1] == 0xAC && list[2] == 0 && slots == 400);
+}
+
+/* A search: the answer, both counts, and a list that holds one byte everywhere before. */
+struct searched {
+    int32_t answer;
+    uint64_t resets, slots, list[8];
+    uint8_t before;
+};
+
+static struct searched search(struct host *line, size_t places, uint8_t before)
+{
+    struct searched found = {.before = before};
+    memset(found.list, before, sizeof found.list);
+    found.answer = tk_search(line->table, line->table_size, found.list, places, line->images, line->images_size,
+                             line->pads, line->pads_size, &found.resets, &found.slots);
+    return found;
+}
+
+/* Whether a search lists so many codes of case 2, a reset and 200 slots for each, and leaves the rest of the list. */
+static bool lists(struct searched found, int32_t answer, size_t codes)
+{
+    uint64_t want[8] = {0x88, 0xAC, 0x55, 0xAF};
+    memset(want + codes, found.before, sizeof want - codes * sizeof *want);
+    return found.answer == answer && found.resets == codes && found.slots == codes * TK_CODE_SLOTS &&
+           memcmp(found.list, want, sizeof want) == 0;
+}
+
+/* Sets up the codes of case 2 by their first bytes, with a kind for each. */
+static void set_up_codes(struct host *line, const uint8_t *firsts, const char *kinds)
+{
+    uint8_t card[8 * 12];
+    size_t count = strlen(kinds);
+    for (size_t i = 0; i < count; i++)
+        card_record(card + 12 * i, (unsigned)(kinds[i] - '0'), firsts[i]);
+    memset(line, 0, sizeof *line);
+    check("after trouble: set-up", host_set_up(line, card, 12 * count));
+}
+
+/* A line in trouble, with ACh twice, and a fresh one with the same codes in another order and on other kinds. */
+static void test_after_trouble(void)
+{
+    static const uint8_t troubled[5] = {0xAF, 0x88, 0xAC, 0x55, 0xAC}, others[4] = {0x55, 0xAC, 0x88, 0xAF};
+    static const uint8_t code[CODE_SIZE] = {0x88}, bytes[2] = {0x12, 0x34};
+    static struct host fresh, line;
+    set_up_codes(&host, troubled, "21211");
+    set_up_codes(&fresh, others, "2121");
+    check("after trouble: a pin of AFh held low", host_event(&host, TK_LEVELS, 0, 2) == 1);
+    check("after trouble: 88h is written", host_write_scratchpad(&host, code, 0x0006, bytes, sizeof bytes));
+    host_match(&host, code);
+    host_write(&host, COPY_SCRATCHPAD);
+    host_write(&host, 0x06);
+    host_write(&host, 0x00);
+    for (int i = 0; i < 3; i++)
+        host_slot(&host, 0x07 >> i & 1);
+    const uint8_t *record = host.table + TK_RECORD_SIZE;
+    check("after trouble: 88h has RC 1 and is inside a copy", record[9] == 1 && record[15] == 23);
+    line = host;
+    check("after trouble: 88h, ACh, 55h, AFh", lists(search(&line, 8, 0xDD), 4, 4));
+    line = fresh;
+    check("the fresh line: 88h, ACh, 55h, AFh", lists(search(&line, 8, 0x5A), 4, 4));
+    line = host;
+    check("after trouble: as many places as codes", lists(search(&line, 4, 0x99), 4, 4));
+    line = fresh;
+    check("the fresh line: as many places as codes", lists(search(&line, 4, 0x21), 4, 4));
+    line = host;
+    check("after trouble: two places, refusal 4", lists(search(&line, 2, 0x77), -TK_TOO_FEW_PLACES, 2));
+    line = fresh;
+    check("the fresh line: two places, refusal 4", lists(search(&line, 2, 0xEE), -TK_TOO_FEW_PLACES, 2));
 }
 
 static void test_case_4(void)
@@ -143,6 +211,7 @@ static void test_case_9(void)
 void test_cases(void)
 {
     test_search_cases();
+    test_after_trouble();
     test_case_4();
     test_case_5();
     test_short_address();

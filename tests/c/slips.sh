@@ -53,6 +53,9 @@ slips=(
     'chip.c|s/^    chip->rc = 0;$/    chip->rc = chip->rc;/|power on keeps RC'
     'chip.c|s/        chip->latches = 3;/        chip->latches = chip->levels = 3;/|power on sets the outside levels'
     'chip.c|s/    begin(chip, ROM_COMMAND);/    begin(chip, ROM_COMMAND); chip->rc = 0;/|a reset clears RC'
+    'chip.c|/case 0xF0:/{n;s/^/        if (chip->rc) {\n            begin(chip, WAITING);\n            break;\n        }\n/}|F0h is not answered while RC is 1'
+    'chip.c|/case 0xF0:/{n;s/^/        if (chip->levels != 3 \&\& part_of(chip->kind) == SWITCH) {\n            begin(chip, WAITING);\n            break;\n        }\n/}|F0h is not answered by a switch with a pin held low'
+    'chip.c|s/    begin(chip, ROM_COMMAND);/    begin(chip, chip->step == COPY_END ? WAITING : ROM_COMMAND);/|a reset inside the E/S of a copy is missed'
     'memory.c|s/ || chip->es \& PF//|PF does not stop a copy'
     'memory.c|s/last = chip->es \& 0x1F/last = 31/|a copy goes on past E'
     'memory.c|s/        after\[i\] = ruled(image, page + i, pad\[i\]);/        after[i] = pad[i];/|a copy trusts the scratchpad'
@@ -67,6 +70,7 @@ slips=(
     'search.c|s/        list\[answer++\] = search.code;/        list[answer++] = search.code; if ((size_t)answer < places) list[answer] = 0;/|the place after the last code is cleared'
     'search.c|s/(size_t)answer == places \&\& answer > 0/(size_t)answer == places/|no places: refused before the reset'
     'search.c|s/    memcpy(table, line.chips, table_size);/    if (answer >= 0) memcpy(table, line.chips, table_size);/|refusal 4 leaves the line as it was before the passes'
+    'search.c|s/    struct search search = {.line = \&line, .branch = -1};/    static struct search search = {.branch = -1};\n    search.line = \&line, search.slots = 0;/|a search goes on where one refused by 4 has ended'
 )
 
 total=0 caught=0
