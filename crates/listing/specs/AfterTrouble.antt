@@ -2,22 +2,21 @@
 -- given: not on memory, latches, RC, scratchpads or any events before, where neither 8 nor 5 is given." Of the public search, over a
 -- table, its buffers and a lent list. Refusal 4 is inside: that it is given, and what is listed under it. Nothing is said of the line
 -- that a search leaves.
-use Prim.Native.Nat.{ℕ, _*_, max, _≤_}
+use Prim.Native.Nat.{ℕ, _≤_}
 use native.Mathlib.Omega.{arith}
 use mathlib.Core.List.{List, _++_}
 use mathlib.Core.Path.{_≡_, refl, _∙_, ap, sym}
-use lib.Dec.{leb}
-use lib.ListN.{length, take, drop, length-take}
-use Rattle.base.specs.Pick.{pick}
+use lib.ListN.{length, drop, length-take}
 use Rattle.line.specs.declared.Event.{Event}
-use Rattle.search.specs.Search.{Attached, Search, complete, refused, searchOf}
-use Rattle.histories.specs.Histories.{codesOf}
+use Rattle.search.specs.Host.{Listed, play, searchHost}
+use Rattle.search.specs.Search.{Attached, Search, completeOr4, searchOf}
+use Rattle.histories.specs.Histories.{lineWire, codesOf}
 use Rattle.histories.specs.Standing.{Stands, lineFrom}
-use Rattle.histories.specs.Joined.{runOn, run-joined, stands-on, run-onward, searchEvents, search-runs}
+use Rattle.histories.specs.Joined.{search-joined, runOn, run-joined, stands-on, run-onward, searchEvents, search-runs}
 use Rattle.histories.specs.Kept.{run-codes}
-use Rattle.listing.specs.Order.{Codes, SameMembers}
-use Rattle.listing.specs.Listing.{branch-order, branch-order-unique}
-use Rattle.listing.specs.Public.{orderOf, Found, search-finds}
+use Rattle.listing.specs.Order.{Codes, SameMembers, SameListing}
+use Rattle.listing.specs.Listing.{by-members}
+use Rattle.listing.specs.Public.{orderOf, search-finds}
 
 -- what two searches come to, each with its own list: the same answer, the same codes in the first places of both lists, as many as
 -- both say, and the same counts of resets and of slots; past the codes each list is as it was found
@@ -38,21 +37,6 @@ pub record SameSearch (s t : Search) : Type 0 where
   pub resets : s .resets ≡ t .resets
   pub slots : s .slots ≡ t .slots
 
--- where the codes in branch order and the places are the same, so is what is found
-found-same : (list list′ : List ℕ) (l k : Attached) (s t : Search) (o : orderOf l ≡ orderOf k) (e : length list ≡ length list′)
-    → Found list l s → Found list′ k t → ListedAlike list list′ s t
-found-same list list′ l k s t o e f g =
-    let cut : take (length list) (orderOf l) ≡ take (length list′) (orderOf k) = λ j. take (e j) (o j) in
-    record {
-      codes = take (length list) (orderOf l);
-      places = omega (arith, length-take (length list) (orderOf l));
-      answer = f .answer ∙ (λ j. pick (leb (length (o j)) (e j)) complete (refused 4)) ∙ sym (g .answer);
-      number = (f .number, g .number ∙ ap length (sym cut));
-      listed = (f .list, g .list ∙ ap (λ (c : List ℕ). c ++ drop (length c) list′) (sym cut));
-      resets = f .resets ∙ ap (λ (c : List ℕ). max 1 (length c)) cut ∙ sym (g .resets);
-      slots = f .slots ∙ ap (λ (c : List ℕ). 200 * length c) cut ∙ sym (g .slots);
-    }
-
 -- M-111. Two tables with their buffers, each refused by neither 8 nor 5, that have the same codes, in whatever order and however
 -- often, on chips of whatever kinds in whatever state; and two lists of one length, whatever stands in them.
 pub same-codes-same-list : (list list′ : List ℕ) (l k : Attached) → Stands l → Stands k → Codes (codesOf (lineFrom l))
@@ -60,10 +44,22 @@ pub same-codes-same-list : (list list′ : List ℕ) (l k : Attached) → Stands
     → length list ≡ length list′
     → ListedAlike list list′ (searchOf list l) (searchOf list′ k)
 same-codes-same-list list list′ l k s t fits same long =
-    let fits′ : Codes (codesOf (lineFrom k)) = λ x i. fits x (same x .1 i) in
-    let o : orderOf l ≡ orderOf k = branch-order-unique (codesOf (lineFrom l)) (codesOf (lineFrom k)) (orderOf l) (branch-order (codesOf (lineFrom l)) fits) fits′ same in
-    let e : length list ≡ length list′ = omega arith in
-    found-same list list′ l k (searchOf list l) (searchOf list′ k) o e (search-finds list l s fits) (search-finds list′ k t fits′)
+    let p = play lineWire (searchHost (length list)) (lineFrom l) in
+    let q = play lineWire (searchHost (length list′)) (lineFrom k) in
+    let places : length list ≡ length list′ = omega arith in
+    let c : SameListing p q = rw (← places) (by-members (length list) (lineFrom l) (lineFrom k) same fits) in
+    let i = search-joined list l s in
+    let j = search-joined list′ k t in
+    let number : searchOf list l .number ≡ length (p .result .codes) = ap (λ (x : Search). x .number) i in
+    record {
+      codes = p .result .codes;
+      places = omega (arith, number, search-finds list l s fits .number, length-take (length list) (orderOf l));
+      answer = ap (λ (x : Search). x .answer) i ∙ ap (λ (x : Listed). completeOr4 (x .complete)) (c .result) ∙ sym (ap (λ (x : Search). x .answer) j);
+      number = (number, ap (λ (x : Search). x .number) j ∙ ap (λ (x : Listed). length (x .codes)) (sym (c .result)));
+      listed = (ap (λ (x : Search). x .list) i, ap (λ (x : Search). x .list) j ∙ ap (λ (x : Listed). x .codes ++ drop (length (x .codes)) list′) (sym (c .result)));
+      resets = ap (λ (x : Search). x .resets) i ∙ c .resets ∙ sym (ap (λ (x : Search). x .resets) j);
+      slots = ap (λ (x : Search). x .slots) i ∙ c .slots ∙ sym (ap (λ (x : Search). x .slots) j);
+    }
 
 -- with one list the lists that are left are equal
 pub one-list : (list : List ℕ) (s t : Search) → ListedAlike list list s t → SameSearch s t
