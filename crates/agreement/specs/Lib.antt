@@ -1,2 +1,3 @@
 pub mod Agree
-pub mod AfterTrouble
+pub mod AfterTroubleLent
+pub mod AfterTroubleC

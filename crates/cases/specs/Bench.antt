@@ -17,7 +17,7 @@ use Rattle.search.specs.Search.{Attached, attached}
 use Rattle.line.specs.Events.{slotEvent, resetEvent, powerOnEvent}
 use Rattle.search.specs.Host.{heard}
 use Rattle.histories.specs.Histories.{run, answers}
-use Rattle.histories.specs.Sent.{written}
+use Rattle.histories.specs.Sent.{byteSlots}
 
 -- a table of 16 places without chips
 abbrev emptySetUp : List ℕ → SetUp
@@ -43,7 +43,7 @@ record12 kind family = 10 ∷ 0 ∷ kind ∷ 0 ∷ family ∷ 0 ∷ 0 ∷ 0 ∷ 
 
 -- a session to every chip: a reset, Skip ROM, and bytes
 abbrev pub session : List ℕ → List Event
-session bs = resetEvent ∷ written (0xCC ∷ bs)
+session bs = resetEvent ∷ byteSlots (0xCC ∷ bs)
 
 -- read slots
 abbrev pub readSlots : ℕ → List Event

@@ -13,7 +13,7 @@ use Rattle.scratchpad.specs.Registers.{registers}
 use Rattle.scratchpad.specs.declared.MemoryPhase.the-variants.{SendCrc}
 use Rattle.search.specs.Search.{Attached, searchOf, complete, refused}
 use Rattle.histories.specs.Histories.{at, run, lineWire}
-use Rattle.histories.specs.Sent.{written}
+use Rattle.histories.specs.Sent.{byteSlots}
 use Rattle.line.specs.Events.{resetEvent, powerOnEvent, outsideEvent}
 use Rattle.search.specs.Host.{listed, play, searchHost}
 use Rattle.cases.specs.Bench.{lineOfCard, tableOfCard, record12, session, bytesRead, bitsRead, withByte, atPhase}
@@ -70,7 +70,7 @@ epromLine = withByte 0x0A00 0xAA (withByte 0x0006 0xF0 memoryLine)
 
 -- Match ROM of the DS28EC20
 abbrev pub matchMemory : List Event
-matchMemory = resetEvent ∷ written (0x55 ∷ 0x43 ∷ 0 ∷ 0 ∷ 0 ∷ 0 ∷ 0 ∷ 0 ∷ 0 ∷ [])
+matchMemory = resetEvent ∷ byteSlots (0x55 ∷ 0x43 ∷ 0 ∷ 0 ∷ 0 ∷ 0 ∷ 0 ∷ 0 ∷ 0 ∷ [])
 
 -- 12h in the scratchpad from a write to block 0, then block 1 protected: 0A01h = 55h
 abbrev pub staleLine : List Whole
@@ -95,7 +95,7 @@ abbrev pub twoLine : List Whole
 twoLine = lineOfCard (record12 2 0x01 ++ record12 2 0x02)
 
 abbrev pub switchOne : List Event
-switchOne = resetEvent ∷ written (0x55 ∷ 0x01 ∷ 0 ∷ 0 ∷ 0 ∷ 0 ∷ 0 ∷ 0 ∷ 0 ∷ 0x5A ∷ 0xFE ∷ 0x01 ∷ [])
+switchOne = resetEvent ∷ byteSlots (0x55 ∷ 0x01 ∷ 0 ∷ 0 ∷ 0 ∷ 0 ∷ 0 ∷ 0 ∷ 0 ∷ 0x5A ∷ 0xFE ∷ 0x01 ∷ [])
 
 pub record Cases : Type 0 where
   -- 1: "CRC-8 of 01h is 5Eh. CRC-16 of 01h is C0C1h, sent 3Eh 3Fh."
@@ -142,7 +142,7 @@ pub record Cases : Type 0 where
   -- M-102: "T, E and AA stay", after a copy that was carried out
   pub short-after-copy : registersOf (run (write1234 ++ (copyOf 0x06 0x00 0x07 ++ shortAddress)) memoryLine) ≡ 0x06 ∷ 0x00 ∷ 0xA7 ∷ []
   -- "Reset alone leaves RC": Match, a reset, and Resume finds the same chip at the function level
-  pub resumed : bytesRead (matchMemory ++ (resetEvent ∷ written (0xA5 ∷ 0xAA ∷ []))) 3 memoryLine ≡ 0x00 ∷ 0x00 ∷ 0x20 ∷ []
+  pub resumed : bytesRead (matchMemory ++ (resetEvent ∷ byteSlots (0xA5 ∷ 0xAA ∷ []))) 3 memoryLine ≡ 0x00 ∷ 0x00 ∷ 0x20 ∷ []
   -- 9, into a held block: "Address only, 0120h", then a copy with 20 01 00 of an old scratchpad byte leaves the memory byte
   pub stale-held : at 0 (run staleCopy staleLine) .memory ≡ at 0 staleLine .memory
   pub stale-answers : bitsRead staleCopy 4 staleLine ≡ bit false ∷ bit true ∷ bit false ∷ bit true ∷ []

@@ -87,13 +87,47 @@ unfolding play
 play-runs (done a) l = refl
 play-runs (ask e f) l = play-runs (f (saysOf e l)) (leavesOf e l)
 
--- the events of a search, on a table that stands well
-abbrev pub searchEvents : ℕ → Attached → List Event
-searchEvents places l = eventsOf wire (searchHost places) l
+-- what a caller asks of a table: an event, or a search with a list
+pub data Call : Type 0 where
+  event : Event → Call
+  search : List ℕ → Call
 
--- so a search is part of a history: it leaves the table as its events do
-pub search-runs : (list : List ℕ) (l : Attached) → Stands l → searchOf list l .line ≡ runOn (searchEvents (length list) l) l
+-- what it leaves, and what one call after another leaves
+abbrev pub leavesCall : Call → Attached → Attached
+leavesCall (event e) l = leavesOf e l
+leavesCall (search list) l = searchOf list l .line
+
+abbrev pub callsOn : List Call → Attached → Attached
+callsOn [] l = l
+callsOn (c ∷ cs) l = callsOn cs (leavesCall c l)
+
+-- the events that it puts on the line
+abbrev pub callEvents : Call → Attached → List Event
+callEvents (event e) l = e ∷ []
+callEvents (search list) l = eventsOf wire (searchHost (length list)) l
+
+abbrev pub callsEvents : List Call → Attached → List Event
+callsEvents [] l = []
+callsEvents (c ∷ cs) l = callEvents c l ++ callsEvents cs (leavesCall c l)
+
+-- a call leaves a table as the history of its events does
+call-runs : (c : Call) (l : Attached) → Stands l → leavesCall c l ≡ runOn (callEvents c l) l
 unfolding searchOf
-search-runs list l s =
+call-runs (event e) l s = refl
+call-runs (search list) l s =
     ap (λ (v : Verdict). searchBy v list l .line) (well-judged (l .count) (l .lent .chips) (l .lent .images) (l .lent .pads) (s .range) (s .sizes))
     ∙ play-runs (searchHost (length list)) l
+
+-- so calls with searches among them are a history of events
+pub calls-run : (cs : List Call) (l : Attached) → Stands l → callsOn cs l ≡ runOn (callsEvents cs l) l
+calls-run [] l s = refl
+calls-run (c ∷ cs) l s =
+    let e = call-runs c l s in
+    let t : Stands (leavesCall c l) = rw e (stands-on (callEvents c l) l s) in
+    calls-run cs (leavesCall c l) t
+    ∙ ap (runOn (callsEvents cs (leavesCall c l))) e
+    ∙ run-onward (callEvents c l) (callsEvents cs (leavesCall c l)) l
+
+-- after which the table stands well too
+pub stands-calls : (cs : List Call) (l : Attached) → Stands l → Stands (callsOn cs l)
+stands-calls cs l s = rw (calls-run cs l s) (stands-on (callsEvents cs l) l s)

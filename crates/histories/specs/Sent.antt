@@ -20,6 +20,6 @@ bitsOf (b ∷ bs) = bitsFrom 8 0 b ++ bitsOf bs
 abbrev pub slots : List Bool → List Event
 slots vs = map slotEvent vs
 
--- slots that write some bytes
-abbrev pub written : List ℕ → List Event
-written bs = slots (bitsOf bs)
+-- slots that write these bytes
+abbrev pub byteSlots : List ℕ → List Event
+byteSlots bs = slots (bitsOf bs)

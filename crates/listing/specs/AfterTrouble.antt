@@ -1,10 +1,10 @@
 -- Document 02, M-111, "The list after trouble": "the search's list and count depend only on the set of codes attached and the places
 -- given: not on memory, latches, RC, scratchpads or any events before, where neither 8 nor 5 is given." Of the public search, over a
 -- table, its buffers and a lent list. Refusal 4 is inside: that it is given, and what is listed under it. Nothing is said of the line
--- that a search leaves.
+-- that a search leaves. `Stands` is that neither 8 nor 5 is given; `Codes` that the codes have 64 bits, as every `u64` has.
 use Prim.Native.Nat.{ℕ, _≤_}
 use native.Mathlib.Omega.{arith}
-use mathlib.Core.List.{List, _++_}
+use mathlib.Core.List.{List, _∷_, _++_}
 use mathlib.Core.Path.{_≡_, refl, _∙_, ap, sym}
 use lib.ListN.{length, drop, length-take}
 use Rattle.line.specs.declared.Event.{Event}
@@ -12,8 +12,8 @@ use Rattle.search.specs.Host.{Listed, play, searchHost}
 use Rattle.search.specs.Search.{Attached, Search, completeOr4, searchOf}
 use Rattle.histories.specs.Histories.{lineWire, codesOf}
 use Rattle.histories.specs.Standing.{Stands, lineFrom}
-use Rattle.histories.specs.Joined.{search-joined, runOn, run-joined, stands-on, run-onward, searchEvents, search-runs}
-use Rattle.histories.specs.Kept.{run-codes}
+use Rattle.histories.specs.Joined.{search-joined, runOn, stands-on, Call, search, callsOn, callsEvents, calls-run, stands-calls}
+use Rattle.histories.specs.Kept.{run-on-codes, calls-codes}
 use Rattle.listing.specs.Order.{Codes, SameMembers, SameListing}
 use Rattle.listing.specs.Listing.{by-members}
 use Rattle.listing.specs.Public.{orderOf, search-finds}
@@ -46,6 +46,7 @@ pub same-codes-same-list : (list list′ : List ℕ) (l k : Attached) → Stands
 same-codes-same-list list list′ l k s t fits same long =
     let p = play lineWire (searchHost (length list)) (lineFrom l) in
     let q = play lineWire (searchHost (length list′)) (lineFrom k) in
+    -- by arithmetic, so that a weaker premise is refused here
     let places : length list ≡ length list′ = omega arith in
     let c : SameListing p q = rw (← places) (by-members (length list) (lineFrom l) (lineFrom k) same fits) in
     let i = search-joined list l s in
@@ -71,10 +72,6 @@ one-list list s t c = record {
   slots = c .slots;
 }
 
--- a history leaves the codes of a table
-pub run-on-codes : (es : List Event) (l : Attached) → Stands l → codesOf (lineFrom (runOn es l)) ≡ codesOf (lineFrom l)
-run-on-codes es l s = ap codesOf (run-joined es l s) ∙ run-codes es (lineFrom l)
-
 -- M-111. A table with its buffers that is refused by neither 8 nor 5; then any events, refused ones counted in; then a search. It
 -- answers, lists and counts what it would have on the table before.
 pub list-after-trouble : (es : List Event) (list : List ℕ) (l : Attached) → Stands l → Codes (codesOf (lineFrom l))
@@ -84,9 +81,17 @@ list-after-trouble es list l s fits =
     one-list list (searchOf list (runOn es l)) (searchOf list l)
     (same-codes-same-list list list (runOn es l) l (stands-on es l s) s (rw e fits) (rw e (λ x. ((λ i. i), (λ i. i)))) refl)
 
--- Earlier searches are such events: after a search with any list, and any events, a second search answers, lists and counts what it
--- would have before the first. One that was broken off is some of the events of a whole one.
-pub second-list : (first : List ℕ) (es : List Event) (list : List ℕ) (l : Attached) → Stands l → Codes (codesOf (lineFrom l))
-    → SameSearch (searchOf list (runOn es (searchOf first l .line))) (searchOf list l)
-second-list first es list l s fits =
-    rw (search-runs first l s, run-onward (searchEvents (length first) l) es l) (list-after-trouble (searchEvents (length first) l ++ es) list l s fits)
+-- Earlier searches are such events, and one that was broken off is the first so many of the events of a whole one: the same after any
+-- calls, events and searches.
+pub list-after-calls : (cs : List Call) (list : List ℕ) (l : Attached) → Stands l → Codes (codesOf (lineFrom l))
+    → SameSearch (searchOf list (callsOn cs l)) (searchOf list l)
+list-after-calls cs list l s fits = rw (calls-run cs l s) (list-after-trouble (callsEvents cs l) list l s fits)
+
+-- What a technician does: a search, any calls, a second search into a list of as many places, which may be the one that the first has
+-- filled. The two lists have the same codes.
+pub second-list : (first second : List ℕ) (cs : List Call) (l : Attached) → Stands l → Codes (codesOf (lineFrom l))
+    → length first ≡ length second
+    → ListedAlike first second (searchOf first l) (searchOf second (callsOn cs (searchOf first l .line)))
+second-list first second cs l s fits long =
+    let k = callsOn (search first ∷ cs) l in
+    same-codes-same-list first second l k s (stands-calls (search first ∷ cs) l s) fits (rw (calls-codes (search first ∷ cs) l s) (λ x. ((λ i. i), (λ i. i)))) long

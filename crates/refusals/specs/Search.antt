@@ -8,6 +8,7 @@ use lib.ListN.{length}
 use Rattle.base.specs.Pick.{pick, pick-if, pick-of}
 use Rattle.base.specs.Exactly.{Iff, by-else, by-then, by-neither}
 use Rattle.line.specs.Event.{tableInRange, sizesFit, verdictOf}
+use Rattle.line.specs.Refusals.{in-range-few}
 use Rattle.line.specs.declared.Verdict.{Verdict}
 use Rattle.search.specs.Host.{play, searchHost}
 use Rattle.search.specs.Search.{Searched, complete, refused, completeOr4, Attached, wire, Search, outcome, searchBy, searchOf}
@@ -71,12 +72,13 @@ module _ (list : List ℕ) (l : Attached) where
       (λ a. pick-if (λ (v : Verdict). Eventless (searchBy v list l)) _ _ _ (λ b r k p. absurd (past-4 r (λ q. k (sym q)) p)) (λ b. plainly 5))
       (λ a. plainly 8)
 
-  -- neither 8 nor 5 is given exactly where the table stands well, which is what theorems about searches ask for
-  pub given-neither : l .count ≤ length (l .lent .chips)
+  -- neither 8 nor 5 is given exactly where the table stands well, which is what theorems about searches ask for; of 16 places or as many as
+  -- there are chips, as every table has
+  pub given-neither : (l .count ≤ 16 → l .count ≤ length (l .lent .chips))
       → Iff ((searchOf list l .answer ≡ refused 8 → ⊥) × (searchOf list l .answer ≡ refused 5 → ⊥)) (Stands l)
   given-neither places = ((λ n. go ranged sized refl refl n), (λ s. ((λ p. true≢false (sym (s .range) ∙ refused-8 .0 p)), (λ p. true≢false (sym (s .sizes) ∙ refused-5 .0 p .1)))))
     where
       go : (a b : Bool) → ranged ≡ a → sized ≡ b → (searchOf list l .answer ≡ refused 8 → ⊥) × (searchOf list l .answer ≡ refused 5 → ⊥) → Stands l
-      go true true e f n = record { range = e; sizes = f; places = places }
+      go true true e f n = record { range = e; sizes = f; places = places (in-range-few (l .count) (l .lent .chips) e) }
       go true false e f n = absurd (n .1 (refused-5 .1 (e, f)))
       go false b e f n = absurd (n .0 (refused-8 .1 e))

@@ -1,0 +1,258 @@
+-- M-111, "The list after trouble", of the library for C. It is the lent form's theorem: a call on bytes is the lent call on the chips that
+-- they stand for, packed again.
+use Prim.Native.Nat.{ℕ, suc, _*_, _/_, _^_, _<_, _≤_}
+use native.Mathlib.Omega.{arith}
+use mathlib.Core.Bool.{Bool, true, false}
+use mathlib.Core.List.{List, [], _∷_, _++_, List·Memᴰ, List·Memᴰ·head, List·Memᴰ·tail, List·Memᴰ·cases-cons, List·Memᴰ·not-nil, Memᴰ·append-left, Memᴰ·append-right}
+use mathlib.Core.Logic.{_⊎_, inl, inr}
+use mathlib.Core.Path.{_≡_, refl, _∙_, ap, sym}
+use lib.Dec.{ltb, lit≤}
+use lib.IntN.{ℤ, pos, negsuc}
+use lib.ListN.{length, drop}
+use borrow.Author.Tests.{ltb-true}
+use Rattle.base.specs.Bits.{bitOf, both}
+use Rattle.base.specs.Both.{both-holds}
+use Rattle.base.specs.Exactly.{Iff}
+use Rattle.base.specs.Pick.{pick, pick-true, pick-false}
+use Rattle.scratchpad.specs.Scratchpad.{registersInRange}
+use Rattle.ds2413.specs.Switch.{switchInRange}
+use Rattle.chip.specs.declared.Chip.{Chip}
+use Rattle.chip.specs.Chip.{setUpChip}
+use Rattle.chip.specs.Kinds.{knownKind, imageSize, padSize}
+use Rattle.chip.specs.Range.{inRange}
+use Rattle.line.specs.Event.{tableInRange, sizesFit}
+use Rattle.line.specs.Layout.{Lent, lent}
+use Rattle.search.specs.Search.{Searched, complete, refused, Search, searchOf}
+use Rattle.packed.specs.Packed.{packed, packedTable, unpackedTable, isTable}
+use Rattle.packed.specs.Laws.{unpacked-table, table-is, of-table}
+use Rattle.toemsakun.specs.Library.{minus, eventBytes, SearchLeft, searchNumber, packedSearch, searchBytes}
+use Rattle.histories.specs.Standing.{Stands}
+use Rattle.histories.specs.Joined.{Call, event, search}
+use Rattle.refusals.specs.Search.{given-neither}
+use Rattle.listing.specs.Order.{Codes, SameMembers}
+use Rattle.listing.specs.Listing.{no-codes, one-code}
+use Rattle.listing.specs.Public.{search-finds}
+use Rattle.agreement.specs.AfterTroubleLent.{ofLent, codesIn, leavesLent, runLent, codes-lent, list-after-trouble-lent, same-codes-same-list-lent}
+
+-- a table lent as bytes, with its buffers
+pub record LentBytes : Type 0 where
+  pub table : List ℕ
+  pub images : List ℕ
+  pub pads : List ℕ
+
+-- the chips that its bytes stand for, and the bytes of chips
+abbrev pub unpackedLent : LentBytes → Lent
+unpackedLent b = lent (unpackedTable (b .table)) (b .images) (b .pads)
+
+abbrev pub packedLent : Lent → LentBytes
+packedLent x = record { table = packedTable (x .chips); images = x .images; pads = x .pads }
+
+-- `tk_search`
+abbrev pub searchIn : List ℕ → LentBytes → SearchLeft
+searchIn list b = searchBytes (b .table) list (b .images) (b .pads)
+
+-- what `tk_event` and `tk_search` leave, and what one call after another leaves
+abbrev pub leavesBytes : Call → LentBytes → LentBytes
+leavesBytes (event e) b = let o = eventBytes (b .table) e (b .images) (b .pads) in record { table = o .table; images = o .images; pads = o .pads }
+leavesBytes (search list) b = let o = searchIn list b in record { table = o .table; images = o .images; pads = o .pads }
+
+abbrev pub runBytes : List Call → LentBytes → LentBytes
+runBytes [] b = b
+runBytes (c ∷ cs) b = runBytes cs (leavesBytes c b)
+
+-- every number is below 256, as every `uint8_t` is
+abbrev pub AllBytes : List ℕ → Type 0
+AllBytes bs = (x : ℕ) → List·Memᴰ x bs → x < 256
+
+-- bytes that neither 8 nor 5 refuses
+pub record StandsAsBytes (b : LentBytes) : Type 0 where
+  pub bytes : AllBytes (b .table)
+  pub table : isTable (b .table) ≡ true
+  pub stands : Stands (ofLent (unpackedLent b))
+
+-- what two calls of `tk_search` with one list come to, but for the line that they leave
+pub record SameSearchInC (s t : SearchLeft) : Type 0 where
+  pub answer : s .answer ≡ t .answer
+  pub list : s .list ≡ t .list
+  pub resets : s .resets ≡ t .resets
+  pub slots : s .slots ≡ t .slots
+
+-- what two calls come to, each with its own list: both say the same, so many codes or a refusal; the same codes stand in the first
+-- places of both lists; there are 200 slots for each code, so that the count tells how many they are under a refusal too; and past the
+-- codes each list is as it was found
+pub record ListedAlikeInC (list list′ : List ℕ) (s t : SearchLeft) : Type 0 where
+  pub codes : List ℕ
+  pub places : length codes ≤ length list
+  pub said : Searched
+  pub answer : (s .answer ≡ searchNumber (length codes) said) × (t .answer ≡ searchNumber (length codes) said)
+  pub listed : (s .list ≡ codes ++ drop (length codes) list) × (t .list ≡ codes ++ drop (length codes) list′)
+  pub resets : s .resets ≡ t .resets
+  pub slots : (s .slots ≡ 200 * length codes) × (t .slots ≡ 200 * length codes)
+
+-- a call on the bytes of chips is the call on the chips, packed
+search-packed : (list : List ℕ) (x : Lent) → searchIn list (packedLent x) ≡ packedSearch (searchOf list (ofLent x))
+unfolding searchBytes
+search-packed list x = rw (pick-true (isTable (packedTable (x .chips))) _ _ (of-table _ (x .chips) refl .0), unpacked-table (x .chips))
+
+call-packed : (c : Call) (x : Lent) → leavesBytes c (packedLent x) ≡ packedLent (leavesLent c x)
+unfolding eventBytes
+call-packed (event e) x = rw (pick-true (isTable (packedTable (x .chips))) _ _ (of-table _ (x .chips) refl .0), unpacked-table (x .chips))
+call-packed (search list) x = ap (λ (o : SearchLeft). record { table = o .table; images = o .images; pads = o .pads }) (search-packed list x)
+
+run-packed : (cs : List Call) (x : Lent) → runBytes cs (packedLent x) ≡ packedLent (runLent cs x)
+run-packed [] x = refl
+run-packed (c ∷ cs) x = ap (runBytes cs) (call-packed c x) ∙ run-packed cs (leavesLent c x)
+
+-- so a search on bytes that are a table, after some calls, is that of the chips after them, packed
+searched-after : (cs : List Call) (list : List ℕ) (b : LentBytes) → isTable (b .table) ≡ true
+    → searchIn list (runBytes cs b) ≡ packedSearch (searchOf list (ofLent (runLent cs (unpackedLent b))))
+searched-after cs list b q =
+    let again : packedLent (unpackedLent b) ≡ b = λ j. record { table = table-is (b .table) q j; images = b .images; pads = b .pads } in
+    ap (λ (k : LentBytes). searchIn list (runBytes cs k)) (sym again)
+    ∙ ap (searchIn list) (run-packed cs (unpackedLent b))
+    ∙ search-packed list (runLent cs (unpackedLent b))
+
+-- a code whose eighth byte is below 256 has 64 bits
+eight-more : (x m : ℕ) → x / 256 < m → x < 256 * m
+eight-more x m h = omega arith
+
+code-fits : (c : Chip) → AllBytes (packed c) → c .code < 2 ^ 64
+unfolding packed
+code-fits c small =
+    let code = c .code in
+    let last : code / 256 / 256 / 256 / 256 / 256 / 256 / 256 < 256 =
+    small _ (List·Memᴰ·tail (List·Memᴰ·tail (List·Memᴰ·tail (List·Memᴰ·tail (List·Memᴰ·tail (List·Memᴰ·tail (List·Memᴰ·tail (List·Memᴰ·head refl)))))))) in
+    eight-more _ _ (eight-more _ _ (eight-more _ _ (eight-more _ _ (eight-more _ _ (eight-more _ _ (eight-more _ _ last))))))
+
+-- so have the codes of a table of bytes
+codes-fit : (cs : List Chip) → AllBytes (packedTable cs) → Codes (codesIn cs)
+codes-fit [] small = no-codes
+codes-fit (c ∷ cs) small =
+    one-code (c .code) (codesIn cs) (code-fits c (λ x m. small x (Memᴰ·append-left (packedTable cs) m))) (codes-fit cs (λ x m. small x (Memᴰ·append-right (packed c) m)))
+
+bytes-fit : (b : LentBytes) → StandsAsBytes b → Codes (codesIn (unpackedLent b .chips))
+bytes-fit b s = codes-fit (unpackedLent b .chips) (rw (table-is (b .table) (s .table)) (s .bytes))
+
+-- M-111 of `tk_search`: after any calls of it and of `tk_event`, as before them
+pub list-after-trouble-c : (cs : List Call) (list : List ℕ) (b : LentBytes) → StandsAsBytes b → SameSearchInC (searchIn list (runBytes cs b)) (searchIn list b)
+list-after-trouble-c cs list b s =
+    let p = searched-after cs list b (s .table) in
+    let q = searched-after [] list b (s .table) in
+    let c = list-after-trouble-lent cs list (unpackedLent b) (s .stands) (bytes-fit b s) in
+    record {
+      answer = ap (λ (k : SearchLeft). k .answer) p ∙ (λ j. searchNumber (c .number j) (c .answer j)) ∙ sym (ap (λ (k : SearchLeft). k .answer) q);
+      list = ap (λ (k : SearchLeft). k .list) p ∙ c .list ∙ sym (ap (λ (k : SearchLeft). k .list) q);
+      resets = ap (λ (k : SearchLeft). k .resets) p ∙ c .resets ∙ sym (ap (λ (k : SearchLeft). k .resets) q);
+      slots = ap (λ (k : SearchLeft). k .slots) p ∙ c .slots ∙ sym (ap (λ (k : SearchLeft). k .slots) q);
+    }
+
+-- a search has 200 slots for each code that it numbers
+slots-numbered : (list : List ℕ) (x : Lent) → Stands (ofLent x) → Codes (codesIn (x .chips)) → searchOf list (ofLent x) .slots ≡ 200 * searchOf list (ofLent x) .number
+slots-numbered list x s fits =
+    let f = search-finds list (ofLent x) s (rw (codes-lent x) fits) in
+    f .slots ∙ ap (λ (n : ℕ). 200 * n) (sym (f .number))
+
+-- and on two tables with the same codes
+pub same-codes-same-list-c : (list list′ : List ℕ) (b d : LentBytes) → StandsAsBytes b → StandsAsBytes d
+    → SameMembers (codesIn (unpackedLent b .chips)) (codesIn (unpackedLent d .chips))
+    → length list ≡ length list′
+    → ListedAlikeInC list list′ (searchIn list b) (searchIn list′ d)
+same-codes-same-list-c list list′ b d s t same long =
+    let x = unpackedLent b in
+    let y = unpackedLent d in
+    let p = searched-after [] list b (s .table) in
+    let q = searched-after [] list′ d (t .table) in
+    let c = same-codes-same-list-lent list list′ x y (s .stands) (t .stands) (bytes-fit b s) same long in
+    let m = c .number .0 in
+    let n = c .number .1 in
+    record {
+      codes = c .codes;
+      places = c .places;
+      said = searchOf list (ofLent x) .answer;
+      answer = (
+        ap (λ (k : SearchLeft). k .answer) p ∙ ap (λ (k : ℕ). searchNumber k (searchOf list (ofLent x) .answer)) m,
+        ap (λ (k : SearchLeft). k .answer) q ∙ (λ j. searchNumber (n j) (sym (c .answer) j)),
+      );
+      listed = (ap (λ (k : SearchLeft). k .list) p ∙ c .listed .0, ap (λ (k : SearchLeft). k .list) q ∙ c .listed .1);
+      resets = ap (λ (k : SearchLeft). k .resets) p ∙ c .resets ∙ sym (ap (λ (k : SearchLeft). k .resets) q);
+      slots = (
+        ap (λ (k : SearchLeft). k .slots) p ∙ slots-numbered list x (s .stands) (bytes-fit b s) ∙ ap (λ (k : ℕ). 200 * k) m,
+        ap (λ (k : SearchLeft). k .slots) q ∙ slots-numbered list′ y (t .stands) (bytes-fit d t) ∙ ap (λ (k : ℕ). 200 * k) n,
+      );
+    }
+
+-- how far a number is below 0
+abbrev below : ℤ → ℕ
+below (pos n) = 0
+below (negsuc n) = suc n
+
+-- a search that is complete, or refused by 4, answers no other refusal
+no-refusal : (n : ℕ) (t : Bool) (r : ℕ) → (4 ≡ below (minus r) → ⊥) → (0 ≡ below (minus r) → ⊥) → searchNumber n (pick t complete (refused 4)) ≡ minus r → ⊥
+unfolding pick
+no-refusal n true r k h e = h (ap below e)
+no-refusal n false r k h e = k (ap below e)
+
+module _ (list : List ℕ) (b : LentBytes) where
+  -- the search of the chips
+  abbrev plain : Search
+  plain = searchOf list (ofLent (unpackedLent b))
+
+  answer-is : isTable (b .table) ≡ true → searchIn list b .answer ≡ searchNumber (plain .number) (plain .answer)
+  answer-is q = ap (λ (k : SearchLeft). k .answer) (searched-after [] list b q)
+
+  abbrev Neither : Type 0
+  Neither = (searchIn list b .answer ≡ minus 8 → ⊥) × (searchIn list b .answer ≡ minus 5 → ⊥)
+
+  stand-if : AllBytes (b .table) → (t : Bool) → isTable (b .table) ≡ t → Neither → StandsAsBytes b
+  unfolding searchBytes
+  stand-if bytes true q n =
+      let no : (r : ℕ) → (searchIn list b .answer ≡ minus r → ⊥) → plain .answer ≡ refused r → ⊥ = λ r m e. m (answer-is q ∙ ap (searchNumber (plain .number)) e) in
+      record { bytes = bytes; table = q; stands = given-neither list (ofLent (unpackedLent b)) (λ h. omega arith) .0 (no 8 (n .0), no 5 (n .1)) }
+  stand-if bytes false q n = absurd (n .0 (ap (λ (k : SearchLeft). k .answer) (pick-false (isTable (b .table)) _ _ q)))
+
+  neither-if : StandsAsBytes b → Neither
+  neither-if s =
+      let f = search-finds list (ofLent (unpackedLent b)) (s .stands) (rw (codes-lent (unpackedLent b)) (bytes-fit b s)) in
+      let q = answer-is (s .table) ∙ ap (searchNumber (plain .number)) (f .answer) in (
+        (λ e. no-refusal (plain .number) _ 8 (λ z. omega arith) (λ z. omega arith) (sym q ∙ e)),
+        (λ e. no-refusal (plain .number) _ 5 (λ z. omega arith) (λ z. omega arith) (sym q ∙ e)),
+      )
+
+  -- `tk_search` answers neither -8 nor -5 exactly where the bytes stand so
+  pub given-neither-c : AllBytes (b .table) → Iff Neither (StandsAsBytes b)
+  given-neither-c bytes = (stand-if bytes (isTable (b .table)) refl, neither-if)
+
+-- there are such bytes: a line of one DS2413 ---------------------------------------------------------
+
+abbrev oneChip : Lent
+oneChip = lent (setUpChip 0x3A 2 ∷ []) [] []
+
+-- whether every number is below 256
+abbrev areBytes : List ℕ → Bool
+areBytes [] = true
+areBytes (x ∷ xs) = both (ltb x 256) (areBytes xs)
+
+all-bytes : (bs : List ℕ) → areBytes bs ≡ true → AllBytes bs
+all-bytes [] e x m = absurd (List·Memᴰ·not-nil m)
+all-bytes (b ∷ bs) e x m =
+    let h = both-holds (ltb b 256) (areBytes bs) e in
+    go (ltb-true b 256 (h .0)) (all-bytes bs (h .1) x) (List·Memᴰ·cases-cons m)
+  where
+    go : b < 256 → (List·Memᴰ x bs → x < 256) → (x ≡ b) ⊎ List·Memᴰ x bs → x < 256
+    go l f (inl q) = rw q l
+    go l f (inr n) = f n
+
+one-stands : Stands (ofLent oneChip)
+unfolding setUpChip knownKind imageSize padSize inRange registersInRange switchInRange tableInRange sizesFit both pick bitOf
+one-stands = record { range = refl; sizes = refl; places = lit≤ tt }
+
+one-bytes : AllBytes (packedTable (oneChip .chips))
+unfolding packed setUpChip both pick
+one-bytes = all-bytes (packedTable (oneChip .chips)) refl
+
+pub one-chip-stands : StandsAsBytes (packedLent oneChip)
+one-chip-stands = record {
+  bytes = one-bytes;
+  table = of-table _ (oneChip .chips) refl .0;
+  stands = rw (unpacked-table (oneChip .chips)) one-stands;
+}
