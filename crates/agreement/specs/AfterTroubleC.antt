@@ -26,11 +26,11 @@ use Rattle.search.specs.Search.{Searched, complete, refused, Search, searchOf}
 use Rattle.packed.specs.Packed.{packed, packedTable, unpackedTable, isTable}
 use Rattle.packed.specs.Laws.{unpacked-table, table-is, of-table}
 use Rattle.toemsakun.specs.Library.{minus, eventBytes, SearchLeft, searchNumber, packedSearch, searchBytes}
+use Rattle.histories.specs.Codes.{Codes, no-codes, one-code}
 use Rattle.histories.specs.Standing.{Stands}
 use Rattle.histories.specs.Joined.{Call, event, search}
 use Rattle.refusals.specs.Search.{given-neither}
-use Rattle.listing.specs.Order.{Codes, SameMembers}
-use Rattle.listing.specs.Listing.{no-codes, one-code}
+use Rattle.listing.specs.Order.{SameMembers}
 use Rattle.listing.specs.Public.{search-finds}
 use Rattle.agreement.specs.AfterTroubleLent.{ofLent, codesIn, leavesLent, runLent, codes-lent, list-after-trouble-lent, same-codes-same-list-lent}
 

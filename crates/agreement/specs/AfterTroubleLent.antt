@@ -14,10 +14,11 @@ use Rattle.line.specs.Prefix.{event-holds}
 use Rattle.line.specs.Refusals.{chips-split}
 use Rattle.search.specs.Prefix.{search-has}
 use Rattle.search.specs.Search.{Attached, attached, leavesOf, searchOf}
+use Rattle.histories.specs.Codes.{Codes}
 use Rattle.histories.specs.Histories.{codesOf}
 use Rattle.histories.specs.Standing.{Stands, lineFrom}
 use Rattle.histories.specs.Joined.{Call, event, search, leavesCall, callsOn}
-use Rattle.listing.specs.Order.{Codes, SameMembers}
+use Rattle.listing.specs.Order.{SameMembers}
 use Rattle.listing.specs.AfterTrouble.{ListedAlike, SameSearch, same-codes-same-list, list-after-calls}
 
 -- a lent slice of chips with its buffers, as the table that it is: each place holds a chip

@@ -10,11 +10,12 @@ use lib.ListN.{length, drop, length-take}
 use Rattle.line.specs.declared.Event.{Event}
 use Rattle.search.specs.Host.{Listed, play, searchHost}
 use Rattle.search.specs.Search.{Attached, Search, completeOr4, searchOf}
+use Rattle.histories.specs.Codes.{Codes}
 use Rattle.histories.specs.Histories.{lineWire, codesOf}
 use Rattle.histories.specs.Standing.{Stands, lineFrom}
 use Rattle.histories.specs.Joined.{search-joined, runOn, stands-on, Call, search, callsOn, callsEvents, calls-run, stands-calls}
 use Rattle.histories.specs.Kept.{run-on-codes, calls-codes}
-use Rattle.listing.specs.Order.{Codes, SameMembers, SameListing}
+use Rattle.listing.specs.Order.{SameMembers, SameListing}
 use Rattle.listing.specs.Listing.{by-members}
 use Rattle.listing.specs.Public.{orderOf, search-finds}
 

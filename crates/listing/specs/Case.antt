@@ -23,13 +23,14 @@ use Rattle.line.specs.Events.{resetEvent, outsideEvent}
 use Rattle.line.specs.declared.Event.{Event}
 use Rattle.search.specs.Host.{bind, play, pass, write, upTo, passes, searchHost}
 use Rattle.search.specs.Search.{Attached, attached, Search, complete, fromPlayed, searchOf}
+use Rattle.histories.specs.Codes.{Codes, no-codes, one-code}
 use Rattle.histories.specs.Sent.{bitsFrom, slots, byteSlots}
 use Rattle.histories.specs.Histories.{at, codesOf, answerOf, afterOf, run, lineWire}
 use Rattle.histories.specs.Standing.{Stands, lineFrom}
 use Rattle.histories.specs.Kept.{run-on-codes}
 use Rattle.histories.specs.Joined.{inTable, runOn, run-joined, stands-on, search-joined}
-use Rattle.listing.specs.Order.{branch, branchOrder, Codes, SameMembers}
-use Rattle.listing.specs.Listing.{no-codes, one-code, branch-order}
+use Rattle.listing.specs.Order.{branch, branchOrder, SameMembers}
+use Rattle.listing.specs.Listing.{branch-order}
 use Rattle.listing.specs.AfterTrouble.{ListedAlike, SameSearch, one-list, same-codes-same-list, list-after-trouble}
 
 -- the four codes on four DS28EC20s, with memory and scratchpads FFh

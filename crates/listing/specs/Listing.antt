@@ -1,10 +1,9 @@
 -- Document 01, "Search", as theorems: on every line, whatever its chips were doing, the search lists the codes in branch order,
 -- each once, cut to the places; and branch order is what it should be.
-use Prim.Native.Nat.{ℕ, _^_, _<_, _≤_}
+use Prim.Native.Nat.{ℕ, _≤_}
 use native.Mathlib.Omega.{arith}
 use mathlib.Core.Bool.{true, false}
-use mathlib.Core.List.{List, [], _∷_, List·Memᴰ, List·Memᴰ·cases-cons, List·Memᴰ·not-nil}
-use mathlib.Core.Logic.{_⊎_, inl, inr}
+use mathlib.Core.List.{List}
 use mathlib.Core.Path.{_≡_, _∙_, sym}
 use lib.ListN.{length, length-map}
 use Rattle.chip.specs.Chip.{Whole}
@@ -12,25 +11,15 @@ use Rattle.line.specs.Layout.{capped}
 use Rattle.line.specs.Line.{absent}
 use Rattle.line.specs.Events.{resetEvent}
 use Rattle.search.specs.Host.{ask, play, write, pass, searchHost}
+use Rattle.histories.specs.Codes.{Codes}
 use Rattle.histories.specs.Histories.{lineWire, codesOf}
-use Rattle.listing.specs.Order.{branchOrder, Codes, SameMembers, Before, Sorted, InBranchOrder, Lists, SameListing}
+use Rattle.listing.specs.Order.{branchOrder, SameMembers, Before, Sorted, InBranchOrder, Lists, SameListing}
 use Rattle.listing.specs.Branch.{order-length}
 use Rattle.listing.specs.Sorted.{order-sorted, sorted-distinct, order-members, sorted-one}
 use Rattle.listing.specs.Slots.{reset-played, command-played}
 use Rattle.listing.specs.Line.{absent-codes}
 use Rattle.listing.specs.Pass.{pass-opened}
 use Rattle.listing.specs.Passes.{passes-list, capped-cut}
-
--- codes, one by one
-pub no-codes : Codes []
-no-codes x m = absurd (List·Memᴰ·not-nil m)
-
-pub one-code : (c : ℕ) (cs : List ℕ) → c < 2 ^ 64 → Codes cs → Codes (c ∷ cs)
-one-code c cs h f x m = go (List·Memᴰ·cases-cons m)
-  where
-    go : (x ≡ c) ⊎ List·Memᴰ x cs → x < 2 ^ 64
-    go (inl e) = rw e h
-    go (inr n) = f x n
 
 -- branch order --------------------------------------------------------------------------------
 

@@ -1,8 +1,8 @@
 -- Document 01, "Search": "Branch order compares codes from bit 0 on, 0 first. Equal codes are listed once." What the search is
 -- to list: definitions alone.
-use Prim.Native.Nat.{ℕ, zero, suc, max, _+_, _*_, _^_, _<_}
+use Prim.Native.Nat.{ℕ, zero, suc, max, _+_, _*_}
 use mathlib.Core.Bool.{Bool, true, false}
-use mathlib.Core.List.{List, [], _∷_, _++_, map, List·Memᴰ}
+use mathlib.Core.List.{List, [], _∷_, _++_, List·Memᴰ}
 use mathlib.Core.Logic.{_⊎_, _↔_}
 use mathlib.Core.Path.{_≡_}
 use lib.Dec.{leb}
@@ -24,10 +24,6 @@ unfoldable pub branchOrder : ℕ → ℕ → List ℕ → List ℕ
 branchOrder zero k xs = take 1 xs
 branchOrder (suc w) k [] = []
 branchOrder (suc w) k (x ∷ xs) = branchOrder w (k + 1) (branch false k (x ∷ xs)) ++ branchOrder w (k + 1) (branch true k (x ∷ xs))
-
--- every number of a list is a code of 64 bits
-abbrev pub Codes : List ℕ → Type 0
-Codes xs = (x : ℕ) → List·Memᴰ x xs → x < 2 ^ 64
 
 -- the numbers of two lists are the same, in whatever order and however often
 abbrev pub SameMembers : List ℕ → List ℕ → Type 0

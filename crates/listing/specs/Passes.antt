@@ -17,8 +17,9 @@ use Rattle.line.specs.Event.{askedBy, planEvent, outsideFits}
 use Rattle.line.specs.Refusals.{presence}
 use Rattle.search.specs.Host.{Host, done, bind, Played, played, Listed, listed, End, end, more, play, write, pass, passes, goOn, upTo}
 use Rattle.search.specs.Counts.{more-more, andThen, play-bind}
+use Rattle.histories.specs.Codes.{Codes}
 use Rattle.histories.specs.Histories.{answerOf, afterOf, lineWire, codesOf}
-use Rattle.listing.specs.Order.{branchOrder, Codes, Lists}
+use Rattle.listing.specs.Order.{branchOrder, Lists}
 use Rattle.listing.specs.Branch.{isNil, order-nil}
 use Rattle.listing.specs.Rest.{rest, rest-all, rest-some, Outcome, ended, parted}
 use Rattle.listing.specs.Slots.{afterReset, reset-played, opened, command-played, codes-reset, codes-opened}

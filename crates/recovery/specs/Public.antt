@@ -15,7 +15,8 @@ use Rattle.histories.specs.Joined.{runOn, answersOn, run-joined, answers-joined
 use Rattle.recovery.specs.Sessions.{Addressed, write, Page}
 use Rattle.recovery.specs.CarriedOut.{NoCopy}
 use Rattle.recovery.specs.Written.{writtenTo}
-use Rattle.recovery.specs.Installed.{Differ, Codes, Installed}
+use Rattle.histories.specs.Codes.{Codes}
+use Rattle.recovery.specs.Installed.{Differ, Installed}
 use Rattle.recovery.specs.Recovery.{Recovered}
 use Rattle.recovery.specs.Demand3.{written, demand-3}
 
