@@ -101,7 +101,7 @@ abbrev pub callsOn : List Call → Attached → Attached
 callsOn [] l = l
 callsOn (c ∷ cs) l = callsOn cs (leavesCall c l)
 
--- the events that it puts on the line
+-- the events that it puts on the line of a table that stands well
 abbrev pub callEvents : Call → Attached → List Event
 callEvents (event e) l = e ∷ []
 callEvents (search list) l = eventsOf wire (searchHost (length list)) l
