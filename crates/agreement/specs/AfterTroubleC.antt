@@ -1,38 +1,35 @@
 -- M-111, "The list after trouble", of the library for C. It is the lent form's theorem: a call on bytes is the lent call on the chips that
 -- they stand for, packed again.
-use Prim.Native.Nat.{ℕ, suc, _*_, _/_, _^_, _<_, _≤_}
+use Prim.Native.Nat.{ℕ, zero, suc, _*_, _/_, _^_, _<_, _≤_}
 use native.Mathlib.Omega.{arith}
 use mathlib.Core.Bool.{Bool, true, false}
-use mathlib.Core.List.{List, [], _∷_, _++_, List·Memᴰ, List·Memᴰ·head, List·Memᴰ·tail, List·Memᴰ·cases-cons, List·Memᴰ·not-nil, Memᴰ·append-left, Memᴰ·append-right}
-use mathlib.Core.Logic.{_⊎_, inl, inr}
+use mathlib.Core.List.{List, [], _∷_, _++_, List·Memᴰ, List·Memᴰ·head, List·Memᴰ·tail, Memᴰ·append-left, Memᴰ·append-right}
 use mathlib.Core.Path.{_≡_, refl, _∙_, ap, sym}
-use lib.Dec.{ltb, lit≤}
+use lib.Dec.{leb, ltb}
 use lib.IntN.{ℤ, pos, negsuc}
 use lib.ListN.{length, drop}
 use borrow.Author.Tests.{ltb-true}
-use Rattle.base.specs.Bits.{bitOf, both}
+use Rattle.base.specs.Bits.{both}
 use Rattle.base.specs.Both.{both-holds}
 use Rattle.base.specs.Exactly.{Iff}
 use Rattle.base.specs.Pick.{pick, pick-true, pick-false}
-use Rattle.scratchpad.specs.Scratchpad.{registersInRange}
-use Rattle.ds2413.specs.Switch.{switchInRange}
 use Rattle.chip.specs.declared.Chip.{Chip}
 use Rattle.chip.specs.Chip.{setUpChip}
-use Rattle.chip.specs.Kinds.{knownKind, imageSize, padSize}
-use Rattle.chip.specs.Range.{inRange}
-use Rattle.line.specs.Event.{tableInRange, sizesFit}
 use Rattle.line.specs.Layout.{Lent, lent}
-use Rattle.search.specs.Search.{Searched, complete, refused, Search, searchOf}
+use Rattle.search.specs.Search.{refused, completeOr4, Search, searchOf}
 use Rattle.packed.specs.Packed.{packed, packedTable, unpackedTable, isTable}
 use Rattle.packed.specs.Laws.{unpacked-table, table-is, of-table}
 use Rattle.toemsakun.specs.Library.{minus, eventBytes, SearchLeft, searchNumber, packedSearch, searchBytes}
 use Rattle.histories.specs.Codes.{Codes, no-codes, one-code}
+use Rattle.histories.specs.Sent.{Bytes, byte-in}
 use Rattle.histories.specs.Standing.{Stands}
 use Rattle.histories.specs.Joined.{Call, event, search}
 use Rattle.refusals.specs.Search.{given-neither}
 use Rattle.listing.specs.Order.{SameMembers}
-use Rattle.listing.specs.Public.{search-finds}
-use Rattle.agreement.specs.AfterTroubleLent.{ofLent, codesIn, leavesLent, runLent, codes-lent, list-after-trouble-lent, same-codes-same-list-lent}
+use Rattle.listing.specs.Public.{orderOf, search-finds}
+use Rattle.listing.specs.AfterTrouble.{ListedAlike}
+use Rattle.listing.specs.Case.{one-stands}
+use Rattle.agreement.specs.AfterTroubleLent.{ofLent, codesIn, leavesLent, runLent, codes-lent, list-after-trouble-lent, same-codes-same-list-lent, second-list-lent}
 
 -- a table lent as bytes, with its buffers
 pub record LentBytes : Type 0 where
@@ -60,13 +57,9 @@ abbrev pub runBytes : List Call → LentBytes → LentBytes
 runBytes [] b = b
 runBytes (c ∷ cs) b = runBytes cs (leavesBytes c b)
 
--- every number is below 256, as every `uint8_t` is
-abbrev pub AllBytes : List ℕ → Type 0
-AllBytes bs = (x : ℕ) → List·Memᴰ x bs → x < 256
-
--- bytes that neither 8 nor 5 refuses
+-- numbers below 256, as every `uint8_t` is, that neither 8 nor 5 refuses
 pub record StandsAsBytes (b : LentBytes) : Type 0 where
-  pub bytes : AllBytes (b .table)
+  pub bytes : Bytes (b .table)
   pub table : isTable (b .table) ≡ true
   pub stands : Stands (ofLent (unpackedLent b))
 
@@ -77,14 +70,14 @@ pub record SameSearchInC (s t : SearchLeft) : Type 0 where
   pub resets : s .resets ≡ t .resets
   pub slots : s .slots ≡ t .slots
 
--- what two calls come to, each with its own list: both say the same, so many codes or a refusal; the same codes stand in the first
--- places of both lists; there are 200 slots for each code, so that the count tells how many they are under a refusal too; and past the
--- codes each list is as it was found
+-- what two calls come to, each with its own list: both answer how many codes they list, or both -4; the same codes stand in the first
+-- places of both lists; there are 200 slots for each code, so that the count tells how many they are under 4 too; and past the codes
+-- each list is as it was found
 pub record ListedAlikeInC (list list′ : List ℕ) (s t : SearchLeft) : Type 0 where
   pub codes : List ℕ
   pub places : length codes ≤ length list
-  pub said : Searched
-  pub answer : (s .answer ≡ searchNumber (length codes) said) × (t .answer ≡ searchNumber (length codes) said)
+  pub whole : Bool
+  pub answer : (s .answer ≡ searchNumber (length codes) (completeOr4 whole)) × (t .answer ≡ searchNumber (length codes) (completeOr4 whole))
   pub listed : (s .list ≡ codes ++ drop (length codes) list) × (t .list ≡ codes ++ drop (length codes) list′)
   pub resets : s .resets ≡ t .resets
   pub slots : (s .slots ≡ 200 * length codes) × (t .slots ≡ 200 * length codes)
@@ -112,11 +105,12 @@ searched-after cs list b q =
     ∙ ap (searchIn list) (run-packed cs (unpackedLent b))
     ∙ search-packed list (runLent cs (unpackedLent b))
 
--- a code whose eighth byte is below 256 has 64 bits
+-- eight bits more
 eight-more : (x m : ℕ) → x / 256 < m → x < 256 * m
 eight-more x m h = omega arith
 
-code-fits : (c : Chip) → AllBytes (packed c) → c .code < 2 ^ 64
+-- a code whose eighth byte is below 256 has 64 bits
+code-fits : (c : Chip) → ((x : ℕ) → List·Memᴰ x (packed c) → x < 256) → c .code < 2 ^ 64
 unfolding packed
 code-fits c small =
     let code = c .code in
@@ -125,13 +119,13 @@ code-fits c small =
     eight-more _ _ (eight-more _ _ (eight-more _ _ (eight-more _ _ (eight-more _ _ (eight-more _ _ (eight-more _ _ last))))))
 
 -- so have the codes of a table of bytes
-codes-fit : (cs : List Chip) → AllBytes (packedTable cs) → Codes (codesIn cs)
+codes-fit : (cs : List Chip) → ((x : ℕ) → List·Memᴰ x (packedTable cs) → x < 256) → Codes (codesIn cs)
 codes-fit [] small = no-codes
 codes-fit (c ∷ cs) small =
     one-code (c .code) (codesIn cs) (code-fits c (λ x m. small x (Memᴰ·append-left (packedTable cs) m))) (codes-fit cs (λ x m. small x (Memᴰ·append-right (packed c) m)))
 
 bytes-fit : (b : LentBytes) → StandsAsBytes b → Codes (codesIn (unpackedLent b .chips))
-bytes-fit b s = codes-fit (unpackedLent b .chips) (rw (table-is (b .table) (s .table)) (s .bytes))
+bytes-fit b s = codes-fit (unpackedLent b .chips) (rw (table-is (b .table) (s .table)) (byte-in (b .table) (s .bytes)))
 
 -- M-111 of `tk_search`: after any calls of it and of `tk_event`, as before them
 pub list-after-trouble-c : (cs : List Call) (list : List ℕ) (b : LentBytes) → StandsAsBytes b → SameSearchInC (searchIn list (runBytes cs b)) (searchIn list b)
@@ -146,11 +140,28 @@ list-after-trouble-c cs list b s =
       slots = ap (λ (k : SearchLeft). k .slots) p ∙ c .slots ∙ sym (ap (λ (k : SearchLeft). k .slots) q);
     }
 
--- a search has 200 slots for each code that it numbers
-slots-numbered : (list : List ℕ) (x : Lent) → Stands (ofLent x) → Codes (codesIn (x .chips)) → searchOf list (ofLent x) .slots ≡ 200 * searchOf list (ofLent x) .number
-slots-numbered list x s fits =
+-- two searches that list alike, as two calls on bytes
+alike-packed : (list list′ : List ℕ) (x y : Lent) (u v : SearchLeft) → u ≡ packedSearch (searchOf list (ofLent x)) → v ≡ packedSearch (searchOf list′ (ofLent y))
+    → Stands (ofLent x) → Codes (codesIn (x .chips)) → ListedAlike list list′ (searchOf list (ofLent x)) (searchOf list′ (ofLent y))
+    → ListedAlikeInC list list′ u v
+alike-packed list list′ x y u v p q s fits c =
     let f = search-finds list (ofLent x) s (rw (codes-lent x) fits) in
-    f .slots ∙ ap (λ (n : ℕ). 200 * n) (sym (f .number))
+    let m = c .number .0 in
+    let n = c .number .1 in
+    let a = f .answer in
+    let k : searchOf list (ofLent x) .slots ≡ 200 * length (c .codes) = f .slots ∙ ap (λ (i : ℕ). 200 * i) (sym (f .number) ∙ m) in
+    record {
+      codes = c .codes;
+      places = c .places;
+      whole = leb (length (orderOf (ofLent x))) (length list);
+      answer = (
+        ap (λ (o : SearchLeft). o .answer) p ∙ (λ j. searchNumber (m j) (a j)),
+        ap (λ (o : SearchLeft). o .answer) q ∙ (λ j. searchNumber (n j) ((sym (c .answer) ∙ a) j)),
+      );
+      listed = (ap (λ (o : SearchLeft). o .list) p ∙ c .listed .0, ap (λ (o : SearchLeft). o .list) q ∙ c .listed .1);
+      resets = ap (λ (o : SearchLeft). o .resets) p ∙ c .resets ∙ sym (ap (λ (o : SearchLeft). o .resets) q);
+      slots = (ap (λ (o : SearchLeft). o .slots) p ∙ k, ap (λ (o : SearchLeft). o .slots) q ∙ sym (c .slots) ∙ k);
+    }
 
 -- and on two tables with the same codes
 pub same-codes-same-list-c : (list list′ : List ℕ) (b d : LentBytes) → StandsAsBytes b → StandsAsBytes d
@@ -158,68 +169,61 @@ pub same-codes-same-list-c : (list list′ : List ℕ) (b d : LentBytes) → Sta
     → length list ≡ length list′
     → ListedAlikeInC list list′ (searchIn list b) (searchIn list′ d)
 same-codes-same-list-c list list′ b d s t same long =
-    let x = unpackedLent b in
-    let y = unpackedLent d in
-    let p = searched-after [] list b (s .table) in
-    let q = searched-after [] list′ d (t .table) in
-    let c = same-codes-same-list-lent list list′ x y (s .stands) (t .stands) (bytes-fit b s) same long in
-    let m = c .number .0 in
-    let n = c .number .1 in
-    record {
-      codes = c .codes;
-      places = c .places;
-      said = searchOf list (ofLent x) .answer;
-      answer = (
-        ap (λ (k : SearchLeft). k .answer) p ∙ ap (λ (k : ℕ). searchNumber k (searchOf list (ofLent x) .answer)) m,
-        ap (λ (k : SearchLeft). k .answer) q ∙ (λ j. searchNumber (n j) (sym (c .answer) j)),
-      );
-      listed = (ap (λ (k : SearchLeft). k .list) p ∙ c .listed .0, ap (λ (k : SearchLeft). k .list) q ∙ c .listed .1);
-      resets = ap (λ (k : SearchLeft). k .resets) p ∙ c .resets ∙ sym (ap (λ (k : SearchLeft). k .resets) q);
-      slots = (
-        ap (λ (k : SearchLeft). k .slots) p ∙ slots-numbered list x (s .stands) (bytes-fit b s) ∙ ap (λ (k : ℕ). 200 * k) m,
-        ap (λ (k : SearchLeft). k .slots) q ∙ slots-numbered list′ y (t .stands) (bytes-fit d t) ∙ ap (λ (k : ℕ). 200 * k) n,
-      );
-    }
+    alike-packed list list′ (unpackedLent b) (unpackedLent d) _ _ (searched-after [] list b (s .table)) (searched-after [] list′ d (t .table)) (s .stands) (bytes-fit b s)
+    (same-codes-same-list-lent list list′ (unpackedLent b) (unpackedLent d) (s .stands) (t .stands) (bytes-fit b s) same long)
+
+-- and a search, any calls, and a second search with as many places
+pub second-list-c : (first second : List ℕ) (cs : List Call) (b : LentBytes) → StandsAsBytes b → length first ≡ length second
+    → ListedAlikeInC first second (searchIn first b) (searchIn second (runBytes (search first ∷ cs) b))
+second-list-c first second cs b s long =
+    alike-packed first second (unpackedLent b) (runLent (search first ∷ cs) (unpackedLent b)) _ _
+    (searched-after [] first b (s .table)) (searched-after (search first ∷ cs) second b (s .table)) (s .stands) (bytes-fit b s)
+    (second-list-lent first second cs (unpackedLent b) (s .stands) (bytes-fit b s) long)
 
 -- how far a number is below 0
 abbrev below : ℤ → ℕ
 below (pos n) = 0
 below (negsuc n) = suc n
 
+below-minus : (r : ℕ) → below (minus r) ≡ r
+below-minus zero = refl
+below-minus (suc r) = refl
+
 -- a search that is complete, or refused by 4, answers no other refusal
-no-refusal : (n : ℕ) (t : Bool) (r : ℕ) → (4 ≡ below (minus r) → ⊥) → (0 ≡ below (minus r) → ⊥) → searchNumber n (pick t complete (refused 4)) ≡ minus r → ⊥
+no-refusal : (n : ℕ) (whole : Bool) (r : ℕ) → (0 ≡ r → ⊥) → (4 ≡ r → ⊥) → searchNumber n (completeOr4 whole) ≡ minus r → ⊥
 unfolding pick
-no-refusal n true r k h e = h (ap below e)
-no-refusal n false r k h e = k (ap below e)
+no-refusal n true r k h e = k (ap below e ∙ below-minus r)
+no-refusal n false r k h e = h (ap below e ∙ below-minus r)
 
 module _ (list : List ℕ) (b : LentBytes) where
   -- the search of the chips
-  abbrev plain : Search
-  plain = searchOf list (ofLent (unpackedLent b))
+  abbrev onChips : Search
+  onChips = searchOf list (ofLent (unpackedLent b))
 
-  answer-is : isTable (b .table) ≡ true → searchIn list b .answer ≡ searchNumber (plain .number) (plain .answer)
+  answer-is : isTable (b .table) ≡ true → searchIn list b .answer ≡ searchNumber (onChips .number) (onChips .answer)
   answer-is q = ap (λ (k : SearchLeft). k .answer) (searched-after [] list b q)
 
-  abbrev Neither : Type 0
-  Neither = (searchIn list b .answer ≡ minus 8 → ⊥) × (searchIn list b .answer ≡ minus 5 → ⊥)
+  -- neither 8 nor 5 is given
+  abbrev pub GivenNeither : Type 0
+  GivenNeither = (searchIn list b .answer ≡ minus 8 → ⊥) × (searchIn list b .answer ≡ minus 5 → ⊥)
 
-  stand-if : AllBytes (b .table) → (t : Bool) → isTable (b .table) ≡ t → Neither → StandsAsBytes b
+  stand-if : Bytes (b .table) → (t : Bool) → isTable (b .table) ≡ t → GivenNeither → StandsAsBytes b
   unfolding searchBytes
   stand-if bytes true q n =
-      let no : (r : ℕ) → (searchIn list b .answer ≡ minus r → ⊥) → plain .answer ≡ refused r → ⊥ = λ r m e. m (answer-is q ∙ ap (searchNumber (plain .number)) e) in
+      let no : (r : ℕ) → (searchIn list b .answer ≡ minus r → ⊥) → onChips .answer ≡ refused r → ⊥ = λ r m e. m (answer-is q ∙ ap (searchNumber (onChips .number)) e) in
       record { bytes = bytes; table = q; stands = given-neither list (ofLent (unpackedLent b)) (λ h. omega arith) .0 (no 8 (n .0), no 5 (n .1)) }
   stand-if bytes false q n = absurd (n .0 (ap (λ (k : SearchLeft). k .answer) (pick-false (isTable (b .table)) _ _ q)))
 
-  neither-if : StandsAsBytes b → Neither
+  neither-if : StandsAsBytes b → GivenNeither
   neither-if s =
       let f = search-finds list (ofLent (unpackedLent b)) (s .stands) (rw (codes-lent (unpackedLent b)) (bytes-fit b s)) in
-      let q = answer-is (s .table) ∙ ap (searchNumber (plain .number)) (f .answer) in (
-        (λ e. no-refusal (plain .number) _ 8 (λ z. omega arith) (λ z. omega arith) (sym q ∙ e)),
-        (λ e. no-refusal (plain .number) _ 5 (λ z. omega arith) (λ z. omega arith) (sym q ∙ e)),
+      let q = answer-is (s .table) ∙ ap (searchNumber (onChips .number)) (f .answer) in (
+        (λ e. no-refusal (onChips .number) _ 8 (λ z. omega arith) (λ z. omega arith) (sym q ∙ e)),
+        (λ e. no-refusal (onChips .number) _ 5 (λ z. omega arith) (λ z. omega arith) (sym q ∙ e)),
       )
 
   -- `tk_search` answers neither -8 nor -5 exactly where the bytes stand so
-  pub given-neither-c : AllBytes (b .table) → Iff Neither (StandsAsBytes b)
+  pub given-neither-c : Bytes (b .table) → Iff GivenNeither (StandsAsBytes b)
   given-neither-c bytes = (stand-if bytes (isTable (b .table)) refl, neither-if)
 
 -- there are such bytes: a line of one DS2413 ---------------------------------------------------------
@@ -232,27 +236,17 @@ abbrev areBytes : List ℕ → Bool
 areBytes [] = true
 areBytes (x ∷ xs) = both (ltb x 256) (areBytes xs)
 
-all-bytes : (bs : List ℕ) → areBytes bs ≡ true → AllBytes bs
-all-bytes [] e x m = absurd (List·Memᴰ·not-nil m)
-all-bytes (b ∷ bs) e x m =
-    let h = both-holds (ltb b 256) (areBytes bs) e in
-    go (ltb-true b 256 (h .0)) (all-bytes bs (h .1) x) (List·Memᴰ·cases-cons m)
-  where
-    go : b < 256 → (List·Memᴰ x bs → x < 256) → (x ≡ b) ⊎ List·Memᴰ x bs → x < 256
-    go l f (inl q) = rw q l
-    go l f (inr n) = f n
+are-bytes : (bs : List ℕ) → areBytes bs ≡ true → Bytes bs
+are-bytes [] e = tt
+are-bytes (b ∷ bs) e = let h = both-holds (ltb b 256) (areBytes bs) e in (ltb-true b 256 (h .0), are-bytes bs (h .1))
 
-one-stands : Stands (ofLent oneChip)
-unfolding setUpChip knownKind imageSize padSize inRange registersInRange switchInRange tableInRange sizesFit both pick bitOf
-one-stands = record { range = refl; sizes = refl; places = lit≤ tt }
-
-one-bytes : AllBytes (packedTable (oneChip .chips))
+one-bytes : Bytes (packedTable (oneChip .chips))
 unfolding packed setUpChip both pick
-one-bytes = all-bytes (packedTable (oneChip .chips)) refl
+one-bytes = are-bytes (packedTable (oneChip .chips)) refl
 
 pub one-chip-stands : StandsAsBytes (packedLent oneChip)
 one-chip-stands = record {
   bytes = one-bytes;
   table = of-table _ (oneChip .chips) refl .0;
-  stands = rw (unpacked-table (oneChip .chips)) one-stands;
+  stands = rw (unpacked-table (oneChip .chips)) (one-stands 0x3A);
 }

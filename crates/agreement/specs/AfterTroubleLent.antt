@@ -19,7 +19,7 @@ use Rattle.histories.specs.Histories.{codesOf}
 use Rattle.histories.specs.Standing.{Stands, lineFrom}
 use Rattle.histories.specs.Joined.{Call, event, search, leavesCall, callsOn}
 use Rattle.listing.specs.Order.{SameMembers}
-use Rattle.listing.specs.AfterTrouble.{ListedAlike, SameSearch, same-codes-same-list, list-after-calls}
+use Rattle.listing.specs.AfterTrouble.{ListedAlike, SameSearch, same-codes-same-list, list-after-calls, second-list}
 
 -- a lent slice of chips with its buffers, as the table that it is: each place holds a chip
 abbrev pub ofLent : Lent → Attached
@@ -76,3 +76,9 @@ pub same-codes-same-list-lent : (list list′ : List ℕ) (x y : Lent) → Stand
     → ListedAlike list list′ (searchOf list (ofLent x)) (searchOf list′ (ofLent y))
 same-codes-same-list-lent list list′ x y s t fits same long =
     same-codes-same-list list list′ (ofLent x) (ofLent y) s t (rw (codes-lent x) fits) (rw (codes-lent x, codes-lent y) same) long
+
+-- and a search, any calls, and a second search with as many places
+pub second-list-lent : (first second : List ℕ) (cs : List Call) (x : Lent) → Stands (ofLent x) → Codes (codesIn (x .chips))
+    → length first ≡ length second
+    → ListedAlike first second (searchOf first (ofLent x)) (searchOf second (ofLent (runLent (search first ∷ cs) x)))
+second-list-lent first second cs x s fits long = rw (run-lent (search first ∷ cs) x) (second-list first second cs (ofLent x) s (rw (codes-lent x) fits) long)

@@ -9,7 +9,7 @@ use Rattle.chip.specs.declared.Chip.{Chip}
 use Rattle.line.specs.Layout.{chipsOf, imagesOf, padsOf, lent}
 use Rattle.line.specs.Event.{Answered}
 use Rattle.line.specs.declared.Event.{Event}
-use Rattle.search.specs.Host.{Host, done, ask, Wire, Played, played, more, resetsOf, slotsOf, play, searchHost}
+use Rattle.search.specs.Host.{Host, done, ask, Played, played, more, resetsOf, slotsOf, play, searchHost}
 use Rattle.line.specs.Refusals.{well-judged}
 use Rattle.line.specs.declared.Verdict.{Verdict}
 use Rattle.search.specs.Search.{Attached, saysOf, leavesOf, wire, fromPlayed, searchBy, searchOf}
@@ -72,17 +72,17 @@ stands-on [] l s = s
 stands-on (e ∷ es) l s = stands-on es (leavesOf e l) (stands-after l e s)
 
 -- one history after another is one history
-pub run-onward : (es fs : List Event) (l : Attached) → runOn fs (runOn es l) ≡ runOn (es ++ fs) l
+run-onward : (es fs : List Event) (l : Attached) → runOn fs (runOn es l) ≡ runOn (es ++ fs) l
 run-onward [] fs l = refl
 run-onward (e ∷ es) fs l = run-onward es fs (leavesOf e l)
 
--- the events that a host puts on a wire
-abbrev pub eventsOf : (W : Wire) {A : Type 0} → Host A → W .L → List Event
-eventsOf W (done a) l = []
-eventsOf W (ask e f) l = e ∷ eventsOf W (f (W .says e l)) (W .does e l)
+-- the events that a host puts on a table
+abbrev pub eventsOf : {A : Type 0} → Host A → Attached → List Event
+eventsOf (done a) l = []
+eventsOf (ask e f) l = e ∷ eventsOf (f (saysOf e l)) (leavesOf e l)
 
 -- a host leaves a table as the history of its events does
-pub play-runs : {A : Type 0} (h : Host A) (l : Attached) → play wire h l .line ≡ runOn (eventsOf wire h l) l
+pub play-runs : {A : Type 0} (h : Host A) (l : Attached) → play wire h l .line ≡ runOn (eventsOf h l) l
 unfolding play
 play-runs (done a) l = refl
 play-runs (ask e f) l = play-runs (f (saysOf e l)) (leavesOf e l)
@@ -92,7 +92,7 @@ pub data Call : Type 0 where
   event : Event → Call
   search : List ℕ → Call
 
--- what it leaves, and what one call after another leaves
+-- what a call leaves, and what one call after another leaves
 abbrev pub leavesCall : Call → Attached → Attached
 leavesCall (event e) l = leavesOf e l
 leavesCall (search list) l = searchOf list l .line
@@ -101,17 +101,17 @@ abbrev pub callsOn : List Call → Attached → Attached
 callsOn [] l = l
 callsOn (c ∷ cs) l = callsOn cs (leavesCall c l)
 
--- the events that it puts on the line of a table that stands well
-abbrev pub callEvents : Call → Attached → List Event
-callEvents (event e) l = e ∷ []
-callEvents (search list) l = eventsOf wire (searchHost (length list)) l
+-- the events that a call puts on a table that stands well
+abbrev eventsOfCall : Call → Attached → List Event
+eventsOfCall (event e) l = e ∷ []
+eventsOfCall (search list) l = eventsOf (searchHost (length list)) l
 
-abbrev pub callsEvents : List Call → Attached → List Event
-callsEvents [] l = []
-callsEvents (c ∷ cs) l = callEvents c l ++ callsEvents cs (leavesCall c l)
+abbrev pub eventsOfCalls : List Call → Attached → List Event
+eventsOfCalls [] l = []
+eventsOfCalls (c ∷ cs) l = eventsOfCall c l ++ eventsOfCalls cs (leavesCall c l)
 
 -- a call leaves a table as the history of its events does
-call-runs : (c : Call) (l : Attached) → Stands l → leavesCall c l ≡ runOn (callEvents c l) l
+call-runs : (c : Call) (l : Attached) → Stands l → leavesCall c l ≡ runOn (eventsOfCall c l) l
 unfolding searchOf
 call-runs (event e) l s = refl
 call-runs (search list) l s =
@@ -119,15 +119,15 @@ call-runs (search list) l s =
     ∙ play-runs (searchHost (length list)) l
 
 -- so calls with searches among them are a history of events
-pub calls-run : (cs : List Call) (l : Attached) → Stands l → callsOn cs l ≡ runOn (callsEvents cs l) l
+pub calls-run : (cs : List Call) (l : Attached) → Stands l → callsOn cs l ≡ runOn (eventsOfCalls cs l) l
 calls-run [] l s = refl
 calls-run (c ∷ cs) l s =
     let e = call-runs c l s in
-    let t : Stands (leavesCall c l) = rw e (stands-on (callEvents c l) l s) in
+    let t : Stands (leavesCall c l) = rw e (stands-on (eventsOfCall c l) l s) in
     calls-run cs (leavesCall c l) t
-    ∙ ap (runOn (callsEvents cs (leavesCall c l))) e
-    ∙ run-onward (callEvents c l) (callsEvents cs (leavesCall c l)) l
+    ∙ ap (runOn (eventsOfCalls cs (leavesCall c l))) e
+    ∙ run-onward (eventsOfCall c l) (eventsOfCalls cs (leavesCall c l)) l
 
 -- after which the table stands well too
 pub stands-calls : (cs : List Call) (l : Attached) → Stands l → Stands (callsOn cs l)
-stands-calls cs l s = rw (calls-run cs l s) (stands-on (callsEvents cs l) l s)
+stands-calls cs l s = rw (calls-run cs l s) (stands-on (eventsOfCalls cs l) l s)

@@ -1,5 +1,5 @@
 -- What every history keeps: a relation between a chip before and after that each act and each change of outside levels keeps holds
--- between every chip before a history and after it. So do the codes, the kinds and the number of the chips.
+-- between every chip before a history and after it. So the codes, the kinds and the number of the chips are kept.
 use Prim.Native.Nat.{ℕ, zero, suc, _≤_}
 use mathlib.Core.Bool.{true}
 use mathlib.Core.List.{List, [], _∷_, map}
@@ -19,7 +19,7 @@ use Rattle.search.specs.Search.{Attached}
 use Rattle.histories.specs.Histories.{noWhole, at, codesOf, kindsOf, afterOf, run}
 use Rattle.histories.specs.Keeps.{Named, act-named, outside-named}
 use Rattle.histories.specs.Standing.{Stands, lineFrom, at-chip, after-length}
-use Rattle.histories.specs.Joined.{runOn, run-joined, Call, callsOn, callsEvents, calls-run}
+use Rattle.histories.specs.Joined.{runOn, run-joined, Call, callsOn, eventsOfCalls, calls-run}
 
 -- two lines of one length, chip by chip
 pub data Each (R : Whole → Whole → Type 0) : List Whole → List Whole → Type 0 where
@@ -94,10 +94,10 @@ pub run-length : (es : List Event) (L : List Whole) → length (run es L) ≡ le
 run-length [] L = refl
 run-length (e ∷ es) L = run-length es (afterOf e L) ∙ after-length e L
 
--- all this of a table that stands well: a history of the public event leaves the codes of its line
+-- the codes, of a table that stands well: a history of the public event leaves those of its line
 pub run-on-codes : (es : List Event) (l : Attached) → Stands l → codesOf (lineFrom (runOn es l)) ≡ codesOf (lineFrom l)
 run-on-codes es l s = ap codesOf (run-joined es l s) ∙ run-codes es (lineFrom l)
 
 -- and so do calls with searches among them
 pub calls-codes : (cs : List Call) (l : Attached) → Stands l → codesOf (lineFrom (callsOn cs l)) ≡ codesOf (lineFrom l)
-calls-codes cs l s = ap (λ (k : Attached). codesOf (lineFrom k)) (calls-run cs l s) ∙ run-on-codes (callsEvents cs l) l s
+calls-codes cs l s = ap (λ (k : Attached). codesOf (lineFrom k)) (calls-run cs l s) ∙ run-on-codes (eventsOfCalls cs l) l s

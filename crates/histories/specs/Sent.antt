@@ -1,7 +1,9 @@
--- What a host sends: the bits of numbers and of bytes, and the slots that write them.
-use Prim.Native.Nat.{ℕ, zero, suc, _+_}
+-- What a host sends: the bits of numbers and of bytes, and the slots that write them; and that numbers are bytes.
+use Prim.Native.Nat.{ℕ, zero, suc, _+_, _<_}
 use mathlib.Core.Bool.{Bool}
-use mathlib.Core.List.{List, [], _∷_, _++_, map}
+use mathlib.Core.List.{List, [], _∷_, _++_, map, List·Memᴰ, List·Memᴰ·cases-cons, List·Memᴰ·not-nil}
+use mathlib.Core.Logic.{_⊎_, inl, inr}
+use mathlib.Core.Path.{_≡_}
 use Rattle.base.specs.Bits.{bitOf}
 use Rattle.line.specs.declared.Event.{Event}
 use Rattle.line.specs.Events.{slotEvent}
@@ -23,3 +25,17 @@ slots vs = map slotEvent vs
 -- slots that write these bytes
 abbrev pub byteSlots : List ℕ → List Event
 byteSlots bs = slots (bitsOf bs)
+
+-- numbers below 256
+abbrev pub Bytes : List ℕ → Type 0
+Bytes [] = Unit
+Bytes (b ∷ bs) = (b < 256) × Bytes bs
+
+-- each of them
+pub byte-in : (bs : List ℕ) → Bytes bs → (x : ℕ) → List·Memᴰ x bs → x < 256
+byte-in [] f x m = absurd (List·Memᴰ·not-nil m)
+byte-in (b ∷ bs) (h, f) x m = go (byte-in bs f x) (List·Memᴰ·cases-cons m)
+  where
+    go : (List·Memᴰ x bs → x < 256) → (x ≡ b) ⊎ List·Memᴰ x bs → x < 256
+    go k (inl e) = rw e h
+    go k (inr n) = k n

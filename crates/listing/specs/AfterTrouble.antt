@@ -1,6 +1,6 @@
 -- Document 02, M-111, "The list after trouble": "the search's list and count depend only on the set of codes attached and the places
 -- given: not on memory, latches, RC, scratchpads or any events before, where neither 8 nor 5 is given." Of the public search, over a
--- table, its buffers and a lent list. Refusal 4 is inside: that it is given, and what is listed under it. Nothing is said of the line
+-- table, its buffers and a lent list. Refusal 4 is inside: whether it is given, and what is listed under it. Nothing is said of the line
 -- that a search leaves. `Stands` is that neither 8 nor 5 is given; `Codes` that the codes have 64 bits, as every `u64` has.
 use Prim.Native.Nat.{ℕ, _≤_}
 use native.Mathlib.Omega.{arith}
@@ -13,10 +13,10 @@ use Rattle.search.specs.Search.{Attached, Search, completeOr4, searchOf}
 use Rattle.histories.specs.Codes.{Codes}
 use Rattle.histories.specs.Histories.{lineWire, codesOf}
 use Rattle.histories.specs.Standing.{Stands, lineFrom}
-use Rattle.histories.specs.Joined.{search-joined, runOn, stands-on, Call, search, callsOn, callsEvents, calls-run, stands-calls}
+use Rattle.histories.specs.Joined.{search-joined, runOn, stands-on, Call, search, callsOn, eventsOfCalls, calls-run, stands-calls}
 use Rattle.histories.specs.Kept.{run-on-codes, calls-codes}
 use Rattle.listing.specs.Order.{SameMembers, SameListing}
-use Rattle.listing.specs.Listing.{by-members}
+use Rattle.listing.specs.Listing.{equal-members, by-members}
 use Rattle.listing.specs.Public.{orderOf, search-finds}
 
 -- what two searches come to, each with its own list: the same answer, the same codes in the first places of both lists, as many as
@@ -39,7 +39,8 @@ pub record SameSearch (s t : Search) : Type 0 where
   pub slots : s .slots ≡ t .slots
 
 -- M-111. Two tables with their buffers, each refused by neither 8 nor 5, that have the same codes, in whatever order and however
--- often, on chips of whatever kinds in whatever state; and two lists of one length, whatever stands in them.
+-- often, on chips of whatever kinds in whatever state; and two lists of one length, whatever stands in them. The two searches answer,
+-- list and count alike.
 pub same-codes-same-list : (list list′ : List ℕ) (l k : Attached) → Stands l → Stands k → Codes (codesOf (lineFrom l))
     → SameMembers (codesOf (lineFrom l)) (codesOf (lineFrom k))
     → length list ≡ length list′
@@ -47,9 +48,9 @@ pub same-codes-same-list : (list list′ : List ℕ) (l k : Attached) → Stands
 same-codes-same-list list list′ l k s t fits same long =
     let p = play lineWire (searchHost (length list)) (lineFrom l) in
     let q = play lineWire (searchHost (length list′)) (lineFrom k) in
-    -- by arithmetic, so that a weaker premise is refused here
-    let places : length list ≡ length list′ = omega arith in
-    let c : SameListing p q = rw (← places) (by-members (length list) (lineFrom l) (lineFrom k) same fits) in
+    -- by arithmetic, so that a weaker premise on the lengths is refused here
+    let as-long : length list ≡ length list′ = omega arith in
+    let c : SameListing p q = rw (← as-long) (by-members (length list) (lineFrom l) (lineFrom k) same fits) in
     let i = search-joined list l s in
     let j = search-joined list′ k t in
     let number : searchOf list l .number ≡ length (p .result .codes) = ap (λ (x : Search). x .number) i in
@@ -80,13 +81,13 @@ pub list-after-trouble : (es : List Event) (list : List ℕ) (l : Attached) → 
 list-after-trouble es list l s fits =
     let e = run-on-codes es l s in
     one-list list (searchOf list (runOn es l)) (searchOf list l)
-    (same-codes-same-list list list (runOn es l) l (stands-on es l s) s (rw e fits) (rw e (λ x. ((λ i. i), (λ i. i)))) refl)
+    (same-codes-same-list list list (runOn es l) l (stands-on es l s) s (rw e fits) (equal-members _ _ e) refl)
 
--- Earlier searches are such events, and one that was broken off is the first so many of the events of a whole one: the same after any
--- calls, events and searches.
+-- Earlier searches are such events: the same after any calls, events and searches. A search that was broken off is no call of its own: it
+-- is events alone.
 pub list-after-calls : (cs : List Call) (list : List ℕ) (l : Attached) → Stands l → Codes (codesOf (lineFrom l))
     → SameSearch (searchOf list (callsOn cs l)) (searchOf list l)
-list-after-calls cs list l s fits = rw (calls-run cs l s) (list-after-trouble (callsEvents cs l) list l s fits)
+list-after-calls cs list l s fits = rw (calls-run cs l s) (list-after-trouble (eventsOfCalls cs l) list l s fits)
 
 -- What a technician does: a search, any calls, a second search into a list of as many places, which may be the one that the first has
 -- filled. The two lists have the same codes.
@@ -95,4 +96,4 @@ pub second-list : (first second : List ℕ) (cs : List Call) (l : Attached) → 
     → ListedAlike first second (searchOf first l) (searchOf second (callsOn cs (searchOf first l .line)))
 second-list first second cs l s fits long =
     let k = callsOn (search first ∷ cs) l in
-    same-codes-same-list first second l k s (stands-calls (search first ∷ cs) l s) fits (rw (calls-codes (search first ∷ cs) l s) (λ x. ((λ i. i), (λ i. i)))) long
+    same-codes-same-list first second l k s (stands-calls (search first ∷ cs) l s) fits (equal-members _ _ (sym (calls-codes (search first ∷ cs) l s))) long

@@ -1,4 +1,4 @@
--- M-111 is about something: the codes of case 2 on two tables, in different order and one of them twice, with chips of other kinds and
+-- The theorems of M-111 are not empty: the codes of case 2 on two tables, in different order and one of them twice, with chips of other kinds and
 -- other memory; one line in the middle of a copy, with RC set and a switch held low, the other fresh. Each search is computed.
 use Prim.Native.Nat.{ℕ, _≤_}
 use native.Mathlib.Omega.{arith}
@@ -30,7 +30,7 @@ use Rattle.histories.specs.Standing.{Stands, lineFrom}
 use Rattle.histories.specs.Kept.{run-on-codes}
 use Rattle.histories.specs.Joined.{inTable, runOn, run-joined, stands-on, search-joined}
 use Rattle.listing.specs.Order.{branch, branchOrder, SameMembers}
-use Rattle.listing.specs.Listing.{branch-order}
+use Rattle.listing.specs.Listing.{equal-members, branch-order}
 use Rattle.listing.specs.AfterTrouble.{ListedAlike, SameSearch, one-list, same-codes-same-list, list-after-trouble}
 
 -- the four codes on four DS28EC20s, with memory and scratchpads FFh
@@ -55,7 +55,7 @@ troubled = runOn trouble doubled
 pub record Example : Type 0 where
   -- the troubled line is in the middle of a copy, with RC set and a switch held low
   pub copying : at 0 (lineFrom troubled) .chip .level ≡ Memory (CopyEnd 0 4 0)
-  pub resumed : at 0 (lineFrom troubled) .chip .rc ≡ true
+  pub rc-set : at 0 (lineFrom troubled) .chip .rc ≡ true
   pub low : at 1 (lineFrom troubled) .chip .switch .outside ≡ 0
   -- both list 88h, ACh, 55h, AFh, with 800 slots, and keep the rest of their own lists
   pub troubled-answer : searchOf (replicate 6 7) troubled .answer ≡ complete
@@ -113,7 +113,7 @@ pub example : Example
 unfolding bitOf same both filled pick romSlot functionIn functionSlot memorySlot memoryBegins hasMemory hasSwitch takesOutside knowsOf takesOf sendsOf resetChip resetOf outsideChip outsideOf setUpChip capped planEvent outsideFits askedBy commandOf commandBit matchBit searchBit searchSends answerOf afterOf memoryFunction copyAddress copyEnd bind play pass write upTo passes
 example = record {
   copying = ap (λ (L : List Whole). at 0 L .chip .level) (run-joined trouble doubled doubled-stands);
-  resumed = ap (λ (L : List Whole). at 0 L .chip .rc) (run-joined trouble doubled doubled-stands);
+  rc-set = ap (λ (L : List Whole). at 0 L .chip .rc) (run-joined trouble doubled doubled-stands);
   low = ap (λ (L : List Whole). at 1 L .chip .switch .outside) (run-joined trouble doubled doubled-stands);
   troubled-answer = ap (λ (s : Search). s .answer) (troubled-is (replicate 6 7));
   troubled-number = ap (λ (s : Search). s .number) (troubled-is (replicate 6 7));
@@ -130,16 +130,16 @@ example = record {
   as-before = list-after-trouble trouble (replicate 6 7) doubled doubled-stands doubled-codes;
 }
 
--- two premises, weakened: what is left is false ---------------------------------------------------
+-- two premises, weakened as the must-fail edits have them: what is left is false --------------------
 
 -- lines of one chip, and of two
-abbrev one : ℕ → Attached
+abbrev pub one : ℕ → Attached
 one code = attached 1 (setUpChip code 2 ∷ []) [] []
 
 abbrev two : Attached
 two = attached 2 (setUpChip 1 2 ∷ setUpChip 2 2 ∷ []) [] []
 
-one-stands : (code : ℕ) → Stands (one code)
+pub one-stands : (code : ℕ) → Stands (one code)
 unfolding setUpChip knownKind imageSize padSize inRange registersInRange switchInRange tableInRange sizesFit both pick bitOf
 one-stands code = record { range = refl; sizes = refl; places = lit≤ tt }
 
@@ -181,7 +181,7 @@ MorePlaces =
 pub more-places : MorePlaces → ⊥
 unfolding bitOf same both filled pick romSlot knowsOf takesOf sendsOf resetChip resetOf setUpChip capped planEvent outsideFits askedBy commandOf commandBit searchBit searchSends answerOf afterOf bind play pass write upTo passes
 more-places claim =
-    let c = claim (7 ∷ []) (7 ∷ 7 ∷ []) two two two-stands two-stands two-codes (λ x. ((λ i. i), (λ i. i))) (omega arith) in
+    let c = claim (7 ∷ []) (7 ∷ 7 ∷ []) two two two-stands two-stands two-codes (equal-members _ _ refl) (omega arith) in
     let l : searchOf (7 ∷ []) two .slots ≡ 200 = ap (λ (s : Search). s .slots) (search-joined (7 ∷ []) two two-stands) in
     let k : searchOf (7 ∷ 7 ∷ []) two .slots ≡ 400 = ap (λ (s : Search). s .slots) (search-joined (7 ∷ 7 ∷ []) two two-stands) in
     let e = c .slots in

@@ -23,6 +23,10 @@ use Rattle.listing.specs.Passes.{passes-list, capped-cut}
 
 -- branch order --------------------------------------------------------------------------------
 
+-- one list has the members of another that it is equal to
+pub equal-members : (xs ys : List ℕ) → xs ≡ ys → SameMembers xs ys
+equal-members xs ys e x = rw e ((λ i. i), (λ i. i))
+
 -- branch order by 64 bits is sorted, has no code twice, and has the codes that the list has
 pub branch-order : (xs : List ℕ) → Codes xs → InBranchOrder xs (branchOrder 64 0 xs)
 branch-order xs fits = record {
@@ -94,4 +98,4 @@ by-members places L K m fits =
 -- So lines with the same codes come to the same, whatever else differs.
 pub by-codes : (places : ℕ) (L K : List Whole) → codesOf L ≡ codesOf K → Codes (codesOf L)
     → SameListing (play lineWire (searchHost places) L) (play lineWire (searchHost places) K)
-by-codes places L K e fits = by-members places L K (λ x. rw e ((λ i. i), (λ i. i))) fits
+by-codes places L K e fits = by-members places L K (equal-members (codesOf L) (codesOf K) e) fits

@@ -14,7 +14,6 @@ use Rattle.chip.specs.Chip.{Whole}
 use Rattle.line.specs.Layout.{capped}
 use Rattle.line.specs.Line.{absent}
 use Rattle.line.specs.Event.{askedBy, planEvent, outsideFits}
-use Rattle.line.specs.Refusals.{presence}
 use Rattle.search.specs.Host.{Host, done, bind, Played, played, Listed, listed, End, end, more, play, write, pass, passes, goOn, upTo}
 use Rattle.search.specs.Counts.{more-more, andThen, play-bind}
 use Rattle.histories.specs.Codes.{Codes}

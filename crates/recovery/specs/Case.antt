@@ -23,8 +23,8 @@ use Rattle.line.specs.Events.{eventWith, resetEvent, powerOnEvent, outsideEvent
 use Rattle.histories.specs.Codes.{no-codes, one-code}
 use Rattle.histories.specs.Histories.{at, afterOf, run, answers, came}
 use Rattle.histories.specs.Keeps.{InRange, Good}
-use Rattle.histories.specs.Sent.{bitsFrom, slots}
-use Rattle.recovery.specs.Sessions.{opening, Addressed, write, Bytes, Page}
+use Rattle.histories.specs.Sent.{bitsFrom, slots, Bytes}
+use Rattle.recovery.specs.Sessions.{opening, Addressed, write, Page}
 use Rattle.recovery.specs.CarriedOut.{carriesOut, NoCopy}
 use Rattle.recovery.specs.Installed.{Installed}
 use Rattle.recovery.specs.Matched.{addressed-slots}

@@ -17,7 +17,6 @@ use Rattle.rom.specs.declared.RomStep.the-variants.{Command, Match}
 use Rattle.chip.specs.With.{withRc, withLevel}
 use Rattle.chip.specs.Chip.{Whole, whole, levelOf, romSlot, takesOf, sendsOf, resetChip, resetOf, outsideChip, outsideOf}
 use Rattle.chip.specs.Level.{takes-in, sends-in}
-use Rattle.chip.specs.declared.Level.{Level}
 use Rattle.chip.specs.declared.Level.the-variants.{Waiting, Rom}
 use Rattle.histories.specs.Sent.{bitsFrom}
 use Rattle.recovery.specs.Sessions.{opening}

@@ -9,7 +9,7 @@ use Rattle.line.specs.declared.Event.{Event}
 use Rattle.line.specs.declared.Plan.{Plan}
 use Rattle.line.specs.declared.Plan.the-variants as plan
 use Rattle.line.specs.Events.{resetEvent}
-use Rattle.histories.specs.Sent.{bitsFrom, bitsOf, slots}
+use Rattle.histories.specs.Sent.{bitsFrom, bitsOf, slots, Bytes}
 
 -- "55h: RC = 0, then take 64 bits.": the bits by which a session matches a code
 abbrev pub opening : ℕ → List Bool
@@ -54,11 +54,6 @@ writeBits t bytes = bitsFrom 8 0 0x0F ++ (bitsFrom 16 0 t ++ bitsOf bytes)
 -- a reset, a match of the code, and Write Scratchpad of these bytes at t
 abbrev pub write : ℕ → ℕ → List ℕ → List Event
 write code t bytes = matchSession code (writeBits t bytes)
-
--- numbers below 256
-abbrev pub Bytes : List ℕ → Type 0
-Bytes [] = Unit
-Bytes (b ∷ bs) = (b < 256) × Bytes bs
 
 -- 32 bytes, for an address of 16 bits whose offset in its page is 0
 pub record Page (t : ℕ) (bytes : List ℕ) : Type 0 where

@@ -25,8 +25,8 @@ use Rattle.chip.specs.With.{withRc, withLevel, withRegisters}
 use Rattle.chip.specs.Chip.{Whole, whole, memoryLook, memorySight, memorySlot, takesOf, sendsOf}
 use Rattle.chip.specs.declared.Chip.{Chip}
 use Rattle.chip.specs.declared.Level.the-variants.{Rom, Memory}
-use Rattle.histories.specs.Sent.{bitsFrom, bitsOf}
-use Rattle.recovery.specs.Sessions.{opening, writeBits, Bytes, Page}
+use Rattle.histories.specs.Sent.{bitsFrom, bitsOf, Bytes}
+use Rattle.recovery.specs.Sessions.{opening, writeBits, Page}
 use Rattle.recovery.specs.Filled.{filledBy, byte-taken}
 use Rattle.recovery.specs.Goes.{Goes, goes-from, goes-to, goes-append, ec20, goes-opening, goes-0F, addressed, goes-address}
 

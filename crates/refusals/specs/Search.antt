@@ -72,8 +72,8 @@ module _ (list : List ℕ) (l : Attached) where
       (λ a. pick-if (λ (v : Verdict). Eventless (searchBy v list l)) _ _ _ (λ b r k p. absurd (past-4 r (λ q. k (sym q)) p)) (λ b. plainly 5))
       (λ a. plainly 8)
 
-  -- neither 8 nor 5 is given exactly where the table stands well, which is what theorems about searches ask for; of 16 places or as many as
-  -- there are chips, as every table has
+  -- neither 8 nor 5 is given exactly where the table stands well, which is what theorems about searches ask for; of a table with at least
+  -- as many places as its count, where that is at most 16: a `Table` has 16, and a slice as many as chips
   pub given-neither : (l .count ≤ 16 → l .count ≤ length (l .lent .chips))
       → Iff ((searchOf list l .answer ≡ refused 8 → ⊥) × (searchOf list l .answer ≡ refused 5 → ⊥)) (Stands l)
   given-neither places = ((λ n. go ranged sized refl refl n), (λ s. ((λ p. true≢false (sym (s .range) ∙ refused-8 .0 p)), (λ p. true≢false (sym (s .sizes) ∙ refused-5 .0 p .1)))))
