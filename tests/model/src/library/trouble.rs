@@ -197,8 +197,8 @@ const LEAKS: [Slip; 6] = [
     Slip::TableFirst,
 ];
 
-/// Whether lists held against one another show a slip that library and model share. With each slip every answer
-/// is the model's, and yet a list has a fault; without one, none has.
+/// Whether lists held against one another show a slip that library and model share; here the model answers in the
+/// library's place. With each slip every answer is the model's, and yet a list has a fault; without one, none has.
 pub fn shared_slips_show() -> bool {
     LEAKS.iter().all(|slip| shows(Some(*slip))) && !shows(None)
 }
