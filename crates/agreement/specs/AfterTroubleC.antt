@@ -5,12 +5,10 @@ use native.Mathlib.Omega.{arith}
 use mathlib.Core.Bool.{Bool, true, false}
 use mathlib.Core.List.{List, [], _∷_, _++_, List·Memᴰ, List·Memᴰ·head, List·Memᴰ·tail, Memᴰ·append-left, Memᴰ·append-right}
 use mathlib.Core.Path.{_≡_, refl, _∙_, ap, sym}
-use lib.Dec.{leb, ltb}
+use lib.Dec.{leb}
 use lib.IntN.{ℤ, pos, negsuc}
 use lib.ListN.{length, drop}
-use borrow.Author.Tests.{ltb-true}
 use Rattle.base.specs.Bits.{both}
-use Rattle.base.specs.Both.{both-holds}
 use Rattle.base.specs.Exactly.{Iff}
 use Rattle.base.specs.Pick.{pick, pick-true, pick-false}
 use Rattle.chip.specs.declared.Chip.{Chip}
@@ -20,10 +18,10 @@ use Rattle.search.specs.Search.{refused, completeOr4, Search, searchOf}
 use Rattle.packed.specs.Packed.{packed, packedTable, unpackedTable, isTable}
 use Rattle.packed.specs.Laws.{unpacked-table, table-is, of-table}
 use Rattle.toemsakun.specs.Library.{minus, eventBytes, SearchLeft, searchNumber, packedSearch, searchBytes}
-use Rattle.histories.specs.Codes.{Codes, no-codes, one-code}
-use Rattle.histories.specs.Sent.{Bytes, byte-in}
+use Rattle.histories.specs.Codes.{Codes, no-codes, another-code}
+use Rattle.histories.specs.Sent.{Bytes, each-byte, are-bytes}
 use Rattle.histories.specs.Standing.{Stands}
-use Rattle.histories.specs.Joined.{Call, event, search}
+use Rattle.histories.specs.Calls.{Call, event-call, search-call}
 use Rattle.refusals.specs.Search.{given-neither}
 use Rattle.listing.specs.Order.{SameMembers}
 use Rattle.listing.specs.Public.{orderOf, search-finds}
@@ -50,8 +48,8 @@ searchIn list b = searchBytes (b .table) list (b .images) (b .pads)
 
 -- what `tk_event` and `tk_search` leave, and what one call after another leaves
 abbrev pub leavesBytes : Call → LentBytes → LentBytes
-leavesBytes (event e) b = let o = eventBytes (b .table) e (b .images) (b .pads) in record { table = o .table; images = o .images; pads = o .pads }
-leavesBytes (search list) b = let o = searchIn list b in record { table = o .table; images = o .images; pads = o .pads }
+leavesBytes (event-call e) b = let o = eventBytes (b .table) e (b .images) (b .pads) in record { table = o .table; images = o .images; pads = o .pads }
+leavesBytes (search-call list) b = let o = searchIn list b in record { table = o .table; images = o .images; pads = o .pads }
 
 abbrev pub runBytes : List Call → LentBytes → LentBytes
 runBytes [] b = b
@@ -71,8 +69,8 @@ pub record SameSearchInC (s t : SearchLeft) : Type 0 where
   pub slots : s .slots ≡ t .slots
 
 -- what two calls come to, each with its own list: both answer how many codes they list, or both -4; the same codes stand in the first
--- places of both lists; there are 200 slots for each code, so that the count tells how many they are under 4 too; and past the codes
--- each list is as it was found
+-- places of both lists, and past them each list is as it was found; both put as many resets on the line, and 200 slots for each code,
+-- so that the count tells how many codes are listed under 4 too
 pub record ListedAlikeInC (list list′ : List ℕ) (s t : SearchLeft) : Type 0 where
   pub codes : List ℕ
   pub places : length codes ≤ length list
@@ -89,8 +87,8 @@ search-packed list x = rw (pick-true (isTable (packedTable (x .chips))) _ _ (of-
 
 call-packed : (c : Call) (x : Lent) → leavesBytes c (packedLent x) ≡ packedLent (leavesLent c x)
 unfolding eventBytes
-call-packed (event e) x = rw (pick-true (isTable (packedTable (x .chips))) _ _ (of-table _ (x .chips) refl .0), unpacked-table (x .chips))
-call-packed (search list) x = ap (λ (o : SearchLeft). record { table = o .table; images = o .images; pads = o .pads }) (search-packed list x)
+call-packed (event-call e) x = rw (pick-true (isTable (packedTable (x .chips))) _ _ (of-table _ (x .chips) refl .0), unpacked-table (x .chips))
+call-packed (search-call list) x = ap (λ (o : SearchLeft). record { table = o .table; images = o .images; pads = o .pads }) (search-packed list x)
 
 run-packed : (cs : List Call) (x : Lent) → runBytes cs (packedLent x) ≡ packedLent (runLent cs x)
 run-packed [] x = refl
@@ -122,10 +120,10 @@ code-fits c small =
 codes-fit : (cs : List Chip) → ((x : ℕ) → List·Memᴰ x (packedTable cs) → x < 256) → Codes (codesIn cs)
 codes-fit [] small = no-codes
 codes-fit (c ∷ cs) small =
-    one-code (c .code) (codesIn cs) (code-fits c (λ x m. small x (Memᴰ·append-left (packedTable cs) m))) (codes-fit cs (λ x m. small x (Memᴰ·append-right (packed c) m)))
+    another-code (c .code) (codesIn cs) (code-fits c (λ x m. small x (Memᴰ·append-left (packedTable cs) m))) (codes-fit cs (λ x m. small x (Memᴰ·append-right (packed c) m)))
 
 bytes-fit : (b : LentBytes) → StandsAsBytes b → Codes (codesIn (unpackedLent b .chips))
-bytes-fit b s = codes-fit (unpackedLent b .chips) (rw (table-is (b .table) (s .table)) (byte-in (b .table) (s .bytes)))
+bytes-fit b s = codes-fit (unpackedLent b .chips) (rw (table-is (b .table) (s .table)) (each-byte (b .table) (s .bytes)))
 
 -- M-111 of `tk_search`: after any calls of it and of `tk_event`, as before them
 pub list-after-trouble-c : (cs : List Call) (list : List ℕ) (b : LentBytes) → StandsAsBytes b → SameSearchInC (searchIn list (runBytes cs b)) (searchIn list b)
@@ -174,10 +172,10 @@ same-codes-same-list-c list list′ b d s t same long =
 
 -- and a search, any calls, and a second search with as many places
 pub second-list-c : (first second : List ℕ) (cs : List Call) (b : LentBytes) → StandsAsBytes b → length first ≡ length second
-    → ListedAlikeInC first second (searchIn first b) (searchIn second (runBytes (search first ∷ cs) b))
+    → ListedAlikeInC first second (searchIn first b) (searchIn second (runBytes (search-call first ∷ cs) b))
 second-list-c first second cs b s long =
-    alike-packed first second (unpackedLent b) (runLent (search first ∷ cs) (unpackedLent b)) _ _
-    (searched-after [] first b (s .table)) (searched-after (search first ∷ cs) second b (s .table)) (s .stands) (bytes-fit b s)
+    alike-packed first second (unpackedLent b) (runLent (search-call first ∷ cs) (unpackedLent b)) _ _
+    (searched-after [] first b (s .table)) (searched-after (search-call first ∷ cs) second b (s .table)) (s .stands) (bytes-fit b s)
     (second-list-lent first second cs (unpackedLent b) (s .stands) (bytes-fit b s) long)
 
 -- how far a number is below 0
@@ -230,15 +228,6 @@ module _ (list : List ℕ) (b : LentBytes) where
 
 abbrev oneChip : Lent
 oneChip = lent (setUpChip 0x3A 2 ∷ []) [] []
-
--- whether every number is below 256
-abbrev areBytes : List ℕ → Bool
-areBytes [] = true
-areBytes (x ∷ xs) = both (ltb x 256) (areBytes xs)
-
-are-bytes : (bs : List ℕ) → areBytes bs ≡ true → Bytes bs
-are-bytes [] e = tt
-are-bytes (b ∷ bs) e = let h = both-holds (ltb b 256) (areBytes bs) e in (ltb-true b 256 (h .0), are-bytes bs (h .1))
 
 one-bytes : Bytes (packedTable (oneChip .chips))
 unfolding packed setUpChip both pick

@@ -9,7 +9,7 @@ use lib.Seq.{take-length}
 use Rattle.chip.specs.declared.Chip.{Chip}
 use Rattle.chip.specs.Chip.{Whole}
 use Rattle.line.specs.Event.{eventOf}
-use Rattle.line.specs.Layout.{Lent, lent, split, chipsOf}
+use Rattle.line.specs.Layout.{Lent, split, chipsOf}
 use Rattle.line.specs.Prefix.{event-holds}
 use Rattle.line.specs.Refusals.{chips-split}
 use Rattle.search.specs.Prefix.{search-has}
@@ -17,7 +17,7 @@ use Rattle.search.specs.Search.{Attached, attached, leavesOf, searchOf}
 use Rattle.histories.specs.Codes.{Codes}
 use Rattle.histories.specs.Histories.{codesOf}
 use Rattle.histories.specs.Standing.{Stands, lineFrom}
-use Rattle.histories.specs.Joined.{Call, event, search, leavesCall, callsOn}
+use Rattle.histories.specs.Calls.{Call, event-call, search-call, leavesCall, callsOn}
 use Rattle.listing.specs.Order.{SameMembers}
 use Rattle.listing.specs.AfterTrouble.{ListedAlike, SameSearch, same-codes-same-list, list-after-calls, second-list}
 
@@ -31,8 +31,8 @@ codesIn cs = map (λ (c : Chip). c .code) cs
 
 -- what `lent::take_event` and `lent::search_line` leave, and what one call after another leaves
 abbrev pub leavesLent : Call → Lent → Lent
-leavesLent (event e) x = eventOf (length (x .chips)) (x .chips) e (x .images) (x .pads) .lent
-leavesLent (search list) x = searchOf list (ofLent x) .line .lent
+leavesLent (event-call e) x = eventOf (length (x .chips)) (x .chips) e (x .images) (x .pads) .lent
+leavesLent (search-call list) x = searchOf list (ofLent x) .line .lent
 
 abbrev pub runLent : List Call → Lent → Lent
 runLent [] x = x
@@ -41,13 +41,13 @@ runLent (c ∷ cs) x = runLent cs (leavesLent c x)
 -- they keep the number of chips, so that they are the calls on the table
 leaves-lent : (c : Call) (x : Lent) → ofLent (leavesLent c x) ≡ leavesCall c (ofLent x)
 unfolding leavesOf
-leaves-lent (event e) x =
+leaves-lent (event-call e) x =
     let k = event-holds (length (x .chips)) (x .chips) e (x .images) (x .pads) (omega arith) in
-    λ j. record { count = (k .places ∙ sym (k .chips)) j; lent = leavesLent (event e) x }
-leaves-lent (search list) x =
+    λ j. record { count = (k .places ∙ sym (k .chips)) j; lent = leavesLent (event-call e) x }
+leaves-lent (search-call list) x =
     let n = length (x .chips) in
     let k = search-has n n (omega arith) list (ofLent x) (record { chips = refl; places = refl }) in
-    λ j. record { count = (k .places ∙ sym (k .chips)) j; lent = leavesLent (search list) x }
+    λ j. record { count = (k .places ∙ sym (k .chips)) j; lent = leavesLent (search-call list) x }
 
 run-lent : (cs : List Call) (x : Lent) → ofLent (runLent cs x) ≡ callsOn cs (ofLent x)
 run-lent [] x = refl
@@ -80,5 +80,5 @@ same-codes-same-list-lent list list′ x y s t fits same long =
 -- and a search, any calls, and a second search with as many places
 pub second-list-lent : (first second : List ℕ) (cs : List Call) (x : Lent) → Stands (ofLent x) → Codes (codesIn (x .chips))
     → length first ≡ length second
-    → ListedAlike first second (searchOf first (ofLent x)) (searchOf second (ofLent (runLent (search first ∷ cs) x)))
-second-list-lent first second cs x s fits long = rw (run-lent (search first ∷ cs) x) (second-list first second cs (ofLent x) s (rw (codes-lent x) fits) long)
+    → ListedAlike first second (searchOf first (ofLent x)) (searchOf second (ofLent (runLent (search-call first ∷ cs) x)))
+second-list-lent first second cs x s fits long = rw (run-lent (search-call first ∷ cs) x) (second-list first second cs (ofLent x) s (rw (codes-lent x) fits) long)

@@ -8,11 +8,12 @@ use mathlib.Core.Path.{_≡_, refl}
 abbrev pub Codes : List ℕ → Type 0
 Codes xs = (x : ℕ) → List·Memᴰ x xs → x < 2 ^ 64
 
+-- no code, and one more before others
 pub no-codes : Codes []
 no-codes x m = absurd (List·Memᴰ·not-nil m)
 
-pub one-code : (c : ℕ) (cs : List ℕ) → c < 2 ^ 64 → Codes cs → Codes (c ∷ cs)
-one-code c cs h f x m = go (List·Memᴰ·cases-cons m)
+pub another-code : (c : ℕ) (cs : List ℕ) → c < 2 ^ 64 → Codes cs → Codes (c ∷ cs)
+another-code c cs h f x m = go (List·Memᴰ·cases-cons m)
   where
     go : (x ≡ c) ⊎ List·Memᴰ x cs → x < 2 ^ 64
     go (inl e) = rw e h

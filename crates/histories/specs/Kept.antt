@@ -19,7 +19,8 @@ use Rattle.search.specs.Search.{Attached}
 use Rattle.histories.specs.Histories.{noWhole, at, codesOf, kindsOf, afterOf, run}
 use Rattle.histories.specs.Keeps.{Named, act-named, outside-named}
 use Rattle.histories.specs.Standing.{Stands, lineFrom, at-chip, after-length}
-use Rattle.histories.specs.Joined.{runOn, run-joined, Call, callsOn, eventsOfCalls, calls-run}
+use Rattle.histories.specs.Joined.{runOn, run-joined}
+use Rattle.histories.specs.Calls.{Call, callsOn, eventsOfCalls, calls-run}
 
 -- two lines of one length, chip by chip
 pub data Each (R : Whole → Whole → Type 0) : List Whole → List Whole → Type 0 where
@@ -33,7 +34,7 @@ each-at s zero (more r e) = r
 each-at s (suc i) (more r e) = each-at s i e
 
 -- what the relation says is the same of two chips is the same all along
-pub each-map : {R : Whole → Whole → Type 0} {L M : List Whole} (f : Whole → ℕ) → ((w u : Whole) → R w u → f u ≡ f w) → Each R L M → map f M ≡ map f L
+each-map : {R : Whole → Whole → Type 0} {L M : List Whole} (f : Whole → ℕ) → ((w u : Whole) → R w u → f u ≡ f w) → Each R L M → map f M ≡ map f L
 each-map f k none = refl
 each-map f k (more {w = w} {u = u} r e) = λ j. k w u r j ∷ each-map f k e j
 
@@ -94,7 +95,7 @@ pub run-length : (es : List Event) (L : List Whole) → length (run es L) ≡ le
 run-length [] L = refl
 run-length (e ∷ es) L = run-length es (afterOf e L) ∙ after-length e L
 
--- the codes, of a table that stands well: a history of the public event leaves those of its line
+-- a history of the public event leaves the codes of a table's line, where the table stands well
 pub run-on-codes : (es : List Event) (l : Attached) → Stands l → codesOf (lineFrom (runOn es l)) ≡ codesOf (lineFrom l)
 run-on-codes es l s = ap codesOf (run-joined es l s) ∙ run-codes es (lineFrom l)
 

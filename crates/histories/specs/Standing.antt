@@ -1,6 +1,6 @@
 -- A line that stands well goes on standing well: refusals 8 and 5 never come up in a history from a good line, and what the public
 -- event does to a table and its buffers is what happens to the line of whole chips.
-use Prim.Native.Nat.{ℕ, zero, suc, _+_, _≤_}
+use Prim.Native.Nat.{ℕ, zero, suc, _≤_}
 use native.Mathlib.Omega.{arith}
 use mathlib.Core.Bool.{Bool, true, false, true≢false}
 use mathlib.Core.List.{List, [], _∷_, _++_, map}

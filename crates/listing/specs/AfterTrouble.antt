@@ -13,7 +13,8 @@ use Rattle.search.specs.Search.{Attached, Search, completeOr4, searchOf}
 use Rattle.histories.specs.Codes.{Codes}
 use Rattle.histories.specs.Histories.{lineWire, codesOf}
 use Rattle.histories.specs.Standing.{Stands, lineFrom}
-use Rattle.histories.specs.Joined.{search-joined, runOn, stands-on, Call, search, callsOn, eventsOfCalls, calls-run, stands-calls}
+use Rattle.histories.specs.Joined.{search-joined, runOn, stands-on}
+use Rattle.histories.specs.Calls.{Call, search-call, callsOn, eventsOfCalls, calls-run, stands-calls}
 use Rattle.histories.specs.Kept.{run-on-codes, calls-codes}
 use Rattle.listing.specs.Order.{SameMembers, SameListing}
 use Rattle.listing.specs.Listing.{equal-members, by-members}
@@ -48,9 +49,10 @@ pub same-codes-same-list : (list list′ : List ℕ) (l k : Attached) → Stands
 same-codes-same-list list list′ l k s t fits same long =
     let p = play lineWire (searchHost (length list)) (lineFrom l) in
     let q = play lineWire (searchHost (length list′)) (lineFrom k) in
-    -- by arithmetic, so that a weaker premise on the lengths is refused here
+    -- both premises by a tactic, so that a weaker one leaves the goal that it no longer proves
+    let same-codes : SameMembers (codesOf (lineFrom l)) (codesOf (lineFrom k)) = search same in
     let as-long : length list ≡ length list′ = omega arith in
-    let c : SameListing p q = rw (← as-long) (by-members (length list) (lineFrom l) (lineFrom k) same fits) in
+    let c : SameListing p q = rw (← as-long) (by-members (length list) (lineFrom l) (lineFrom k) same-codes fits) in
     let i = search-joined list l s in
     let j = search-joined list′ k t in
     let number : searchOf list l .number ≡ length (p .result .codes) = ap (λ (x : Search). x .number) i in
@@ -95,5 +97,5 @@ pub second-list : (first second : List ℕ) (cs : List Call) (l : Attached) → 
     → length first ≡ length second
     → ListedAlike first second (searchOf first l) (searchOf second (callsOn cs (searchOf first l .line)))
 second-list first second cs l s fits long =
-    let k = callsOn (search first ∷ cs) l in
-    same-codes-same-list first second l k s (stands-calls (search first ∷ cs) l s) fits (equal-members _ _ (sym (calls-codes (search first ∷ cs) l s))) long
+    let k = callsOn (search-call first ∷ cs) l in
+    same-codes-same-list first second l k s (stands-calls (search-call first ∷ cs) l s) fits (equal-members _ _ (sym (calls-codes (search-call first ∷ cs) l s))) long

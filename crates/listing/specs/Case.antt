@@ -1,6 +1,7 @@
 -- The theorems of M-111 are not empty: the codes of case 2 on two tables, in different order and one of them twice, with chips of other kinds and
--- other memory; one line in the middle of a copy, with RC set and a switch held low, the other fresh. Each search is computed.
-use Prim.Native.Nat.{ℕ, _≤_}
+-- other memory; one line in the middle of a copy, with RC set and a switch held low, the other fresh. Each search is computed. After that two
+-- statements like `same-codes-same-list` with a weaker premise, proved false.
+use Prim.Native.Nat.{ℕ, _^_, _<_, _≤_}
 use native.Mathlib.Omega.{arith}
 use mathlib.Core.Bool.{true}
 use mathlib.Core.List.{List, [], _∷_, _++_}
@@ -23,7 +24,7 @@ use Rattle.line.specs.Events.{resetEvent, outsideEvent}
 use Rattle.line.specs.declared.Event.{Event}
 use Rattle.search.specs.Host.{bind, play, pass, write, upTo, passes, searchHost}
 use Rattle.search.specs.Search.{Attached, attached, Search, complete, fromPlayed, searchOf}
-use Rattle.histories.specs.Codes.{Codes, no-codes, one-code}
+use Rattle.histories.specs.Codes.{Codes, no-codes, another-code}
 use Rattle.histories.specs.Sent.{bitsFrom, slots, byteSlots}
 use Rattle.histories.specs.Histories.{at, codesOf, answerOf, afterOf, run, lineWire}
 use Rattle.histories.specs.Standing.{Stands, lineFrom}
@@ -31,6 +32,7 @@ use Rattle.histories.specs.Kept.{run-on-codes}
 use Rattle.histories.specs.Joined.{inTable, runOn, run-joined, stands-on, search-joined}
 use Rattle.listing.specs.Order.{branch, branchOrder, SameMembers}
 use Rattle.listing.specs.Listing.{equal-members, branch-order}
+use Rattle.listing.specs.Public.{search-finds}
 use Rattle.listing.specs.AfterTrouble.{ListedAlike, SameSearch, one-list, same-codes-same-list, list-after-trouble}
 
 -- the four codes on four DS28EC20s, with memory and scratchpads FFh
@@ -81,11 +83,11 @@ same-in-order xs ys f g e x =
 
 fresh-codes : Codes (codesOf (lineFrom fresh))
 unfolding setUpChip
-fresh-codes = one-code 0xAC _ (omega arith) (one-code 0x55 _ (omega arith) (one-code 0xAF _ (omega arith) (one-code 0x88 _ (omega arith) no-codes)))
+fresh-codes = another-code 0xAC _ (omega arith) (another-code 0x55 _ (omega arith) (another-code 0xAF _ (omega arith) (another-code 0x88 _ (omega arith) no-codes)))
 
 doubled-codes : Codes (codesOf (lineFrom doubled))
 unfolding setUpChip
-doubled-codes = one-code 0xAF _ (omega arith) (one-code 0x88 _ (omega arith) (one-code 0x55 _ (omega arith) (one-code 0xAC _ (omega arith) (one-code 0x88 _ (omega arith) no-codes))))
+doubled-codes = another-code 0xAF _ (omega arith) (another-code 0x88 _ (omega arith) (another-code 0x55 _ (omega arith) (another-code 0xAC _ (omega arith) (another-code 0x88 _ (omega arith) no-codes))))
 
 same-codes : SameMembers (codesOf (lineFrom doubled)) (codesOf (lineFrom fresh))
 unfolding branchOrder branch bitOf same pick setUpChip
@@ -147,13 +149,13 @@ two-stands : Stands two
 unfolding setUpChip knownKind imageSize padSize inRange registersInRange switchInRange tableInRange sizesFit both pick bitOf
 two-stands = record { range = refl; sizes = refl; places = lit≤ tt }
 
-one-codes : Codes (codesOf (lineFrom (one 1)))
+one-codes : (code : ℕ) → code < 2 ^ 64 → Codes (codesOf (lineFrom (one code)))
 unfolding setUpChip
-one-codes = one-code 1 _ (omega arith) no-codes
+one-codes code h = another-code code _ h no-codes
 
 two-codes : Codes (codesOf (lineFrom two))
 unfolding setUpChip
-two-codes = one-code 1 _ (omega arith) (one-code 2 _ (omega arith) no-codes)
+two-codes = another-code 1 _ (omega arith) (another-code 2 _ (omega arith) no-codes)
 
 -- `same-codes-same-list` with as many codes, in place of the same ones
 abbrev AsManyCodes : Type 0
@@ -163,11 +165,11 @@ AsManyCodes =
     → ListedAlike list list′ (searchOf list l) (searchOf list′ k)
 
 pub as-many-codes : AsManyCodes → ⊥
-unfolding bitOf same both filled pick romSlot knowsOf takesOf sendsOf resetChip resetOf setUpChip capped planEvent outsideFits askedBy commandOf commandBit searchBit searchSends answerOf afterOf bind play pass write upTo passes
+unfolding branchOrder branch bitOf same pick setUpChip
 as-many-codes claim =
-    let c = claim (7 ∷ []) (7 ∷ []) (one 1) (one 2) (one-stands 1) (one-stands 2) one-codes refl refl in
-    let l : searchOf (7 ∷ []) (one 1) .list ≡ 1 ∷ [] = ap (λ (s : Search). s .list) (search-joined (7 ∷ []) (one 1) (one-stands 1)) in
-    let k : searchOf (7 ∷ []) (one 2) .list ≡ 2 ∷ [] = ap (λ (s : Search). s .list) (search-joined (7 ∷ []) (one 2) (one-stands 2)) in
+    let c = claim (7 ∷ []) (7 ∷ []) (one 1) (one 2) (one-stands 1) (one-stands 2) (one-codes 1 (omega arith)) refl refl in
+    let l : searchOf (7 ∷ []) (one 1) .list ≡ 1 ∷ [] = search-finds (7 ∷ []) (one 1) (one-stands 1) (one-codes 1 (omega arith)) .list in
+    let k : searchOf (7 ∷ []) (one 2) .list ≡ 2 ∷ [] = search-finds (7 ∷ []) (one 2) (one-stands 2) (one-codes 2 (omega arith)) .list in
     let e : _≡_ {A = ℕ} 1 2 = ap (λ (x : List ℕ). getD x 0 0) (sym l ∙ one-list (7 ∷ []) _ _ c .list ∙ k) in
     omega arith
 
@@ -179,10 +181,10 @@ MorePlaces =
     → ListedAlike list list′ (searchOf list l) (searchOf list′ k)
 
 pub more-places : MorePlaces → ⊥
-unfolding bitOf same both filled pick romSlot knowsOf takesOf sendsOf resetChip resetOf setUpChip capped planEvent outsideFits askedBy commandOf commandBit searchBit searchSends answerOf afterOf bind play pass write upTo passes
+unfolding branchOrder branch bitOf same pick setUpChip
 more-places claim =
     let c = claim (7 ∷ []) (7 ∷ 7 ∷ []) two two two-stands two-stands two-codes (equal-members _ _ refl) (omega arith) in
-    let l : searchOf (7 ∷ []) two .slots ≡ 200 = ap (λ (s : Search). s .slots) (search-joined (7 ∷ []) two two-stands) in
-    let k : searchOf (7 ∷ 7 ∷ []) two .slots ≡ 400 = ap (λ (s : Search). s .slots) (search-joined (7 ∷ 7 ∷ []) two two-stands) in
+    let l : searchOf (7 ∷ []) two .slots ≡ 200 = search-finds (7 ∷ []) two two-stands two-codes .slots in
+    let k : searchOf (7 ∷ 7 ∷ []) two .slots ≡ 400 = search-finds (7 ∷ 7 ∷ []) two two-stands two-codes .slots in
     let e = c .slots in
     omega arith

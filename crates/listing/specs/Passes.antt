@@ -1,5 +1,5 @@
 -- Laws: the passes list the codes that are still to be listed, one after the other, until the places are full.
-use Prim.Native.Nat.{ℕ, zero, suc, max, _+_, _-_, _*_, _<_, _≤_}
+use Prim.Native.Nat.{ℕ, zero, suc, max, _-_, _*_, _<_, _≤_}
 use native.Mathlib.Omega.{arith}
 use native.Mathlib.Nat.{mul-suc}
 use mathlib.Core.Bool.{Bool, true, false}

@@ -20,7 +20,7 @@ use Rattle.chip.specs.Kinds.{knownKind, imageSize, padSize}
 use Rattle.line.specs.Event.{askedBy, planEvent, outsideFits}
 use Rattle.line.specs.declared.Event.{Event}
 use Rattle.line.specs.Events.{eventWith, resetEvent, powerOnEvent, outsideEvent}
-use Rattle.histories.specs.Codes.{no-codes, one-code}
+use Rattle.histories.specs.Codes.{no-codes, another-code}
 use Rattle.histories.specs.Histories.{at, afterOf, run, answers, came}
 use Rattle.histories.specs.Keeps.{InRange, Good}
 use Rattle.histories.specs.Sent.{bitsFrom, slots, Bytes}
@@ -48,7 +48,7 @@ fresh = record { range = fresh-range; memory = length-replicate {A = ℕ} 2624 0
 -- the codes differ
 line-installed : Installed 0 line
 unfolding setUpChip
-line-installed = record { attached = omega arith; differ = (((λ e. omega arith), tt), (tt, tt)); codes = one-code 5 _ (omega arith) (one-code 6 _ (omega arith) no-codes); kind = refl; good = fresh }
+line-installed = record { attached = omega arith; differ = (((λ e. omega arith), tt), (tt, tt)); codes = another-code 5 _ (omega arith) (another-code 6 _ (omega arith) no-codes); kind = refl; good = fresh }
 
 -- power on, an event that is refused, and outside levels of chip 1
 abbrev quiet : List Event

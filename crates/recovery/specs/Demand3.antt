@@ -8,9 +8,9 @@ use mathlib.Core.Path.{_≡_, refl, _∙_, ap, sym}
 use Rattle.chip.specs.Chip.{Whole}
 use Rattle.line.specs.declared.Event.{Event}
 use Rattle.histories.specs.Histories.{at, run}
+use Rattle.histories.specs.Kept.{run-kinds}
 use Rattle.recovery.specs.Sessions.{write, Page}
 use Rattle.recovery.specs.CarriedOut.{NoCopy, no-copy}
-use Rattle.histories.specs.Kept.{run-kinds}
 use Rattle.recovery.specs.Stays.{run-stays}
 use Rattle.recovery.specs.Among.{among-at}
 use Rattle.recovery.specs.Written.{writtenTo}

@@ -12,8 +12,8 @@ use Rattle.line.specs.declared.Event.{Event}
 use Rattle.histories.specs.Codes.{Codes, first-code, other-codes}
 use Rattle.histories.specs.Histories.{at, run, codesOf}
 use Rattle.histories.specs.Keeps.{Good, act-named}
-use Rattle.recovery.specs.Sessions.{opening}
 use Rattle.histories.specs.Kept.{run-codes, run-length}
+use Rattle.recovery.specs.Sessions.{opening}
 use Rattle.recovery.specs.Stays.{run-stays}
 use Rattle.recovery.specs.Opening.{opening-silent}
 use Rattle.recovery.specs.Among.{Own, Others, none, more, Among, here, there, other-reset}

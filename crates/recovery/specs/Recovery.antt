@@ -5,8 +5,8 @@ use mathlib.Core.Path.{_≡_, refl, _∙_, sym, subst}
 use Rattle.chip.specs.Chip.{Whole}
 use Rattle.line.specs.declared.Event.{Event}
 use Rattle.histories.specs.Histories.{at, kindsOf, afterOf, run, answers, came}
-use Rattle.recovery.specs.Sessions.{Addressed, write, Page}
 use Rattle.histories.specs.Kept.{run-kinds}
+use Rattle.recovery.specs.Sessions.{Addressed, write, Page}
 use Rattle.recovery.specs.Stays.{bare}
 use Rattle.recovery.specs.Among.{among-at, ownRun, ownAnswers, came-alike, alone, alone-answers}
 use Rattle.recovery.specs.Written.{writtenTo}

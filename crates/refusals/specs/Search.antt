@@ -1,4 +1,4 @@
--- Demand 1 for the search: 8 and 5 "both without an event, counts 0".
+-- Demand 1 for the search: 8 and 5 "both without an event, counts 0"; and neither is given exactly where the table stands well.
 use Prim.Native.Nat.{ℕ, _≤_}
 use native.Mathlib.Omega.{arith}
 use mathlib.Core.Bool.{Bool, true, false, true≢false}
