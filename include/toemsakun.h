@@ -148,9 +148,9 @@ int32_t tk_event(uint8_t *table, size_t table_size, uint32_t event, uint32_t chi
  * Refused by 8 or 5: nothing is changed, and both counts are 0. Refused by 4: the list is filled to its end, and the line
  * is as after those passes. Places past the codes listed stay as they were.
  *
- * Where neither 8 nor 5 is given, the answer, the codes listed and both counts go by the set of codes on the line and by
- * the places alone: not by what chips hold or are in the middle of, nor by any calls before. So a search after trouble
- * lists what one before it would have listed.
+ * Where neither 8 nor 5 is given, the answer, the codes listed and both counts depend only on the set of codes on the line
+ * and on the number of places: not on what chips hold or are in the middle of, nor on any calls before. So a search after
+ * trouble lists what one with as many places would have listed before it.
  */
 int32_t tk_search(uint8_t *table, size_t table_size, uint64_t *list, size_t places, uint8_t *images, size_t images_size,
                   uint8_t *pads, size_t pads_size, uint64_t *resets, uint64_t *slots);

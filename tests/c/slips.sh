@@ -73,6 +73,9 @@ slips=(
     'search.c|s/    struct search search = {.line = \&line, .branch = -1};/    static struct search search = {.branch = -1};\n    search.line = \&line, search.slots = 0;/|a search goes on where one refused by 4 has ended'
 )
 
+# Is it the slip that fails, and not the plain model or the tests?
+"$here/run" --plain "$top/tools/speed" --lines 3000 --stop 1 "$@" >/dev/null 2>&1 || { echo "the plain model fails without a slip"; exit 1; }
+
 total=0 caught=0
 for slip in "${slips[@]}"; do
     file=${slip%%|*}
@@ -91,7 +94,7 @@ for slip in "${slips[@]}"; do
     else
         by=$(grep -m 1 -e '^WRONG' -e '^FAILED' <<<"$output")
         by=${by:+$by; }$(grep -m 1 -e '^DIFFERENCE' <<<"$output")
-        caught=$((caught + 1))
+        if [ -n "$by" ]; then caught=$((caught + 1)); else by='FAILS WITHOUT A DIFFERENCE'; fi
     fi
     printf '%-78s %s\n' "$text" "$by"
 done

@@ -369,7 +369,7 @@ fn troubled(book: &mut Book) -> Desk<'_> {
 }
 
 /// M-111: the list and the counts of a line in trouble are those of a fresh line with its codes: inside a copy,
-/// after a copy, and after a search that ends at the 5th bit of 88h.
+/// after a copy, and after a search that ends with the 5th bit of 88h.
 fn after_trouble(book: &mut Book) -> bool {
     let mut desk = troubled(book);
     desk.matched(0x88, &[0x55, 0x06, 0x00]);
@@ -378,6 +378,7 @@ fn after_trouble(book: &mut Book) -> bool {
     let mut lines = vec![desk.line];
     let mut desk = troubled(desk.book);
     desk.matched(0x88, &[0x55, 0x06, 0x00, 0x07]);
+    let copied = desk.line.table[1].step == Step::CopyDone;
     lines.push(desk.line.clone());
     desk.event(2);
     desk.bits(0xF0);
@@ -390,7 +391,7 @@ fn after_trouble(book: &mut Book) -> bool {
         let want = found(&fresh, places);
         lines.iter().all(|line| found(line, places) == want)
     };
-    begun && broken && same(0) && same(2) && same(4) && same(16)
+    begun && copied && broken && same(0) && same(2) && same(4) && same(16)
 }
 
 /// M-111: lists held against one another show what library and model have in common.

@@ -21,7 +21,6 @@ use crate::report::hex;
 use calls::Call;
 use classes::{classes, Classes, SIZES};
 use damages::damages;
-use trouble::COUNTS;
 
 /// What to run.
 pub struct Options {
@@ -61,6 +60,21 @@ impl Script {
         let first = answer[..4].try_into().expect("four bytes");
         self.answers.push(answer);
         i32::from_le_bytes(first)
+    }
+
+    /// Adds an event with its chip and levels.
+    fn event(&mut self, (event, chip, levels): (u32, u32, u32), book: &mut Book) -> i32 {
+        let call = Call::Event {
+            event,
+            chip,
+            levels,
+        };
+        self.add(call, book)
+    }
+
+    /// Adds a search into this list.
+    fn search(&mut self, list: Vec<u64>, book: &mut Book) -> i32 {
+        self.add(Call::Search { list }, book)
     }
 
     /// Lends a line.
@@ -147,7 +161,8 @@ impl Tester {
         });
         self.repeat(3, 4 * each * SIZES.len(), Tester::wrong_size);
         self.repeat(7, 16 * each, Tester::short_address);
-        self.repeat(8, COUNTS * each, |tester, rng, number| {
+        let numbers = trouble::COUNTS * each;
+        self.repeat(trouble::PART, numbers, |tester, rng, number| {
             trouble::script(rng, number, &mut tester.book, &mut tester.classes)
         });
         self.repeat(4, lines / 4, Tester::card);

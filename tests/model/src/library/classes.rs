@@ -4,6 +4,7 @@ use std::collections::BTreeMap;
 
 use crate::model::chip::{part_of, AA, DS2413, DS28EC20, LAST_KIND, PF};
 use crate::model::lent::Lent;
+use crate::model::line::MOST;
 use crate::model::memory::{LAST, PAD};
 use crate::model::record::{
     filling, shape, word, A, B, ES, KIND, LATCHES, LEVELS, RC, RECORD, STEP, STEPS, T, W,
@@ -18,7 +19,7 @@ const TAKING: [u8; 10] = [1, 3, 4, 5, 17, 18, 22, 23, 25, 34];
 /// Events on a line in range.
 const EVENTS: [&str; 4] = ["slot 0", "slot 1", "reset", "power on"];
 /// The classes that are neither of a step nor of a damage.
-const OTHERS: [&str; 36] = [
+const OTHERS: [&str; 31] = [
     "line: no chips",
     "line: 16 chips",
     "line: 16 memories",
@@ -42,11 +43,6 @@ const OTHERS: [&str; 36] = [
     "levels: over 255, their low byte levels",
     "order: 8 before 5",
     "order: 5 before 6 or 7",
-    "search: no chips",
-    "search: no places",
-    "search: fewer places than codes",
-    "search: as many places as codes",
-    "search: over 16 places",
     "search: refused by 8",
     "search: refused by 5",
     "card: no places",
@@ -56,15 +52,21 @@ const OTHERS: [&str; 36] = [
     "card: refused by 1 with fewer than 16 places",
     "card: refused by 1 at a 17th record",
 ];
-/// The classes of lists that are held against one another.
-const TROUBLES: [&str; 22] = [
-    "after trouble: no chips",
+/// How many places a list has, compared with the codes: of any search, and of lists held against one another.
+const PLACES: [&str; 6] = [
+    "no chips",
+    "no places",
+    "fewer places than codes",
+    "as many places as codes",
+    "more places than codes",
+    "over 16 places",
+];
+/// The other classes of lists that are held against one another.
+const TROUBLES: [&str; 19] = [
     "after trouble: 16 codes",
-    "after trouble: no places",
-    "after trouble: fewer places than codes",
-    "after trouble: as many places as codes",
-    "after trouble: more places than codes",
-    "after trouble: over 16 places",
+    "after trouble: 16 chips, a code twice",
+    "after trouble: a list that holds codes of the line",
+    "after trouble: the list of an earlier search",
     "after trouble: another order of the table",
     "after trouble: a code twice on one line alone",
     "after trouble: a code on chips of both kinds",
@@ -120,6 +122,18 @@ fn codes_of(lent: &Lent) -> Vec<(&[u8], Vec<u8>)> {
     codes
 }
 
+/// The records of a line whose code no other chip of it has, each with its place: such a chip is listed only
+/// where it answers itself.
+fn alone(lent: &Lent) -> Vec<(usize, &[u8])> {
+    let records: Vec<&[u8]> = lent.table.chunks_exact(RECORD).collect();
+    let twins = |record: &[u8]| {
+        let same = records.iter().filter(|other| other[..8] == record[..8]);
+        same.count()
+    };
+    let places = records.iter().copied().enumerate();
+    places.filter(|(_, record)| twins(record) == 1).collect()
+}
+
 /// Every class that a run must reach, but for damages.
 pub fn classes() -> Vec<String> {
     let mut all: Vec<String> = OTHERS
@@ -128,6 +142,9 @@ pub fn classes() -> Vec<String> {
         .chain(&TROUBLES)
         .map(|name| (*name).into())
         .collect();
+    for searches in ["search", "after trouble"] {
+        all.extend(PLACES.map(|name| format!("{searches}: {name}")));
+    }
     for step in STEPS {
         for kind in kinds_of(step) {
             all.extend(EVENTS.map(|event| format!("step {step:>2}, kind {kind}: {event}")));
@@ -259,6 +276,11 @@ impl Classes {
 
     /// Counts in what two lines with one set of codes differ.
     pub fn note_pair(&mut self, one: &Lent, other: &Lent) {
+        let full = |lent: &Lent| lent.table.len() / RECORD == MOST && alone(lent).len() < MOST;
+        self.saw_if(
+            full(one) || full(other),
+            "after trouble: 16 chips, a code twice",
+        );
         let [one, other] = [one, other].map(codes_of);
         let order = |codes: &[(&[u8], Vec<u8>)]| -> Vec<Vec<u8>> {
             codes.iter().map(|(code, _)| code.to_vec()).collect()
@@ -282,39 +304,44 @@ impl Classes {
         }
     }
 
-    /// Counts how many places a list has beside the codes, by the answer.
-    pub fn note_places(&mut self, answer: i32, places: usize, codes: usize) {
+    /// Counts how many places a list has, compared with the codes, by the answer.
+    pub fn note_places(&mut self, searches: &str, answer: i32, places: usize, codes: usize) {
         let listed = answer > 0;
-        self.saw_if(answer == 0 && codes == 0, "after trouble: no chips");
-        self.saw_if(answer == 16, "after trouble: 16 codes");
-        self.saw_if(answer == -4 && places == 0, "after trouble: no places");
-        let fewer = answer == -4 && places > 0;
-        self.saw_if(fewer, "after trouble: fewer places than codes");
-        let as_many = listed && places == codes;
-        self.saw_if(as_many, "after trouble: as many places as codes");
-        let more = listed && places > codes;
-        self.saw_if(more, "after trouble: more places than codes");
-        self.saw_if(listed && places > 16, "after trouble: over 16 places");
+        let met = [
+            answer == 0 && codes == 0,
+            answer == -4 && places == 0,
+            answer == -4 && places > 0,
+            listed && places == codes,
+            listed && places > codes,
+            listed && places > MOST,
+        ];
+        for (name, met) in PLACES.iter().zip(met) {
+            self.saw_if(met, &format!("{searches}: {name}"));
+        }
     }
 
-    /// Counts what an earlier search answered, if there was one.
-    pub fn note_earlier(&mut self, answer: Option<i32>) {
-        let whole = answer.is_some_and(|answer| answer > 0);
+    /// Counts an earlier search that has made a pass, if there was one: its answer and its places.
+    pub fn note_earlier(&mut self, earlier: Option<(i32, usize)>) {
+        let whole = earlier.is_some_and(|(answer, _)| answer > 0);
         self.saw_if(whole, "after trouble: an earlier search");
-        let refused = answer == Some(-4);
+        let refused = earlier.is_some_and(|(answer, places)| answer == -4 && places > 0);
         self.saw_if(refused, "after trouble: an earlier search refused by 4");
     }
 
-    /// Counts the step of each chip of a line that is searched.
+    /// Counts the step of each chip of a line that is listed only where it answers itself.
     pub fn note_steps(&mut self, lent: &Lent) {
-        for record in lent.table.chunks_exact(RECORD) {
+        for (_, record) in alone(lent) {
             self.saw(&listed_from(record[STEP], record[KIND]));
         }
     }
 
-    /// Counts what the events before a search have left.
-    pub fn note_trouble(&mut self, lent: &Lent) {
-        for record in lent.table.chunks_exact(RECORD) {
+    /// Counts in what state events have left a line: of the chips that are no longer as they were lent and are
+    /// listed only where they answer themselves.
+    pub fn note_trouble(&mut self, lent: &Lent, left: &Lent) {
+        for (place, record) in alone(left) {
+            if lent.table[place * RECORD..][..RECORD] == *record {
+                continue;
+            }
             let step = record[STEP];
             let part = part_of(record[KIND].into());
             let [memory, switch] = [DS28EC20, DS2413].map(|known| part == Some(known));

@@ -49,6 +49,11 @@ impl Listed {
     }
 }
 
+/// The list in an answer to a search, as the driver writes it; none where it is cut short.
+pub fn list_in(answer: &[u8]) -> Option<Vec<u64>> {
+    Listed::read(answer).map(|listed| listed.list)
+}
+
 /// A list with the bytes of each code as they stand in a record.
 fn shown(list: &[u64]) -> String {
     let codes: Vec<String> = list.iter().map(|code| hex(&code.to_le_bytes())).collect();

@@ -37,12 +37,7 @@ impl Tester {
     /// Adds an event and counts what it meets.
     fn event(&mut self, script: &mut Script, (event, chip, levels): (u32, u32, u32)) -> i32 {
         let before = script.lent.clone();
-        let call = Call::Event {
-            event,
-            chip,
-            levels,
-        };
-        let answer = script.add(call, &mut self.book);
+        let answer = script.event((event, chip, levels), &mut self.book);
         let kind = |chip: u32| before.table.get(chip as usize * RECORD + KIND).copied();
         let classes = &mut self.classes;
         match (answer, event) {
@@ -72,7 +67,7 @@ impl Tester {
     /// Adds a search with so many places, which hold any numbers before.
     fn searched(&mut self, script: &mut Script, rng: &mut Rng, places: usize) -> i32 {
         let list = (0..places).map(|_| rng.bits()).collect();
-        script.add(Call::Search { list }, &mut self.book)
+        script.search(list, &mut self.book)
     }
 
     /// A table with one fault: refused by 8, whatever the event and the sizes.
@@ -219,18 +214,7 @@ impl Tester {
         self.classes.note_line(&lent);
         script.lend(lent, &mut self.book);
         let answer = self.searched(&mut script, rng, places);
-        let classes = &mut self.classes;
-        classes.saw_if(distinct == 0, "search: no chips");
-        classes.saw_if(answer == -4 && places == 0, "search: no places");
-        classes.saw_if(
-            answer == -4 && places > 0,
-            "search: fewer places than codes",
-        );
-        classes.saw_if(
-            answer > 0 && places == distinct,
-            "search: as many places as codes",
-        );
-        classes.saw_if(answer > 0 && places > 16, "search: over 16 places");
+        self.classes.note_places("search", answer, places, distinct);
         for _ in 0..12 {
             let event = any_event(rng, &script.lent);
             self.event(&mut script, event);

@@ -81,7 +81,7 @@ pub enum Step {
     PioStatus,
 }
 
-/// What the rule counters remember of the past; no rule of the paper reads it.
+/// What the rule counters and one slip remember of the past; without a slip nothing of it shows.
 #[derive(Clone, Default)]
 struct Trace {
     /// The Match ROM under way found RC 1.
@@ -328,7 +328,7 @@ impl Chip {
         if self.is(DS2413) && book.slips(Slip::ResetOpensLatches) {
             self.latches = 3;
         }
-        self.trace.broken_at = self.broken_at(book);
+        self.trace.broken_at = self.resumes_at(book);
         self.step = if self.is_copying() && book.slips(Slip::CopyDeaf) {
             Step::Wait
         } else {
@@ -346,7 +346,7 @@ impl Chip {
     }
 
     /// The place of Search ROM at which a slip goes on after a reset.
-    fn broken_at(&self, book: &Book) -> usize {
+    fn resumes_at(&self, book: &Book) -> usize {
         match self.step {
             Step::SearchBit(place) | Step::SearchComplement(place) | Step::SearchTake(place)
                 if book.slips(Slip::SearchResumes) =>

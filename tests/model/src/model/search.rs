@@ -50,13 +50,12 @@ pub fn search_line(line: &mut Line, places: usize, book: &mut Book) -> Found {
         };
     }
     let mut found = search(&mut OnLine { line, book }, places);
-    leak(&mut found.list, line, book);
-    found.list.truncate(places);
+    leak(&mut found.list, places, line, book);
     found
 }
 
 /// What two slips make of a list by the table, which no host knows.
-fn leak(list: &mut Vec<u64>, line: &Line, book: &Book) {
+fn leak(list: &mut Vec<u64>, places: usize, line: &Line, book: &Book) {
     let kinds = |code: u64| {
         let own = line.table.iter().filter(move |chip| chip.code == code);
         own.map(|chip| chip.kind)
@@ -64,7 +63,7 @@ fn leak(list: &mut Vec<u64>, line: &Line, book: &Book) {
     if book.slips(Slip::KindsTwice) {
         let both = |code: u64| kinds(code).min() != kinds(code).max();
         let twice = |code: &u64| vec![*code; if both(*code) { 2 } else { 1 }];
-        *list = list.iter().flat_map(twice).collect();
+        *list = list.iter().flat_map(twice).take(places).collect();
     }
     let first = line.table.first().map(|chip| chip.code);
     let at = list.iter().position(|code| Some(*code) == first);
