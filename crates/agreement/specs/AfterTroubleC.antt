@@ -3,7 +3,7 @@
 use Prim.Native.Nat.{ℕ, zero, suc, _*_, _/_, _^_, _<_, _≤_}
 use native.Mathlib.Omega.{arith}
 use mathlib.Core.Bool.{Bool, true, false}
-use mathlib.Core.List.{List, [], _∷_, _++_, List·Memᴰ, List·Memᴰ·head, List·Memᴰ·tail, Memᴰ·append-left, Memᴰ·append-right}
+use mathlib.Core.List.{List, [], _∷_, _++_, List·Memᴰ·head, List·Memᴰ·tail, Memᴰ·append-left, Memᴰ·append-right}
 use mathlib.Core.Path.{_≡_, refl, _∙_, ap, sym}
 use lib.Dec.{leb}
 use lib.IntN.{ℤ, pos, negsuc}
@@ -18,8 +18,7 @@ use Rattle.search.specs.Search.{refused, completeOr4, Search, searchOf}
 use Rattle.packed.specs.Packed.{packed, packedTable, unpackedTable, isTable}
 use Rattle.packed.specs.Laws.{unpacked-table, table-is, of-table}
 use Rattle.toemsakun.specs.Library.{minus, eventBytes, SearchLeft, searchNumber, packedSearch, searchBytes}
-use Rattle.histories.specs.Codes.{Codes, no-codes, another-code}
-use Rattle.histories.specs.Sent.{Bytes, each-byte, are-bytes}
+use Rattle.histories.specs.Below.{Codes, Bytes, none-below, one-below, all-below}
 use Rattle.histories.specs.Standing.{Stands}
 use Rattle.histories.specs.Calls.{Call, event-call, search-call}
 use Rattle.refusals.specs.Search.{given-neither}
@@ -108,7 +107,7 @@ eight-more : (x m : ℕ) → x / 256 < m → x < 256 * m
 eight-more x m h = omega arith
 
 -- a code whose eighth byte is below 256 has 64 bits
-code-fits : (c : Chip) → ((x : ℕ) → List·Memᴰ x (packed c) → x < 256) → c .code < 2 ^ 64
+code-fits : (c : Chip) → Bytes (packed c) → c .code < 2 ^ 64
 unfolding packed
 code-fits c small =
     let code = c .code in
@@ -117,13 +116,13 @@ code-fits c small =
     eight-more _ _ (eight-more _ _ (eight-more _ _ (eight-more _ _ (eight-more _ _ (eight-more _ _ (eight-more _ _ last))))))
 
 -- so have the codes of a table of bytes
-codes-fit : (cs : List Chip) → ((x : ℕ) → List·Memᴰ x (packedTable cs) → x < 256) → Codes (codesIn cs)
-codes-fit [] small = no-codes
+codes-fit : (cs : List Chip) → Bytes (packedTable cs) → Codes (codesIn cs)
+codes-fit [] small = none-below _
 codes-fit (c ∷ cs) small =
-    another-code (c .code) (codesIn cs) (code-fits c (λ x m. small x (Memᴰ·append-left (packedTable cs) m))) (codes-fit cs (λ x m. small x (Memᴰ·append-right (packed c) m)))
+    one-below _ (c .code) (codesIn cs) (code-fits c (λ x m. small x (Memᴰ·append-left (packedTable cs) m))) (codes-fit cs (λ x m. small x (Memᴰ·append-right (packed c) m)))
 
 bytes-fit : (b : LentBytes) → StandsAsBytes b → Codes (codesIn (unpackedLent b .chips))
-bytes-fit b s = codes-fit (unpackedLent b .chips) (rw (table-is (b .table) (s .table)) (each-byte (b .table) (s .bytes)))
+bytes-fit b s = codes-fit (unpackedLent b .chips) (rw (table-is (b .table) (s .table)) (s .bytes))
 
 -- M-111 of `tk_search`: after any calls of it and of `tk_event`, as before them
 pub list-after-trouble-c : (cs : List Call) (list : List ℕ) (b : LentBytes) → StandsAsBytes b → SameSearchInC (searchIn list (runBytes cs b)) (searchIn list b)
@@ -231,7 +230,7 @@ oneChip = lent (setUpChip 0x3A 2 ∷ []) [] []
 
 one-bytes : Bytes (packedTable (oneChip .chips))
 unfolding packed setUpChip both pick
-one-bytes = are-bytes (packedTable (oneChip .chips)) refl
+one-bytes = all-below 256 (packedTable (oneChip .chips)) refl
 
 pub one-chip-stands : StandsAsBytes (packedLent oneChip)
 one-chip-stands = record {

@@ -14,7 +14,7 @@ use Rattle.line.specs.Prefix.{event-holds}
 use Rattle.line.specs.Refusals.{chips-split}
 use Rattle.search.specs.Prefix.{search-has}
 use Rattle.search.specs.Search.{Attached, attached, leavesOf, searchOf}
-use Rattle.histories.specs.Codes.{Codes}
+use Rattle.histories.specs.Below.{Codes}
 use Rattle.histories.specs.Histories.{codesOf}
 use Rattle.histories.specs.Standing.{Stands, lineFrom}
 use Rattle.histories.specs.Calls.{Call, event-call, search-call, leavesCall, callsOn}

@@ -10,7 +10,7 @@ use lib.ListN.{length, drop, length-take}
 use Rattle.line.specs.declared.Event.{Event}
 use Rattle.search.specs.Host.{Listed, play, searchHost}
 use Rattle.search.specs.Search.{Attached, Search, completeOr4, searchOf}
-use Rattle.histories.specs.Codes.{Codes}
+use Rattle.histories.specs.Below.{Codes}
 use Rattle.histories.specs.Histories.{lineWire, codesOf}
 use Rattle.histories.specs.Standing.{Stands, lineFrom}
 use Rattle.histories.specs.Joined.{search-joined, runOn, stands-on}

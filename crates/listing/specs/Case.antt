@@ -24,7 +24,7 @@ use Rattle.line.specs.Events.{resetEvent, outsideEvent}
 use Rattle.line.specs.declared.Event.{Event}
 use Rattle.search.specs.Host.{bind, play, pass, write, upTo, passes, searchHost}
 use Rattle.search.specs.Search.{Attached, attached, Search, complete, fromPlayed, searchOf}
-use Rattle.histories.specs.Codes.{Codes, no-codes, another-code}
+use Rattle.histories.specs.Below.{Codes, none-below, one-below, all-below}
 use Rattle.histories.specs.Sent.{bitsFrom, slots, byteSlots}
 use Rattle.histories.specs.Histories.{at, codesOf, answerOf, afterOf, run, lineWire}
 use Rattle.histories.specs.Standing.{Stands, lineFrom}
@@ -82,12 +82,12 @@ same-in-order xs ys f g e x =
     ((λ i. b .0 (rw e at (a .1 i))), (λ i. a .0 (rw (sym e) at (b .1 i))))
 
 fresh-codes : Codes (codesOf (lineFrom fresh))
-unfolding setUpChip
-fresh-codes = another-code 0xAC _ (omega arith) (another-code 0x55 _ (omega arith) (another-code 0xAF _ (omega arith) (another-code 0x88 _ (omega arith) no-codes)))
+unfolding setUpChip both pick
+fresh-codes = all-below _ _ refl
 
 doubled-codes : Codes (codesOf (lineFrom doubled))
-unfolding setUpChip
-doubled-codes = another-code 0xAF _ (omega arith) (another-code 0x88 _ (omega arith) (another-code 0x55 _ (omega arith) (another-code 0xAC _ (omega arith) (another-code 0x88 _ (omega arith) no-codes))))
+unfolding setUpChip both pick
+doubled-codes = all-below _ _ refl
 
 same-codes : SameMembers (codesOf (lineFrom doubled)) (codesOf (lineFrom fresh))
 unfolding branchOrder branch bitOf same pick setUpChip
@@ -151,11 +151,11 @@ two-stands = record { range = refl; sizes = refl; places = lit≤ tt }
 
 one-codes : (code : ℕ) → code < 2 ^ 64 → Codes (codesOf (lineFrom (one code)))
 unfolding setUpChip
-one-codes code h = another-code code _ h no-codes
+one-codes code h = one-below _ code _ h (none-below _)
 
 two-codes : Codes (codesOf (lineFrom two))
-unfolding setUpChip
-two-codes = another-code 1 _ (omega arith) (another-code 2 _ (omega arith) no-codes)
+unfolding setUpChip both pick
+two-codes = all-below _ _ refl
 
 -- `same-codes-same-list` with as many codes, in place of the same ones
 abbrev AsManyCodes : Type 0

@@ -11,7 +11,7 @@ use Rattle.line.specs.Layout.{capped}
 use Rattle.line.specs.Line.{absent}
 use Rattle.line.specs.Events.{resetEvent}
 use Rattle.search.specs.Host.{ask, play, write, pass, searchHost}
-use Rattle.histories.specs.Codes.{Codes}
+use Rattle.histories.specs.Below.{Codes}
 use Rattle.histories.specs.Histories.{lineWire, codesOf}
 use Rattle.listing.specs.Order.{branchOrder, SameMembers, Before, Sorted, InBranchOrder, Lists, SameListing}
 use Rattle.listing.specs.Branch.{order-length}

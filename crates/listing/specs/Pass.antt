@@ -11,7 +11,7 @@ use Rattle.chip.specs.Chip.{Whole}
 use Rattle.search.specs.Host.{Host, Played, played, End, end, more, play, pass, turn, mark, put}
 use Rattle.search.specs.Counts.{more-more}
 use Rattle.search.specs.Pass.{mark-le}
-use Rattle.histories.specs.Codes.{Codes}
+use Rattle.histories.specs.Below.{Codes}
 use Rattle.histories.specs.Histories.{lineWire, codesOf}
 use Rattle.listing.specs.Order.{branch}
 use Rattle.listing.specs.Branch.{isNil, branch-in, some-branch, Low, low-next}

@@ -16,7 +16,7 @@ use Rattle.line.specs.Line.{absent}
 use Rattle.line.specs.Event.{askedBy, planEvent, outsideFits}
 use Rattle.search.specs.Host.{Host, done, bind, Played, played, Listed, listed, End, end, more, play, write, pass, passes, goOn, upTo}
 use Rattle.search.specs.Counts.{more-more, andThen, play-bind}
-use Rattle.histories.specs.Codes.{Codes}
+use Rattle.histories.specs.Below.{Codes}
 use Rattle.histories.specs.Histories.{answerOf, afterOf, lineWire, codesOf}
 use Rattle.listing.specs.Order.{branchOrder, Lists}
 use Rattle.listing.specs.Branch.{isNil, order-nil}

@@ -9,7 +9,7 @@ use Rattle.base.specs.Pick.{pick}
 use Rattle.line.specs.Refusals.{in-range-few}
 use Rattle.search.specs.Host.{Listed, play, searchHost}
 use Rattle.search.specs.Search.{Attached, Search, complete, refused, searchOf}
-use Rattle.histories.specs.Codes.{Codes}
+use Rattle.histories.specs.Below.{Codes}
 use Rattle.histories.specs.Histories.{lineWire, codesOf}
 use Rattle.histories.specs.Standing.{Stands, lineFrom, line-length}
 use Rattle.histories.specs.Joined.{search-joined}

@@ -1,5 +1,5 @@
 -- The theorem is about something: two histories of one line after which chip 0 stands differently, and the same after the write.
-use Prim.Native.Nat.{ℕ, zero, suc, _<_}
+use Prim.Native.Nat.{ℕ}
 use native.Mathlib.Omega.{arith}
 use mathlib.Core.Bool.{true}
 use mathlib.Core.List.{List, [], _∷_, _++_}
@@ -20,10 +20,10 @@ use Rattle.chip.specs.Kinds.{knownKind, imageSize, padSize}
 use Rattle.line.specs.Event.{askedBy, planEvent, outsideFits}
 use Rattle.line.specs.declared.Event.{Event}
 use Rattle.line.specs.Events.{eventWith, resetEvent, powerOnEvent, outsideEvent}
-use Rattle.histories.specs.Codes.{no-codes, another-code}
+use Rattle.histories.specs.Below.{all-below}
 use Rattle.histories.specs.Histories.{at, afterOf, run, answers, came}
 use Rattle.histories.specs.Keeps.{InRange, Good}
-use Rattle.histories.specs.Sent.{bitsFrom, slots, Bytes}
+use Rattle.histories.specs.Sent.{bitsFrom, slots}
 use Rattle.recovery.specs.Sessions.{opening, Addressed, write, Page}
 use Rattle.recovery.specs.CarriedOut.{carriesOut, NoCopy}
 use Rattle.recovery.specs.Installed.{Installed}
@@ -47,8 +47,8 @@ fresh = record { range = fresh-range; memory = length-replicate {A = ℕ} 2624 0
 
 -- the codes differ
 line-installed : Installed 0 line
-unfolding setUpChip
-line-installed = record { attached = omega arith; differ = (((λ e. omega arith), tt), (tt, tt)); codes = another-code 5 _ (omega arith) (another-code 6 _ (omega arith) no-codes); kind = refl; good = fresh }
+unfolding setUpChip both pick
+line-installed = record { attached = omega arith; differ = (((λ e. omega arith), tt), (tt, tt)); codes = all-below _ _ refl; kind = refl; good = fresh }
 
 -- power on, an event that is refused, and outside levels of chip 1
 abbrev quiet : List Event
@@ -78,14 +78,10 @@ noise-no-copy : NoCopy 0 noise line
 unfolding carriesOut setUpChip afterOf planEvent outsideFits askedBy takesOf sendsOf resetOf resetChip romSlot commandBit commandOf functionSlot functionIn memoryFunction switchFunction switchSlot memorySlot writeAddress addressIn targetOf filled bitOf both pick memoryLook memorySight memoryBegins switchBegins byteAtHand pageAtHand partOf mapOf hasMemory hasScratchpad hasRegisters hasSwitch takesOutside knowsOf
 noise-no-copy = (tt, (refl, (refl, (refl, (refl, (refl, (refl, (refl, (refl, (refl, (refl, (refl, (refl, (refl, (refl, (refl, (refl, (refl, (refl, (refl, (refl, (refl, (refl, (refl, (refl, (refl, (refl, (refl, (refl, (refl, (refl, (refl, (refl, tt)))))))))))))))))))))))))))))))))
 
--- a run of one byte
-small : (n b : ℕ) → b < 256 → Bytes (replicate n b)
-small zero b h = tt
-small (suc n) b h = (h, small n b h)
-
 -- 32 bytes A5h for 0120h
 page : Page 0x0120 (replicate 32 0xA5)
-page = record { address = omega arith; offset = refl; full = length-replicate {A = ℕ} 32 0xA5; small = small 32 0xA5 (omega arith) }
+unfolding both pick
+page = record { address = omega arith; offset = refl; full = length-replicate {A = ℕ} 32 0xA5; small = all-below _ _ refl }
 
 -- so after the write of them at 0120h chip 0 stands the same
 pub recovered : Recovered 0 5 (write 5 0x0120 (replicate 32 0xA5)) (run quiet line) (run noise line)

@@ -9,7 +9,7 @@ use Rattle.chip.specs.Chip.{Whole, resetOf}
 use Rattle.line.specs.Line.{actOf}
 use Rattle.line.specs.declared.Act.the-variants.{Reset}
 use Rattle.line.specs.declared.Event.{Event}
-use Rattle.histories.specs.Codes.{Codes, first-code, other-codes}
+use Rattle.histories.specs.Below.{Codes, first-below, others-below}
 use Rattle.histories.specs.Histories.{at, run, codesOf}
 use Rattle.histories.specs.Keeps.{Good, act-named}
 use Rattle.histories.specs.Kept.{run-codes, run-length}
@@ -57,24 +57,24 @@ without-at code (suc i) (w ∷ L) h (n, r) e = without-at code i L (omega arith)
 -- the code of chip i has 64 bits
 pub codes-at : (i : ℕ) (L : List Whole) → i < length L → Codes (codesOf L) → at i L .chip .code < 2 ^ 64
 codes-at i [] h n = absurd (not-suc-le-zero h)
-codes-at zero (w ∷ L) h n = first-code (w .chip .code) (codesOf L) n
-codes-at (suc i) (w ∷ L) h n = codes-at i L (omega arith) (other-codes (w .chip .code) (codesOf L) n)
+codes-at zero (w ∷ L) h n = first-below _ (w .chip .code) (codesOf L) n
+codes-at (suc i) (w ∷ L) h n = codes-at i L (omega arith) (others-below _ (w .chip .code) (codesOf L) n)
 
 -- chips of other codes after a reset
 others-reset : (code : ℕ) → code < 2 ^ 64 → (L : List Whole) → Without code (codesOf L) → Codes (codesOf L) → Others code (opening code) (map (actOf Reset) L)
 others-reset code g [] n h = none
 others-reset code g (w ∷ L) (n, r) h =
-    more (other-reset code g w n (first-code (w .chip .code) (codesOf L) h)) (others-reset code g L r (other-codes (w .chip .code) (codesOf L) h))
+    more (other-reset code g w n (first-below _ (w .chip .code) (codesOf L) h)) (others-reset code g L r (others-below _ (w .chip .code) (codesOf L) h))
 
 -- chip i after a reset, place by place
 among-reset : (i : ℕ) (L : List Whole) → i < length L → Differ (codesOf L) → Codes (codesOf L)
     → Among (at i L .chip .code) (opening (at i L .chip .code)) (resetOf (at i L)) i (map (actOf Reset) L)
 among-reset i [] l d h = absurd (not-suc-le-zero l)
-among-reset zero (w ∷ L) l (n, d) h = here (others-reset (w .chip .code) (first-code (w .chip .code) (codesOf L) h) L n (other-codes (w .chip .code) (codesOf L) h))
+among-reset zero (w ∷ L) l (n, d) h = here (others-reset (w .chip .code) (first-below _ (w .chip .code) (codesOf L) h) L n (others-below _ (w .chip .code) (codesOf L) h))
 among-reset (suc i) (w ∷ L) l (n, d) h =
     let k : i < length L = omega arith in
-    let s = other-codes (w .chip .code) (codesOf L) h in
-    there (other-reset (at i L .chip .code) (codes-at i L k s) w (λ e. without-at (w .chip .code) i L k n (sym e)) (first-code (w .chip .code) (codesOf L) h)) (among-reset i L k d s)
+    let s = others-below _ (w .chip .code) (codesOf L) h in
+    there (other-reset (at i L .chip .code) (codes-at i L k s) w (λ e. without-at (w .chip .code) i L k n (sym e)) (first-below _ (w .chip .code) (codesOf L) h)) (among-reset i L k d s)
 
 -- after a reset, chip i stands among chips of other codes
 module _ (i : ℕ) (L : List Whole) (s : Installed i L) where

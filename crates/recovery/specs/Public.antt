@@ -12,7 +12,7 @@ use Rattle.histories.specs.Histories.{at, run, answers, came, codesOf}
 use Rattle.histories.specs.Keeps.{Good}
 use Rattle.histories.specs.Standing.{AllGood, Stands, lineFrom, line-good, line-length}
 use Rattle.histories.specs.Joined.{runOn, answersOn, run-joined, answers-joined, stands-on}
-use Rattle.histories.specs.Codes.{Codes}
+use Rattle.histories.specs.Below.{Codes}
 use Rattle.recovery.specs.Sessions.{Addressed, write, Page}
 use Rattle.recovery.specs.CarriedOut.{NoCopy}
 use Rattle.recovery.specs.Written.{writtenTo}

@@ -9,7 +9,8 @@ use Rattle.line.specs.declared.Event.{Event}
 use Rattle.line.specs.declared.Plan.{Plan}
 use Rattle.line.specs.declared.Plan.the-variants as plan
 use Rattle.line.specs.Events.{resetEvent}
-use Rattle.histories.specs.Sent.{bitsFrom, bitsOf, slots, Bytes}
+use Rattle.histories.specs.Below.{Bytes}
+use Rattle.histories.specs.Sent.{bitsFrom, bitsOf, slots}
 
 -- "55h: RC = 0, then take 64 bits.": the bits by which a session matches a code
 abbrev pub opening : ℕ → List Bool

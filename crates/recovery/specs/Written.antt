@@ -25,7 +25,8 @@ use Rattle.chip.specs.With.{withRc, withLevel, withRegisters}
 use Rattle.chip.specs.Chip.{Whole, whole, memoryLook, memorySight, memorySlot, takesOf, sendsOf}
 use Rattle.chip.specs.declared.Chip.{Chip}
 use Rattle.chip.specs.declared.Level.the-variants.{Rom, Memory}
-use Rattle.histories.specs.Sent.{bitsFrom, bitsOf, Bytes}
+use Rattle.histories.specs.Below.{Bytes, first-below, others-below}
+use Rattle.histories.specs.Sent.{bitsFrom, bitsOf}
 use Rattle.recovery.specs.Sessions.{opening, writeBits, Page}
 use Rattle.recovery.specs.Filled.{filledBy, byte-taken}
 use Rattle.recovery.specs.Goes.{Goes, goes-from, goes-to, goes-append, ec20, goes-opening, goes-0F, addressed, goes-address}
@@ -83,7 +84,7 @@ module _ (c : Chip) (m : List ℕ) (t : ℕ) where
       → Goes (bitsOf (b ∷ bs)) (ec20 c m (Memory (WriteData o 0 0 crc)) true (registers t es) s)
       (ec20 c m (Memory (SendCrc 0 (crcOf poly16 crc (b ∷ bs)))) true (registers t 0x1F) (take o s ++ ruled m (t + o) (b ∷ bs)))
   unfolding crcOf
-  goes-data [] b o crc es s z e l h (k, ks) =
+  goes-data [] b o crc es s z e l h small =
       let q : o ≡ 31 = omega arith in
       let d : length s ≤ suc o = omega arith in
       let x = ruleAt ds28ec20 m (inPage t o) b in
@@ -91,8 +92,8 @@ module _ (c : Chip) (m : List ℕ) (t : ℕ) where
       let u : withE es o ≡ 0x1F = with-e es o h (omega arith) ∙ q in
       let r : set s o x ≡ take o s ++ (ruleAt ds28ec20 m (t + o) b ∷ [])
       = set-split s o x (omega arith) ∙ ap (λ (y : List ℕ). take o s ++ (x ∷ y)) (drop-of-length-le s d) ∙ ap (λ (a : ℕ). take o s ++ (ruleAt ds28ec20 m a b ∷ [])) (in-page t o z) in
-      goes-append (bitsFrom 8 0 b) [] _ _ _ (goes-byte b o crc es s k) (λ j. ec20 c m (Memory (p j)) true (registers t (u j)) (r j))
-  goes-data (y ∷ bs) b o crc es s z e l h (k, ks) =
+      goes-append (bitsFrom 8 0 b) [] _ _ _ (goes-byte b o crc es s (first-below _ b [] small)) (λ j. ec20 c m (Memory (p j)) true (registers t (u j)) (r j))
+  goes-data (y ∷ bs) b o crc es s z e l h small =
       let x = ruleAt ds28ec20 m (inPage t o) b in
       let n = crcByte poly16 crc b in
       let p = after-more o n (omega arith) in
@@ -104,10 +105,10 @@ module _ (c : Chip) (m : List ℕ) (t : ℕ) where
       ∙ ap (λ (v : List ℕ). v ++ ruled m (t + o + 1) (y ∷ bs)) (take-suc-set s o x (omega arith))
       ∙ append-assoc (take o s) (x ∷ []) (ruled m (t + o + 1) (y ∷ bs))
       ∙ ap (λ (v : ℕ). take o s ++ (ruleAt ds28ec20 m v b ∷ ruled m (t + o + 1) (y ∷ bs))) (in-page t o z) in
-      goes-append (bitsFrom 8 0 b) (bitsOf (y ∷ bs)) _ _ _ (goes-byte b o crc es s k)
+      goes-append (bitsFrom 8 0 b) (bitsOf (y ∷ bs)) _ _ _ (goes-byte b o crc es s (first-below _ b (y ∷ bs) small))
       (goes-from (bitsOf (y ∷ bs)) _ _ _ (λ j. ec20 c m (Memory (p j)) true (registers t (u j)) (set s o x))
       (goes-to (bitsOf (y ∷ bs)) _ _ _
-      (goes-data bs y (o + 1) n o (set s o x) z (omega arith) (simp length-set l) (omega arith) ks)
+      (goes-data bs y (o + 1) n o (set s o x) z (omega arith) (simp length-set l) (omega arith) (others-below _ b (y ∷ bs) small))
       (ap (λ (v : List ℕ). ec20 c m (Memory (SendCrc 0 (crcOf poly16 n (y ∷ bs)))) true (registers t 0x1F) v) r)))
 
   -- THEOREM: from a reset on, silent all along
