@@ -10,49 +10,25 @@ use lib.IntN.{ℤ, pos, negsuc}
 use lib.ListN.{length, drop}
 use Rattle.base.specs.Bits.{both}
 use Rattle.base.specs.Exactly.{Iff}
-use Rattle.base.specs.Pick.{pick, pick-true, pick-false}
+use Rattle.base.specs.Pick.{pick, pick-false}
 use Rattle.chip.specs.declared.Chip.{Chip}
 use Rattle.chip.specs.Chip.{setUpChip}
 use Rattle.line.specs.Layout.{Lent, lent}
 use Rattle.search.specs.Search.{refused, completeOr4, Search, searchOf}
-use Rattle.packed.specs.Packed.{packed, packedTable, unpackedTable, isTable}
+use Rattle.packed.specs.Packed.{packed, packedTable, isTable}
 use Rattle.packed.specs.Laws.{unpacked-table, table-is, of-table}
-use Rattle.toemsakun.specs.Library.{minus, eventBytes, SearchLeft, searchNumber, packedSearch, searchBytes}
+use Rattle.toemsakun.specs.Library.{minus, SearchLeft, searchNumber, packedSearch, searchBytes}
 use Rattle.histories.specs.Below.{Codes, Bytes, none-below, one-below, all-below}
 use Rattle.histories.specs.Standing.{Stands}
-use Rattle.histories.specs.Calls.{Call, event-call, search-call}
+use Rattle.histories.specs.Calls.{Call, search-call}
 use Rattle.refusals.specs.Search.{given-neither}
 use Rattle.listing.specs.Order.{SameMembers}
 use Rattle.listing.specs.Public.{orderOf, search-finds}
 use Rattle.listing.specs.AfterTrouble.{ListedAlike}
 use Rattle.listing.specs.Case.{one-stands}
-use Rattle.agreement.specs.AfterTroubleLent.{ofLent, codesIn, leavesLent, runLent, codes-lent, list-after-trouble-lent, same-codes-same-list-lent, second-list-lent}
-
--- a table lent as bytes, with its buffers
-pub record LentBytes : Type 0 where
-  pub table : List ℕ
-  pub images : List ℕ
-  pub pads : List ℕ
-
--- the chips that its bytes stand for, and the bytes of chips
-abbrev pub unpackedLent : LentBytes → Lent
-unpackedLent b = lent (unpackedTable (b .table)) (b .images) (b .pads)
-
-abbrev pub packedLent : Lent → LentBytes
-packedLent x = record { table = packedTable (x .chips); images = x .images; pads = x .pads }
-
--- `tk_search`
-abbrev pub searchIn : List ℕ → LentBytes → SearchLeft
-searchIn list b = searchBytes (b .table) list (b .images) (b .pads)
-
--- what `tk_event` and `tk_search` leave, and what one call after another leaves
-abbrev pub leavesBytes : Call → LentBytes → LentBytes
-leavesBytes (event-call e) b = let o = eventBytes (b .table) e (b .images) (b .pads) in record { table = o .table; images = o .images; pads = o .pads }
-leavesBytes (search-call list) b = let o = searchIn list b in record { table = o .table; images = o .images; pads = o .pads }
-
-abbrev pub runBytes : List Call → LentBytes → LentBytes
-runBytes [] b = b
-runBytes (c ∷ cs) b = runBytes cs (leavesBytes c b)
+use Rattle.agreement.specs.Slice.{ofLent, codesIn, runLent, codes-lent}
+use Rattle.agreement.specs.InC.{LentBytes, unpackedLent, packedLent, searchIn, runBytes, searched-after}
+use Rattle.agreement.specs.AfterTroubleLent.{list-after-trouble-lent, same-codes-same-list-lent, second-list-lent}
 
 -- numbers below 256, as every `uint8_t` is, that neither 8 nor 5 refuses
 pub record StandsAsBytes (b : LentBytes) : Type 0 where
@@ -78,29 +54,6 @@ pub record ListedAlikeInC (list list′ : List ℕ) (s t : SearchLeft) : Type 0 
   pub listed : (s .list ≡ codes ++ drop (length codes) list) × (t .list ≡ codes ++ drop (length codes) list′)
   pub resets : s .resets ≡ t .resets
   pub slots : (s .slots ≡ 200 * length codes) × (t .slots ≡ 200 * length codes)
-
--- a call on the bytes of chips is the call on the chips, packed
-search-packed : (list : List ℕ) (x : Lent) → searchIn list (packedLent x) ≡ packedSearch (searchOf list (ofLent x))
-unfolding searchBytes
-search-packed list x = rw (pick-true (isTable (packedTable (x .chips))) _ _ (of-table _ (x .chips) refl .0), unpacked-table (x .chips))
-
-call-packed : (c : Call) (x : Lent) → leavesBytes c (packedLent x) ≡ packedLent (leavesLent c x)
-unfolding eventBytes
-call-packed (event-call e) x = rw (pick-true (isTable (packedTable (x .chips))) _ _ (of-table _ (x .chips) refl .0), unpacked-table (x .chips))
-call-packed (search-call list) x = ap (λ (o : SearchLeft). record { table = o .table; images = o .images; pads = o .pads }) (search-packed list x)
-
-run-packed : (cs : List Call) (x : Lent) → runBytes cs (packedLent x) ≡ packedLent (runLent cs x)
-run-packed [] x = refl
-run-packed (c ∷ cs) x = ap (runBytes cs) (call-packed c x) ∙ run-packed cs (leavesLent c x)
-
--- so a search on bytes that are a table, after some calls, is that of the chips after them, packed
-searched-after : (cs : List Call) (list : List ℕ) (b : LentBytes) → isTable (b .table) ≡ true
-    → searchIn list (runBytes cs b) ≡ packedSearch (searchOf list (ofLent (runLent cs (unpackedLent b))))
-searched-after cs list b q =
-    let again : packedLent (unpackedLent b) ≡ b = λ j. record { table = table-is (b .table) q j; images = b .images; pads = b .pads } in
-    ap (λ (k : LentBytes). searchIn list (runBytes cs k)) (sym again)
-    ∙ ap (searchIn list) (run-packed cs (unpackedLent b))
-    ∙ search-packed list (runLent cs (unpackedLent b))
 
 -- eight bits more
 eight-more : (x m : ℕ) → x / 256 < m → x < 256 * m

@@ -1,3 +1,5 @@
 pub mod Agree
+pub mod Slice
+pub mod InC
 pub mod AfterTroubleLent
 pub mod AfterTroubleC
