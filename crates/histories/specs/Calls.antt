@@ -13,7 +13,7 @@ use Rattle.histories.specs.Standing.{Stands}
 use Rattle.histories.specs.Joined.{runOn, stands-on}
 
 -- one history after another
-run-on-append : (es fs : List Event) (l : Attached) → runOn (es ++ fs) l ≡ runOn fs (runOn es l)
+pub run-on-append : (es fs : List Event) (l : Attached) → runOn (es ++ fs) l ≡ runOn fs (runOn es l)
 run-on-append [] fs l = refl
 run-on-append (e ∷ es) fs l = run-on-append es fs (leavesOf e l)
 

@@ -13,3 +13,4 @@ pub mod Recovery
 pub mod Demand3
 pub mod Case
 pub mod Public
+pub mod OverCalls
