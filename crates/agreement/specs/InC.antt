@@ -53,7 +53,7 @@ run-packed [] x = refl
 run-packed (c ∷ cs) x = ap (runBytes cs) (call-packed c x) ∙ run-packed cs (leavesLent c x)
 
 -- bytes that are a table are those of the chips that they stand for
-packed-again : (b : LentBytes) → isTable (b .table) ≡ true → packedLent (unpackedLent b) ≡ b
+pub packed-again : (b : LentBytes) → isTable (b .table) ≡ true → packedLent (unpackedLent b) ≡ b
 packed-again b q = λ j. record { table = table-is (b .table) q j; images = b .images; pads = b .pads }
 
 -- what a call on them leaves is a table, the one that the call on the chips leaves

@@ -1,0 +1,12 @@
+pub mod Told
+pub mod Form
+pub mod Plain
+pub mod Slice
+pub mod InC
+pub mod Events
+pub mod Refused
+pub mod Wired
+pub mod Listed
+pub mod Protected
+pub mod Recovered
+pub mod Customer

@@ -1,0 +1,14 @@
+-- What a search tells its caller, beside the line that it leaves.
+use Prim.Native.Nat.{ℕ}
+use mathlib.Core.List.{List}
+use Rattle.search.specs.Search.{Searched, Search}
+
+pub record Told : Type 0 where
+  pub answer : Searched
+  pub number : ℕ
+  pub list : List ℕ
+  pub resets : ℕ
+  pub slots : ℕ
+
+abbrev pub told : Search → Told
+told s = record { answer = s .answer; number = s .number; list = s .list; resets = s .resets; slots = s .slots }
