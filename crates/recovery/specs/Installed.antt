@@ -3,8 +3,8 @@ use Prim.Native.Nat.{ℕ, zero, suc, _^_, _<_}
 use native.Mathlib.Omega.{arith}
 use native.Mathlib.Nat.{not-suc-le-zero}
 use mathlib.Core.List.{List, [], _∷_, map}
-use mathlib.Core.Path.{_≡_, _∙_, sym}
-use lib.ListN.{length}
+use mathlib.Core.Path.{_≡_, refl, _∙_, sym}
+use lib.ListN.{length, length-map}
 use Rattle.chip.specs.Chip.{Whole, resetOf}
 use Rattle.line.specs.Line.{actOf}
 use Rattle.line.specs.declared.Act.the-variants.{Reset}
@@ -13,10 +13,11 @@ use Rattle.histories.specs.Below.{Codes, first-below, others-below}
 use Rattle.histories.specs.Histories.{at, run, codesOf}
 use Rattle.histories.specs.Keeps.{Good, act-named}
 use Rattle.histories.specs.Kept.{run-codes, run-length}
+use Rattle.histories.specs.Place.{at-map}
 use Rattle.recovery.specs.Sessions.{opening}
 use Rattle.recovery.specs.Stays.{run-stays}
 use Rattle.recovery.specs.Opening.{opening-silent}
-use Rattle.recovery.specs.Among.{Own, Others, none, more, Among, here, there, other-reset}
+use Rattle.recovery.specs.Among.{Own, Among, other-reset}
 
 -- none of the codes is this one
 abbrev pub Without : ℕ → List ℕ → Type 0
@@ -60,31 +61,33 @@ codes-at i [] h n = absurd (not-suc-le-zero h)
 codes-at zero (w ∷ L) h n = first-below _ (w .chip .code) (codesOf L) n
 codes-at (suc i) (w ∷ L) h n = codes-at i L (omega arith) (others-below _ (w .chip .code) (codesOf L) n)
 
--- chips of other codes after a reset
-others-reset : (code : ℕ) → code < 2 ^ 64 → (L : List Whole) → Without code (codesOf L) → Codes (codesOf L) → Others code (opening code) (map (actOf Reset) L)
-others-reset code g [] n h = none
-others-reset code g (w ∷ L) (n, r) h =
-    more (other-reset code g w n (first-below _ (w .chip .code) (codesOf L) h)) (others-reset code g L r (others-below _ (w .chip .code) (codesOf L) h))
-
--- chip i after a reset, place by place
-among-reset : (i : ℕ) (L : List Whole) → i < length L → Differ (codesOf L) → Codes (codesOf L)
-    → Among (at i L .chip .code) (opening (at i L .chip .code)) (resetOf (at i L)) i (map (actOf Reset) L)
-among-reset i [] l d h = absurd (not-suc-le-zero l)
-among-reset zero (w ∷ L) l (n, d) h = here (others-reset (w .chip .code) (first-below _ (w .chip .code) (codesOf L) h) L n (others-below _ (w .chip .code) (codesOf L) h))
-among-reset (suc i) (w ∷ L) l (n, d) h =
-    let k : i < length L = omega arith in
-    let s = others-below _ (w .chip .code) (codesOf L) h in
-    there (other-reset (at i L .chip .code) (codes-at i L k s) w (λ e. without-at (w .chip .code) i L k n (sym e)) (first-below _ (w .chip .code) (codesOf L) h)) (among-reset i L k d s)
+-- two places of a line whose codes all differ have different codes
+differ-at : (i j : ℕ) (L : List Whole) → i < length L → j < length L → Differ (codesOf L) → (j ≡ i → ⊥) → at j L .chip .code ≡ at i L .chip .code → ⊥
+differ-at i j [] h k d n = absurd (not-suc-le-zero h)
+differ-at zero zero (w ∷ L) h k d n = absurd (n refl)
+differ-at zero (suc j) (w ∷ L) h k (d, r) n = without-at (w .chip .code) j L (omega arith) d
+differ-at (suc i) zero (w ∷ L) h k (d, r) n = λ e. without-at (w .chip .code) i L (omega arith) d (sym e)
+differ-at (suc i) (suc j) (w ∷ L) h k (d, r) n = differ-at i j L (omega arith) (omega arith) r (λ e. n (omega arith))
 
 -- after a reset, chip i stands among chips of other codes
 module _ (i : ℕ) (L : List Whole) (s : Installed i L) where
   -- on the line
   pub reset-among : Among (at i L .chip .code) (opening (at i L .chip .code)) (resetOf (at i L)) i (map (actOf Reset) L)
-  reset-among = among-reset i L (s .attached) (s .differ) (s .codes)
+  reset-among =
+      let e = length-map L (actOf Reset) in
+      let g = codes-at i L (s .attached) (s .codes) in
+      record {
+        attached = rw e (s .attached);
+        own = at-map (actOf Reset) i L (s .attached);
+        others = λ j h n.
+            let k : j < length L = rw e at h in
+            rw (at-map (actOf Reset) j L k)
+            (other-reset (at i L .chip .code) g (at j L) (differ-at i j L (s .attached) k (s .differ) n) (codes-at j L k (s .codes)));
+      }
 
   -- by itself
   pub reset-own : Own (at i L .chip .code) (opening (at i L .chip .code)) (resetOf (at i L))
   reset-own =
       let k = act-named Reset (at i L) in
       let g = codes-at i L (s .attached) (s .codes) in
-      (k .0, rw (k .0) g, k .1 ∙ s .kind, opening-silent (at i L .chip .code) g (at i L) g)
+      record { has-code = k .0; of-64-bits = rw (k .0) g; kind = k .1 ∙ s .kind; silent = opening-silent (at i L .chip .code) g (at i L) g }

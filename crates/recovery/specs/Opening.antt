@@ -37,10 +37,15 @@ unfolding outsideOf outsideChip
 outsides-code [] w = refl
 outsides-code (l ∷ ls) w = outsides-code ls (outsideOf l w)
 
+-- in a slot of the value v a chip sends 1, and has P after it
+pub record SilentSlot (P : Whole → Type 0) (v : Bool) (w : Whole) : Type 0 where
+  pub sends-one : sendsOf w ≡ true
+  pub leaves : P (takesOf v w)
+
 -- fed these bits, and outside levels at any time, a chip sends 1 all along and comes to P
 abbrev pub Silent : (Whole → Type 0) → List Bool → Whole → Type 0
 Silent P [] w = P w
-Silent P (v ∷ vs) w = (ls : List ℕ) → (sendsOf (outsides ls w) ≡ true) × Silent P vs (takesOf v (outsides ls w))
+Silent P (v ∷ vs) w = (ls : List ℕ) → SilentSlot (Silent P vs) v (outsides ls w)
 
 -- a chip of another code waits
 abbrev pub Waits : ℕ → Whole → Type 0
@@ -83,7 +88,7 @@ module _ (code : ℕ) where
   waiting-silent (b ∷ bs) w e = λ ls.
       let u = outsides ls w in
       let f : u .chip .level ≡ Waiting = outsides-level ls w ∙ e in
-      (sends-in u Waiting f, rw (waiting-takes u b f) (waiting-silent bs u f))
+      record { sends-one = sends-in u Waiting f; leaves = rw (waiting-takes u b f) (waiting-silent bs u f) }
 
   -- of a chip of the code nothing more is said
   own-silent : (bs : List Bool) (w : Whole) → w .chip .code ≡ code → bs ≡ [] → Silent (Waits code) bs w
@@ -124,7 +129,10 @@ module _ (code : ℕ) where
         let u = outsides ls w in
         let f : u .chip .level ≡ Rom (Match p) = outsides-level ls w ∙ q in
         let c = outsides-code ls w in
-        (sends-in u (Rom (Match p)) f, rw (takes-in u (bitOf code p) (Rom (Match p)) f) (match-bit k p u e (rw c h) (rw c s) (match-silent k (p + 1))))
+        record {
+          sends-one = sends-in u (Rom (Match p)) f;
+          leaves = rw (takes-in u (bitOf code p) (Rom (Match p)) f) (match-bit k p u e (rw c h) (rw c s) (match-silent k (p + 1)));
+        }
 
     -- a chip after a bit of the ROM command, and the bits of the opening from bit i of the command on
     abbrev heard : ℕ → ℕ → Bool → Whole → Whole
@@ -138,7 +146,7 @@ module _ (code : ℕ) where
     command-bit k b v vs w q h next = λ ls.
         let u = outsides ls w in
         let f : u .chip .level ≡ Rom (Command k b) = outsides-level ls w ∙ q in
-        (sends-in u (Rom (Command k b)) f, rw (takes-in u v (Rom (Command k b)) f) (next u (rw (outsides-code ls w) h)))
+        record { sends-one = sends-in u (Rom (Command k b)) f; leaves = rw (takes-in u v (Rom (Command k b)) f) (next u (rw (outsides-code ls w) h)) }
 
     -- THEOREM: from a reset on, every chip is silent over the opening of a code, and all of other codes wait after it
     pub opening-silent : (w : Whole) → w .chip .code < 2 ^ 64 → Silent (Waits code) (opening code) (resetOf w)

@@ -62,8 +62,7 @@ module _ (i : ℕ) (L : List Whole) (s : Installed i L) (code : ℕ) (e : at i L
   pub rewritten-own : Own code [] (writtenTo (at i L) t bytes)
   unfolding writtenTo
   rewritten-own =
-      let h = codes-at i L (s .attached) (s .codes) in
-      (e, h, s .kind, λ n. absurd (n e))
+      record { has-code = e; of-64-bits = codes-at i L (s .attached) (s .codes); kind = s .kind; silent = λ n. absurd (n e) }
 
   -- and every bit of the session is on the line as the host wrote it
   pub rewritten-answers : answers (write code t bytes) L ≡ bit false ∷ map bit sent
