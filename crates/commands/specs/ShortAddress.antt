@@ -25,7 +25,7 @@ use Rattle.histories.specs.Keeps.{level-either}
 use Rattle.histories.specs.Sent.{bitsFrom}
 use Rattle.recovery.specs.Sessions.{opening, matchSession}
 use Rattle.recovery.specs.Filled.{filledBy}
-use Rattle.recovery.specs.Goes.{Goes, goes-from, goes-append, ec20, goes-opening, goes-0F, addressed, goes-address}
+use Rattle.recovery.specs.Goes.{Goes, goes-from, goes-bit, goes-append, ec20, goes-opening, goes-0F, addressed, goes-address}
 use Rattle.recovery.specs.Among.{among-at}
 use Rattle.recovery.specs.Installed.{Installed, installed-run}
 use Rattle.recovery.specs.Matched.{reset-is, session-among}
@@ -64,9 +64,12 @@ module _ (c : Chip) (m : List ℕ) where
   -- fewer than 16
   goes-fewer : (vs : List Bool) (k n b : ℕ) (r : Registers) (s : List ℕ) → k + length vs ≡ n → n < 16
       → Goes vs (ec20 c m (Memory (WriteAddress k b)) true r s) (ec20 c m (Memory (WriteAddress n (filledBy 0x8000 b vs))) true r s)
-  goes-fewer [] k n b r s e h = let z : k ≡ n = omega arith in ap (λ (j : ℕ). ec20 c m (Memory (WriteAddress j b)) true r s) z
+  goes-fewer [] k n b r s e h =
+      let z : k ≡ n = omega arith in
+      record { silent = refl; comes = ap (λ (j : ℕ). ec20 c m (Memory (WriteAddress j b)) true r s) z }
   goes-fewer (v ∷ vs) k n b r s e h =
-      (address-sends k b r s, goes-from vs _ _ _ (address-bit v k b r s (omega arith)) (goes-fewer vs (k + 1) n (filled 0x8000 b v) r s (omega arith) h))
+      goes-bit v vs _ _ (address-sends k b r s)
+      (goes-from vs _ _ _ (address-bit v k b r s (omega arith)) (goes-fewer vs (k + 1) n (filled 0x8000 b v) r s (omega arith) h))
 
   -- from the reset to there
   goes-short : (vs : List Bool) (rc : Bool) (r : Registers) (s : List ℕ) → length vs < 16

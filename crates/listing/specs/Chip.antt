@@ -2,11 +2,12 @@
 use Prim.Native.Nat.{ℕ, zero, suc, _+_, _<_}
 use native.Mathlib.Omega.{arith}
 use mathlib.Core.Bool.{Bool, true, false, not}
+use mathlib.Core.List.{List, [], _∷_}
 use mathlib.Core.Path.{_≡_, refl, _∙_, ap}
 use lib.Dec.{ltb}
 use borrow.Author.Tests.{lt-ltb, ltb-true, ltb-false}
 use Rattle.base.specs.Pick.{pick, pick-true}
-use Rattle.base.specs.Bits.{bitOf, same, filled}
+use Rattle.base.specs.Bits.{bitOf, same, both, filled}
 use Rattle.rom.specs.Rom.{rom, commandOf, commandBit, searchBit, searchSends}
 use Rattle.rom.specs.declared.RomNext.the-variants as next
 use Rattle.rom.specs.declared.RomStep.the-variants.{Search}
@@ -16,6 +17,8 @@ use Rattle.chip.specs.declared.Level.{Level}
 use Rattle.chip.specs.declared.Level.the-variants.{Waiting, Rom, FunctionCommand}
 use Rattle.line.specs.declared.Act.the-variants.{Take}
 use Rattle.histories.specs.Keeps.{act-named}
+use Rattle.histories.specs.Fed.{fed, sendsNothing}
+use Rattle.histories.specs.Sent.{bitsFrom}
 
 -- the code ------------------------------------------------------------------------------------
 
@@ -30,25 +33,15 @@ code-resets w = refl
 
 -- the command -----------------------------------------------------------------------------------
 
--- a chip that sends nothing while n bits of a byte come, from bit i on
-abbrev pub Hears : ℕ → ℕ → ℕ → Whole → Type 0
-Hears zero i byte w = Unit {0}
-Hears (suc n) i byte w = (sendsOf w ≡ true) × Hears n (i + 1) byte (takesOf (bitOf byte i) w)
+-- a chip keeps its code while bits come
+pub code-fed : (vs : List Bool) (w : Whole) → fed vs w .chip .code ≡ w .chip .code
+code-fed [] w = refl
+code-fed (v ∷ vs) w = code-fed vs (takesOf v w) ∙ code-takes v w
 
--- the chip when they have come
-abbrev pub hasHeard : ℕ → ℕ → ℕ → Whole → Whole
-hasHeard zero i byte w = w
-hasHeard (suc n) i byte w = hasHeard n (i + 1) byte (takesOf (bitOf byte i) w)
-
--- that keeps its code
-pub code-heard : (n i byte : ℕ) (w : Whole) → hasHeard n i byte w .chip .code ≡ w .chip .code
-code-heard zero i byte w = refl
-code-heard (suc n) i byte w = code-heard n (i + 1) byte (takesOf (bitOf byte i) w) ∙ code-takes (bitOf byte i) w
-
--- after a reset every chip hears the command of the search
-pub hears : (w : Whole) → Hears 8 0 0xF0 (resetOf w)
-unfolding resetOf resetChip sendsOf takesOf romSlot commandBit filled bitOf pick
-hears w = (refl, (refl, (refl, (refl, (refl, (refl, (refl, (refl, tt))))))))
+-- after a reset every chip hears the command of the search, and sends nothing
+pub hears : (w : Whole) → sendsNothing (bitsFrom 8 0 0xF0) (resetOf w) ≡ true
+unfolding resetOf resetChip sendsOf takesOf romSlot commandBit filled bitOf both pick
+hears w = refl
 
 -- the places ------------------------------------------------------------------------------------
 
@@ -65,7 +58,7 @@ pub Out : Whole → Type 0
 Out w = w .chip .level ≡ Waiting
 
 -- a chip that heard the command is at the first place
-pub begun : (w : Whole) → Part 0 0 (hasHeard 8 0 0xF0 (resetOf w))
+pub begun : (w : Whole) → Part 0 0 (fed (bitsFrom 8 0 0xF0) (resetOf w))
 unfolding Part levelAt resetOf resetChip takesOf romSlot commandBit commandOf filled bitOf pick
 begun w = refl
 

@@ -6,7 +6,7 @@ use mathlib.Core.Path.{_≡_, refl, _∙_, ap, ap₂, sym}
 use native.Mathlib.Numerals.{one-add}
 use Rattle.base.specs.Pick.{pick}
 use Rattle.base.specs.Bits.{bitOf, both}
-use Rattle.base.specs.Both.{both-true}
+use Rattle.base.specs.Both.{both-true, both-holds}
 use Rattle.chip.specs.Chip.{Whole, takesOf, sendsOf, resetOf}
 use Rattle.line.specs.Event.{Answered, bit}
 use Rattle.line.specs.Line.{valueOf, absent}
@@ -15,7 +15,9 @@ use Rattle.line.specs.Refusals.{presence}
 use Rattle.line.specs.Events.{slotEvent, resetEvent}
 use Rattle.search.specs.Host.{Host, ask, Played, played, more, play, write}
 use Rattle.histories.specs.Histories.{answerOf, afterOf, lineWire, codesOf}
-use Rattle.listing.specs.Chip.{code-takes, code-resets, Hears, hasHeard, code-heard, hears}
+use Rattle.histories.specs.Fed.{fed, sendsNothing}
+use Rattle.histories.specs.Sent.{bitsFrom}
+use Rattle.listing.specs.Chip.{code-takes, code-resets, code-fed, hears}
 
 -- the AND of what the chips of a line send
 unfoldable pub sent : List Whole → Bool
@@ -77,31 +79,31 @@ pub codes-reset : (L : List Whole) → codesOf (afterReset L) ≡ codesOf L
 codes-reset [] = refl
 codes-reset (w ∷ L) = ap₂ _∷_ (code-resets w) (codes-reset L)
 
--- every chip of a line hears n bits of a byte, from bit i on
-abbrev AllHear : ℕ → ℕ → ℕ → List Whole → Type 0
-AllHear n i byte [] = Unit {0}
-AllHear n i byte (w ∷ L) = Hears n i byte w × AllHear n i byte L
+-- no chip of a line sends anything while bits come
+abbrev AllHear : List Bool → List Whole → Type 0
+AllHear vs [] = Unit {0}
+AllHear vs (w ∷ L) = (sendsNothing vs w ≡ true) × AllHear vs L
 
--- then none sends anything at the first
-hear-quiet : (n i byte : ℕ) (L : List Whole) → AllHear (suc n) i byte L → sent L ≡ true
+-- then none does at the first
+hear-quiet : (v : Bool) (vs : List Bool) (L : List Whole) → AllHear (v ∷ vs) L → sent L ≡ true
 unfolding sent both pick
-hear-quiet n i byte [] h = refl
-hear-quiet n i byte (w ∷ L) h = ap₂ both (h .0 .0) (hear-quiet n i byte L (h .1))
+hear-quiet v vs [] h = refl
+hear-quiet v vs (w ∷ L) (h, r) = ap₂ both (both-holds (sendsOf w) _ h .0) (hear-quiet v vs L r)
 
--- and each hears the others
-hear-next : (n i byte : ℕ) (L : List Whole) → AllHear (suc n) i byte L → AllHear n (i + 1) byte (taken (bitOf byte i) L)
-hear-next n i byte [] h = tt
-hear-next n i byte (w ∷ L) h = (h .0 .1, hear-next n i byte L (h .1))
+-- and none at the others
+hear-next : (v : Bool) (vs : List Bool) (L : List Whole) → AllHear (v ∷ vs) L → AllHear vs (taken v L)
+hear-next v vs [] h = tt
+hear-next v vs (w ∷ L) (h, r) = (both-holds (sendsOf w) _ h .1, hear-next v vs L r)
 
 -- the line when the bits have come, one bit later
-heard-next : (n i byte : ℕ) (L : List Whole) → map (hasHeard n (i + 1) byte) (taken (bitOf byte i) L) ≡ map (hasHeard (suc n) i byte) L
-heard-next n i byte [] = refl
-heard-next n i byte (w ∷ L) = ap (λ (r : List Whole). hasHeard (suc n) i byte w ∷ r) (heard-next n i byte L)
+fed-next : (v : Bool) (vs : List Bool) (L : List Whole) → map (fed vs) (taken v L) ≡ map (fed (v ∷ vs)) L
+fed-next v vs [] = refl
+fed-next v vs (w ∷ L) = ap (λ (r : List Whole). fed (v ∷ vs) w ∷ r) (fed-next v vs L)
 
 -- and with no bit to come
-heard-none : (i byte : ℕ) (L : List Whole) → L ≡ map (hasHeard 0 i byte) L
-heard-none i byte [] = refl
-heard-none i byte (w ∷ L) = ap (λ (r : List Whole). w ∷ r) (heard-none i byte L)
+fed-none : (L : List Whole) → L ≡ map (fed []) L
+fed-none [] = refl
+fed-none (w ∷ L) = ap (λ (r : List Whole). w ∷ r) (fed-none L)
 
 -- what a byte of n slots comes to
 abbrev writePlayed : ℕ → List Whole → Played (Unit {0}) (List Whole)
@@ -112,30 +114,32 @@ one-more : (n : ℕ) (L : List Whole) → more 0 1 (writePlayed n L) ≡ writePl
 one-more n L = λ i. writePlayed (one-add n i) L
 
 -- a byte that every chip hears
-byte-played : (n i byte : ℕ) (L : List Whole) → AllHear n i byte L → play lineWire (write n i byte) L ≡ writePlayed n (map (hasHeard n i byte) L)
+byte-played : (n i byte : ℕ) (L : List Whole) → AllHear (bitsFrom n i byte) L → play lineWire (write n i byte) L ≡ writePlayed n (map (fed (bitsFrom n i byte)) L)
 unfolding play write
-byte-played zero i byte L h = ap (writePlayed 0) (heard-none i byte L)
+byte-played zero i byte L h = ap (writePlayed 0) (fed-none L)
 byte-played (suc n) i byte L h =
-    write-played (bitOf byte i) (λ x. write n (i + 1) byte) L (hear-quiet n i byte L h)
-    ∙ ap (more 0 1) (byte-played n (i + 1) byte (taken (bitOf byte i) L) (hear-next n i byte L h) ∙ ap (writePlayed n) (heard-next n i byte L))
-    ∙ one-more n (map (hasHeard (suc n) i byte) L)
+    let v = bitOf byte i in
+    let vs = bitsFrom n (i + 1) byte in
+    write-played v (λ x. write n (i + 1) byte) L (hear-quiet v vs L h)
+    ∙ ap (more 0 1) (byte-played n (i + 1) byte (taken v L) (hear-next v vs L h) ∙ ap (writePlayed n) (fed-next v vs L))
+    ∙ one-more n (map (fed (v ∷ vs)) L)
 
 -- after a reset every chip hears the command of the search
-all-hear : (L : List Whole) → AllHear 8 0 0xF0 (afterReset L)
+all-hear : (L : List Whole) → AllHear (bitsFrom 8 0 0xF0) (afterReset L)
 all-hear [] = tt
 all-hear (w ∷ L) = (hears w, all-hear L)
 
 -- the line after a reset and the command
 abbrev pub opened : List Whole → List Whole
-opened L = map (hasHeard 8 0 0xF0) (afterReset L)
+opened L = map (fed (bitsFrom 8 0 0xF0)) (afterReset L)
 
 -- the command after a reset
 pub command-played : (L : List Whole) → play lineWire (write 8 0 0xF0) (afterReset L) ≡ writePlayed 8 (opened L)
 command-played L = byte-played 8 0 0xF0 (afterReset L) (all-hear L)
 
 -- a chip keeps its code through both
-pub code-opened : (w : Whole) → hasHeard 8 0 0xF0 (resetOf w) .chip .code ≡ w .chip .code
-code-opened w = code-heard 8 0 0xF0 (resetOf w) ∙ code-resets w
+pub code-opened : (w : Whole) → fed (bitsFrom 8 0 0xF0) (resetOf w) .chip .code ≡ w .chip .code
+code-opened w = code-fed (bitsFrom 8 0 0xF0) (resetOf w) ∙ code-resets w
 
 -- and a line its codes
 pub codes-opened : (L : List Whole) → codesOf (opened L) ≡ codesOf L

@@ -3,10 +3,11 @@ use Prim.Native.Nat.{ℕ, zero, suc, _+_, _%_, _<_, _≤_}
 use native.Mathlib.Omega.{arith}
 use mathlib.Core.Bool.{Bool, true, false}
 use mathlib.Core.List.{List, [], _∷_, _++_}
-use mathlib.Core.Path.{_≡_, refl, ap, sym, subst}
+use mathlib.Core.Path.{_≡_, refl, _∙_, ap, sym, subst}
 use borrow.Author.Tests.{lt-ltb, le-ltb}
 use Rattle.base.specs.Pick.{pick}
-use Rattle.base.specs.Bits.{bitOf, filled}
+use Rattle.base.specs.Bits.{bitOf, both, filled}
+use Rattle.base.specs.Both.{both-holds}
 use Rattle.base.specs.Same.{same-own}
 use Rattle.rom.specs.Rom.{commandOf, commandBit, matchBit}
 use Rattle.rom.specs.declared.RomStep.the-variants.{Command, Match}
@@ -20,14 +21,16 @@ use Rattle.chip.specs.Chip.{Whole, whole, romSlot, functionIn, functionSlot, me
 use Rattle.chip.specs.declared.Chip.{Chip}
 use Rattle.chip.specs.declared.Level.{Level}
 use Rattle.chip.specs.declared.Level.the-variants.{Rom, FunctionCommand, Memory}
+use Rattle.histories.specs.Fed.{fed, sendsNothing}
+use Rattle.histories.specs.Range.{both-true′}
 use Rattle.histories.specs.Sent.{bitsFrom}
 use Rattle.recovery.specs.Sessions.{opening}
 use Rattle.recovery.specs.Filled.{filledBy, address-taken}
 
--- fed these bits, a chip sends 1 all along and comes to exactly u
-abbrev pub Goes : List Bool → Whole → Whole → Type 0
-Goes [] w u = w ≡ u
-Goes (v ∷ vs) w u = (sendsOf w ≡ true) × Goes vs (takesOf v w) u
+-- fed these bits, a chip sends nothing all along and comes to exactly u
+pub record Goes (vs : List Bool) (w u : Whole) : Type 0 where
+  pub silent : sendsNothing vs w ≡ true
+  pub comes : fed vs w ≡ u
 
 -- from an equal state
 pub goes-from : (vs : List Bool) (w x u : Whole) → w ≡ x → Goes vs x u → Goes vs w u
@@ -35,12 +38,18 @@ goes-from vs w x u e g = subst (λ (y : Whole). Goes vs y u) (sym e) g
 
 -- to an equal state
 pub goes-to : (vs : List Bool) (w x u : Whole) → Goes vs w x → x ≡ u → Goes vs w u
-goes-to vs w x u g e = subst (λ (y : Whole). Goes vs w y) e g
+goes-to vs w x u g e = record { silent = g .silent; comes = g .comes ∙ e }
+
+-- one bit, and others after it
+pub goes-bit : (v : Bool) (vs : List Bool) (w u : Whole) → sendsOf w ≡ true → Goes vs (takesOf v w) u → Goes (v ∷ vs) w u
+goes-bit v vs w u s g = record { silent = both-true′ _ _ s (g .silent); comes = g .comes }
 
 -- one run of bits after another
 pub goes-append : (xs ys : List Bool) (w u z : Whole) → Goes xs w u → Goes ys u z → Goes (xs ++ ys) w z
-goes-append [] ys w u z e g = goes-from ys w u z e g
-goes-append (x ∷ xs) ys w u z (s, r) g = (s, goes-append xs ys (takesOf x w) u z r g)
+goes-append [] ys w u z f g = goes-from ys w u z (f .comes) g
+goes-append (x ∷ xs) ys w u z f g =
+    let s = both-holds (sendsOf w) (sendsNothing xs (takesOf x w)) (f .silent) in
+    goes-bit x (xs ++ ys) w z (s .0) (goes-append xs ys (takesOf x w) u z (record { silent = s .1; comes = f .comes }) g)
 
 module _ (c : Chip) (m : List ℕ) where
   -- a chip of this kind and c's code at a level, with these registers
@@ -53,8 +62,8 @@ module _ (c : Chip) (m : List ℕ) where
 
   -- 55h
   goes-55 : (rc : Bool) (r : Registers) (s : List ℕ) → Goes (bitsFrom 8 0 0x55) (ec20 (Rom (Command 0 0)) rc r s) (ec20 (Rom (Match 0)) false r s)
-  unfolding sendsOf takesOf romSlot commandBit commandOf filled bitOf pick
-  goes-55 rc r s = (refl, (refl, (refl, (refl, (refl, (refl, (refl, (refl, refl))))))))
+  unfolding sendsOf takesOf romSlot commandBit commandOf filled bitOf both pick
+  goes-55 rc r s = record { silent = refl; comes = refl }
 
   -- a bit of its code
   own-bit : (p : ℕ) (r : Registers) (s : List ℕ) → p < 63 → takesOf (bitOf (c .code) p) (ec20 (Rom (Match p)) false r s) ≡ ec20 (Rom (Match (p + 1))) false r s
@@ -73,9 +82,10 @@ module _ (c : Chip) (m : List ℕ) where
 
   -- the bits of its code from a place on
   goes-code : (k p : ℕ) (r : Registers) (s : List ℕ) → k + p ≡ 63 → Goes (bitsFrom (suc k) p (c .code)) (ec20 (Rom (Match p)) false r s) (ec20 (FunctionCommand 0 0) true r s)
-  goes-code zero p r s e = (own-sends p r s, last-bit p r s (omega arith))
+  goes-code zero p r s e = goes-bit _ [] _ _ (own-sends p r s) (record { silent = refl; comes = last-bit p r s (omega arith) })
   goes-code (suc k) p r s e =
-      (own-sends p r s, goes-from (bitsFrom (suc k) (p + 1) (c .code)) _ _ _ (own-bit p r s (omega arith)) (goes-code k (p + 1) r s (omega arith)))
+      goes-bit _ (bitsFrom (suc k) (p + 1) (c .code)) _ _ (own-sends p r s)
+      (goes-from (bitsFrom (suc k) (p + 1) (c .code)) _ _ _ (own-bit p r s (omega arith)) (goes-code k (p + 1) r s (omega arith)))
 
   -- a match of its code
   pub goes-opening : (rc : Bool) (r : Registers) (s : List ℕ) → Goes (opening (c .code)) (ec20 (Rom (Command 0 0)) rc r s) (ec20 (FunctionCommand 0 0) true r s)
@@ -83,8 +93,8 @@ module _ (c : Chip) (m : List ℕ) where
 
   -- 0Fh
   pub goes-0F : (r : Registers) (s : List ℕ) → Goes (bitsFrom 8 0 0x0F) (ec20 (FunctionCommand 0 0) true r s) (ec20 (Memory (WriteAddress 0 0)) true r s)
-  unfolding sendsOf takesOf functionSlot functionIn hasMemory memoryBegins memoryFunction filled bitOf pick
-  goes-0F r s = (refl, (refl, (refl, (refl, (refl, (refl, (refl, (refl, refl))))))))
+  unfolding sendsOf takesOf functionSlot functionIn hasMemory memoryBegins memoryFunction filled bitOf both pick
+  goes-0F r s = record { silent = refl; comes = refl }
 
   -- a chip that has the address
   abbrev pub addressed : List ℕ → ℕ → Whole
@@ -92,8 +102,8 @@ module _ (c : Chip) (m : List ℕ) where
 
   -- the 16 bits of an address, as the register takes them
   goes-bits : (t : ℕ) (r : Registers) (s : List ℕ) → Goes (bitsFrom 16 0 t) (ec20 (Memory (WriteAddress 0 0)) true r s) (addressed s (filledBy 0x8000 0 (bitsFrom 16 0 t)))
-  unfolding sendsOf takesOf memorySlot writeAddress addressIn targetOf pick
-  goes-bits t r s = (refl, (refl, (refl, (refl, (refl, (refl, (refl, (refl, (refl, (refl, (refl, (refl, (refl, (refl, (refl, (refl, refl))))))))))))))))
+  unfolding sendsOf takesOf memorySlot writeAddress addressIn targetOf both pick
+  goes-bits t r s = record { silent = refl; comes = refl }
 
   -- an address
   pub goes-address : (t : ℕ) (r : Registers) (s : List ℕ) → t < 0x10000 → Goes (bitsFrom 16 0 t) (ec20 (Memory (WriteAddress 0 0)) true r s) (addressed s t)

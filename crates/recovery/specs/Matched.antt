@@ -6,6 +6,7 @@ use mathlib.Core.List.{List, [], _∷_, _++_, map}
 use mathlib.Core.Path.{_≡_, refl, _∙_, ap, sym, subst}
 use lib.ListN.{length}
 use Rattle.base.specs.Pick.{pick}
+use Rattle.base.specs.Both.{both-holds}
 use Rattle.rom.specs.declared.RomStep.the-variants.{Command}
 use Rattle.chip.specs.Chip.{Whole, levelReset, takesOf, sendsOf, resetChip, resetOf}
 use Rattle.chip.specs.declared.Level.the-variants.{Rom}
@@ -17,6 +18,7 @@ use Rattle.line.specs.declared.Act.the-variants.{Reset}
 use Rattle.line.specs.declared.Plan.{Plan}
 use Rattle.line.specs.declared.Plan.the-variants as plan
 use Rattle.histories.specs.Histories.{at, answerOf, afterOf, run, answers, came}
+use Rattle.histories.specs.Fed.{fed, sendsNothing}
 use Rattle.histories.specs.Sent.{slots}
 use Rattle.recovery.specs.Sessions.{opening, Addressed, slotted, matchSession}
 use Rattle.recovery.specs.Among.{Own, Among, ownRun, ownAnswers, toComes, both-one, alone, alone-answers}
@@ -48,17 +50,20 @@ comes-slots code [] [] = refl
 comes-slots code [] (v ∷ vs) = comes-slots code [] vs
 comes-slots code (b ∷ bs) vs = comes-slots code bs vs
 
--- a chip that is silent over given bits comes, alone, to where they lead
-goes-run : (vs : List Bool) (w u : Whole) → Goes vs w u → ownRun (slotted vs) w ≡ u
-goes-run [] w u e = e
-goes-run (v ∷ vs) w u (s, g) = ap (λ (b : Bool). ownRun (slotted vs) (takesOf b w)) (both-one (sendsOf w) v s) ∙ goes-run vs (takesOf v w) u g
+-- a chip that sends nothing in slots of given bits takes, alone, just these ..
+fed-alone : (vs : List Bool) (w : Whole) → sendsNothing vs w ≡ true → ownRun (slotted vs) w ≡ fed vs w
+fed-alone [] w s = refl
+fed-alone (v ∷ vs) w s =
+    let h = both-holds (sendsOf w) (sendsNothing vs (takesOf v w)) s in
+    ap (λ (b : Bool). ownRun (slotted vs) (takesOf b w)) (both-one (sendsOf w) v (h .0)) ∙ fed-alone vs (takesOf v w) (h .1)
 
--- and each bit is answered as the host wrote it
-goes-answers : (vs : List Bool) (w u : Whole) → Goes vs w u → ownAnswers (slotted vs) w ≡ map bit vs
-goes-answers [] w u e = refl
-goes-answers (v ∷ vs) w u (s, g) =
-    ap (λ (b : Bool). bit b ∷ ownAnswers (slotted vs) (takesOf b w)) (both-one (sendsOf w) v s)
-    ∙ ap (λ (l : List Answered). bit v ∷ l) (goes-answers vs (takesOf v w) u g)
+-- .. and each is answered as the host wrote it
+answered-alone : (vs : List Bool) (w : Whole) → sendsNothing vs w ≡ true → ownAnswers (slotted vs) w ≡ map bit vs
+answered-alone [] w s = refl
+answered-alone (v ∷ vs) w s =
+    let h = both-holds (sendsOf w) (sendsNothing vs (takesOf v w)) s in
+    ap (λ (b : Bool). bit b ∷ ownAnswers (slotted vs) (takesOf b w)) (both-one (sendsOf w) v (h .0))
+    ∙ ap (λ (l : List Answered). bit v ∷ l) (answered-alone vs (takesOf v w) (h .1))
 
 -- what a reset leaves
 pub reset-after : (L : List Whole) → afterOf resetEvent L ≡ map (actOf Reset) L
@@ -94,7 +99,7 @@ module _ (i : ℕ) (L : List Whole) (s : Installed i L) (code : ℕ) (e : at i L
       let sent = opening code ++ vs in
       let K = map (actOf Reset) L in
       subst (λ (M : List Whole). Among code [] u i (run (slots sent) M)) (sym (reset-after L))
-      (subst (λ (w : Whole). Among code [] w i (run (slots sent) K)) (goes-run sent _ _ goes)
+      (subst (λ (w : Whole). Among code [] w i (run (slots sent) K)) (fed-alone sent _ (goes .silent) ∙ goes .comes)
       (subst (λ (bs : List Bool). Among code bs (ownRun (slotted sent) (resetOf (at i L))) i (run (slots sent) K)) (comes-slots code (opening code) vs)
       (subst (λ (ps : List Plan). Among code (toComes code (opening code) ps) (ownRun ps (resetOf (at i L))) i (run (slots sent) K)) (came-slots sent K)
       (alone code (opening code) (slots sent) (resetOf (at i L)) i K (addressed-slots code (opening code) vs K) own among))))
@@ -108,4 +113,4 @@ module _ (i : ℕ) (L : List Whole) (s : Installed i L) (code : ℕ) (e : at i L
       ∙ ap (λ (l : List Answered). bit false ∷ l)
       (alone-answers code (opening code) (slots sent) (resetOf (at i L)) i (map (actOf Reset) L) (addressed-slots code (opening code) vs _) own among
       ∙ ap (λ (ps : List Plan). ownAnswers ps (resetOf (at i L))) (came-slots sent (map (actOf Reset) L))
-      ∙ goes-answers sent _ _ goes)
+      ∙ answered-alone sent _ (goes .silent))

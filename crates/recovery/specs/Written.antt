@@ -10,6 +10,7 @@ use lib.ListN.{length, set, take, length-set, drop-of-length-le}
 use lib.Seq.{set-split, take-suc-set}
 use borrow.Author.Tests.{lt-ltb, le-ltb}
 use Rattle.base.specs.Pick.{pick}
+use Rattle.base.specs.Bits.{both}
 use Rattle.crc.specs.Crc.{poly16, crcByte, crcOf}
 use Rattle.rom.specs.declared.RomStep.the-variants.{Command}
 use Rattle.scratchpad.specs.Registers.{registers, withE}
@@ -72,8 +73,8 @@ module _ (c : Chip) (m : List ℕ) (t : ℕ) where
 
   -- the 8 bits of a byte, as the register takes them
   goes-eight : (b o crc es : ℕ) (s : List ℕ) → Goes (bitsFrom 8 0 b) (ec20 c m (Memory (WriteData o 0 0 crc)) true (registers t es) s) (put o crc es s (filledBy 0x80 0 (bitsFrom 8 0 b)))
-  unfolding sendsOf takesOf memorySlot memorySight memoryLook byteAtHand partOf mapOf writeData byteIn ruleAt ruleBy pick
-  goes-eight b o crc es s = (refl, (refl, (refl, (refl, (refl, (refl, (refl, (refl, refl))))))))
+  unfolding sendsOf takesOf memorySlot memorySight memoryLook byteAtHand partOf mapOf writeData byteIn ruleAt ruleBy both pick
+  goes-eight b o crc es s = record { silent = refl; comes = refl }
 
   -- a byte
   goes-byte : (b o crc es : ℕ) (s : List ℕ) → b < 256 → Goes (bitsFrom 8 0 b) (ec20 c m (Memory (WriteData o 0 0 crc)) true (registers t es) s) (put o crc es s b)
@@ -92,7 +93,8 @@ module _ (c : Chip) (m : List ℕ) (t : ℕ) where
       let u : withE es o ≡ 0x1F = with-e es o h (omega arith) ∙ q in
       let r : set s o x ≡ take o s ++ (ruleAt ds28ec20 m (t + o) b ∷ [])
       = set-split s o x (omega arith) ∙ ap (λ (y : List ℕ). take o s ++ (x ∷ y)) (drop-of-length-le s d) ∙ ap (λ (a : ℕ). take o s ++ (ruleAt ds28ec20 m a b ∷ [])) (in-page t o z) in
-      goes-append (bitsFrom 8 0 b) [] _ _ _ (goes-byte b o crc es s (first-below _ b [] small)) (λ j. ec20 c m (Memory (p j)) true (registers t (u j)) (r j))
+      goes-append (bitsFrom 8 0 b) [] _ _ _ (goes-byte b o crc es s (first-below _ b [] small))
+      (record { silent = refl; comes = λ j. ec20 c m (Memory (p j)) true (registers t (u j)) (r j) })
   goes-data (y ∷ bs) b o crc es s z e l h small =
       let x = ruleAt ds28ec20 m (inPage t o) b in
       let n = crcByte poly16 crc b in
