@@ -22,17 +22,14 @@ use Rattle.chip.specs.declared.ChipAfter.{ChipAfter}
 use Rattle.chip.specs.Chip.{Whole, levelSeen, levelTakesBy, romSlot, functionIn, functionSlot, memorySight, memorySlot, switchSlot, takesOf, resetChip, resetOf, powerOnChip, powerOnOf, outsideChip, outsideOf}
 use Rattle.chip.specs.declared.Level.{Level}
 use Rattle.chip.specs.declared.Level.the-variants.{Waiting, Rom, FunctionCommand, Memory, Pio}
-use Rattle.line.specs.Line.{valueOf, actOf, afterBy}
-use Rattle.line.specs.Event.{planOn}
+use Rattle.line.specs.Line.{valueOf, actOf}
 use Rattle.line.specs.Events.{resetEvent}
-use Rattle.line.specs.declared.Plan.{Plan}
-use Rattle.line.specs.declared.Plan.the-variants as plan
 use Rattle.line.specs.declared.Act.the-variants.{Take, Reset, PowerOn}
 use Rattle.line.specs.declared.Event.{Event}
-use Rattle.histories.specs.Histories.{at, afterOf, run}
+use Rattle.histories.specs.Histories.{at, run}
 use Rattle.histories.specs.Keeps.{level-either}
-use Rattle.histories.specs.Place.{map-at, outside-at}
-use Rattle.recovery.specs.CarriedOut.{isCopy, carriesOut, Idle, NoCopy, no-copy}
+use Rattle.histories.specs.AtSlots.{AtSlots, slots-kept, at-slots-too}
+use Rattle.recovery.specs.CarriedOut.{isCopy, carriesOut, NoCopy, no-copy}
 use Rattle.commands.specs.Reset.{isCut, afterCut, only-pf, reset-cuts}
 
 -- the next slot is that of the 16th bit of a Write Scratchpad's address, at each phase of a memory
@@ -57,18 +54,9 @@ endsAddress (FunctionCommand count bits) = false
 endsAddress (Memory p) = phaseEnds p
 endsAddress (Pio p) = false
 
--- an event gives chip i no whole address of a Write Scratchpad
-abbrev pub EndsNoAddress : Plan → ℕ → List Whole → Type 0
-EndsNoAddress (plan.Refused r) i L = Unit
-EndsNoAddress (plan.Slot b) i L = endsAddress (at i L .chip .level) ≡ false
-EndsNoAddress plan.Reset i L = Unit
-EndsNoAddress plan.PowerOn i L = Unit
-EndsNoAddress (plan.Outside j l) i L = Unit
-
--- nor does any event of a history
+-- no slot of a history gives chip i the whole address of a Write Scratchpad
 abbrev pub NoAddress : ℕ → List Event → List Whole → Type 0
-NoAddress i [] L = Unit
-NoAddress i (e ∷ es) L = EndsNoAddress (planOn e L) i L × NoAddress i es (afterOf e L)
+NoAddress i es L = AtSlots (λ (b : Bool) (K : List Whole). endsAddress (at i K .chip .level) ≡ false) es L
 
 -- PF of a chip is 1
 abbrev pub HasPF : Whole → Type 0
@@ -144,47 +132,35 @@ outside-pf : (l : ℕ) (w : Whole) → HasPF w → HasPF (outsideOf l w)
 unfolding outsideOf outsideChip
 outside-pf l w h = h
 
--- chip i over one event
-plan-pf : (i : ℕ) (p : Plan) (L : List Whole) → HasPF (at i L) → EndsNoAddress p i L → HasPF (at i (afterBy p L))
-plan-pf i (plan.Refused r) L h k = h
-plan-pf i (plan.Slot b) L h k = let v = valueOf b L in map-at HasPF (actOf (Take v)) i L h (slot-pf v (at i L) h k)
-plan-pf i plan.Reset L h k = map-at HasPF (actOf Reset) i L h (reset-pf (at i L) h)
-plan-pf i plan.PowerOn L h k = map-at HasPF (actOf PowerOn) i L h (power-pf (at i L) h)
-plan-pf i (plan.Outside j l) L h k = outside-at HasPF i j l L h (outside-pf l (at i L) h)
+-- PF over one slot of a history
+slot-kept : (i : ℕ) (b : Bool) (L : List Whole) → HasPF (at i L) → endsAddress (at i L .chip .level) ≡ false → HasPF (actOf (Take (valueOf b L)) (at i L))
+slot-kept i b L h k = slot-pf (valueOf b L) (at i L) h k
 
-plan-idle : (i : ℕ) (p : Plan) (L : List Whole) → HasPF (at i L) → EndsNoAddress p i L → Idle p i L
+-- which carries out no copy
+slot-idle : (i : ℕ) (b : Bool) (L : List Whole) → HasPF (at i L) → endsAddress (at i L .chip .level) ≡ false → carriesOut (valueOf b L) (at i L) ≡ false
 unfolding carriesOut
-plan-idle i (plan.Refused r) L h k = tt
-plan-idle i (plan.Slot b) L h k = level-kept (at i L) (valueOf b L) (at i L .chip .level) h k .1
-plan-idle i plan.Reset L h k = tt
-plan-idle i plan.PowerOn L h k = tt
-plan-idle i (plan.Outside j l) L h k = tt
-
--- by what the event comes to
-event-pf : (i : ℕ) (e : Event) (L : List Whole) → HasPF (at i L) → EndsNoAddress (planOn e L) i L → HasPF (at i (afterOf e L))
-unfolding afterOf
-event-pf i e L h k = plan-pf i (planOn e L) L h k
+slot-idle i b L h k = level-kept (at i L) (valueOf b L) (at i L .chip .level) h k .1
 
 -- THEOREM: PF that is 1 stays 1 over every history that gives the chip no whole address
 pub pf-stays : (i : ℕ) (es : List Event) (L : List Whole) → HasPF (at i L) → NoAddress i es L → HasPF (at i (run es L))
-pf-stays i [] L h n = h
-pf-stays i (e ∷ es) L h (k, n) = pf-stays i es (afterOf e L) (event-pf i e L h k) n
+pf-stays i es L h n = slots-kept i HasPF _ (slot-kept i) reset-pf power-pf outside-pf es L h n
 
 -- THEOREM: and the chip carries out no copy in it
 pub pf-no-copy : (i : ℕ) (es : List Event) (L : List Whole) → HasPF (at i L) → NoAddress i es L → NoCopy i es L
-pf-no-copy i [] L h n = tt
-pf-no-copy i (e ∷ es) L h (k, n) = (plan-idle i (planOn e L) L h k, pf-no-copy i es (afterOf e L) (event-pf i e L h k) n)
+pf-no-copy i es L h n = at-slots-too i HasPF _ (slot-kept i) reset-pf power-pf outside-pf _ (slot-idle i) es L h n
 
 -- THEOREM: so after a reset that cuts a Write Scratchpad, whatever opened its session, whatever else is on the line and whatever
 -- the host does then: until a Write Scratchpad of the chip has its whole address it carries out no copy, and its memory is as it was
 pub cut-not-copied : (i : ℕ) (L : List Whole) → i < length L → at i L .chip .kind ≡ 1 → isCut (at i L .chip .level) ≡ true
     → (rest : List Event) → NoAddress i rest (run (resetEvent ∷ []) L)
-    → NoCopy i rest (run (resetEvent ∷ []) L)
-    × (at i (run rest (run (resetEvent ∷ []) L)) .memory ≡ at i L .memory)
+    → record {
+      copies-none : NoCopy i rest (run (resetEvent ∷ []) L);
+      memory-stays : at i (run rest (run (resetEvent ∷ []) L)) .memory ≡ at i L .memory;
+    }
 unfolding afterCut
 cut-not-copied i L h k c rest n =
     let K = run (resetEvent ∷ []) L in
     let e : at i K ≡ afterCut (at i L) = reset-cuts i L h k c in
     let p : HasPF (at i K) = ap (λ (w : Whole). pf (w .chip .registers .es)) e ∙ only-pf (at i L) .pf-set in
     let q = pf-no-copy i rest K p n in
-    (q, no-copy i rest K q ∙ ap (λ (w : Whole). w .memory) e)
+    record { copies-none = q; memory-stays = no-copy i rest K q ∙ ap (λ (w : Whole). w .memory) e }

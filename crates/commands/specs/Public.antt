@@ -63,14 +63,17 @@ whole-address-on i l s t h =
 -- THEOREM: after a reset that cuts a Write Scratchpad no copy is carried out until an address is whole, and the memory is as it was
 pub cut-not-copied-on : (i : ℕ) (l : Attached) → Stands l → i < l .count → chipOf i l .chip .kind ≡ 1 → isCut (chipOf i l .chip .level) ≡ true
     → (rest : List Event) → NoAddress i rest (lineFrom (runOn (resetEvent ∷ []) l))
-    → NoCopy i rest (lineFrom (runOn (resetEvent ∷ []) l))
-    × (chipOf i (runOn rest (runOn (resetEvent ∷ []) l)) .memory ≡ chipOf i l .memory)
+    → record {
+      copies-none : NoCopy i rest (lineFrom (runOn (resetEvent ∷ []) l));
+      memory-stays : chipOf i (runOn rest (runOn (resetEvent ∷ []) l)) .memory ≡ chipOf i l .memory;
+    }
 cut-not-copied-on i l s h k c rest n =
     let cut = resetEvent ∷ [] in
     let j = run-joined cut l s in
-    let r = cut-not-copied i (lineFrom l) (rw (line-length l s) h) k c rest (rw j at n) in (
-      rw j (r .0),
-      ap (λ (L : List Whole). at i L .memory) (run-joined rest (runOn cut l) (stands-on cut l s))
+    let r = cut-not-copied i (lineFrom l) (rw (line-length l s) h) k c rest (rw j at n) in
+    record {
+      copies-none = rw j (r .copies-none);
+      memory-stays = ap (λ (L : List Whole). at i L .memory) (run-joined rest (runOn cut l) (stands-on cut l s))
           ∙ ap (λ (L : List Whole). at i (run rest L) .memory) j
-          ∙ r .1,
-    )
+          ∙ r .memory-stays;
+    }

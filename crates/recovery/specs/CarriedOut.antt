@@ -1,9 +1,10 @@
 -- Which slots carry out a copy; and a chip that carries out none keeps its memory.
 use Prim.Native.Nat.{ℕ}
-use mathlib.Core.Bool.{Bool, true, false, true≢false}
-use mathlib.Core.List.{List, [], _∷_, map}
+use mathlib.Core.Bool.{Bool, true, false, not, true≢false}
+use mathlib.Core.List.{List}
 use mathlib.Core.Path.{_≡_, refl, _∙_, ap}
 use lib.Dec.{ltb}
+use borrow.Author.Tests.{not-true}
 use Rattle.base.specs.Pick.{pick}
 use Rattle.base.specs.Bits.{filled}
 use Rattle.scratchpad.specs.Scratchpad.{carriedOut, authorized, copyEnd}
@@ -15,14 +16,11 @@ use Rattle.memory.specs.Memory.{done}
 use Rattle.chip.specs.Chip.{Whole, chipMap, levelSeen, levelTakesBy, memorySight, memorySlot, takesOf, resetOf, powerOnOf, outsideOf}
 use Rattle.chip.specs.declared.Level.{Level}
 use Rattle.chip.specs.declared.Level.the-variants.{Memory}
-use Rattle.line.specs.Line.{valueOf, actOf, afterBy}
-use Rattle.line.specs.Event.{planOn}
-use Rattle.line.specs.declared.Plan.{Plan}
-use Rattle.line.specs.declared.Plan.the-variants as plan
+use Rattle.line.specs.Line.{valueOf, actOf}
 use Rattle.line.specs.declared.Event.{Event}
 use Rattle.line.specs.declared.Act.the-variants.{Take, Reset, PowerOn}
-use Rattle.histories.specs.Histories.{at, afterOf, run}
-use Rattle.histories.specs.Place.{map-at, outside-at}
+use Rattle.histories.specs.Histories.{at, run}
+use Rattle.histories.specs.AtSlots.{AtSlots, atSlots, at-slots, slots-kept}
 
 -- the deed is a copy
 abbrev pub isCopy : Deed → Bool
@@ -50,16 +48,15 @@ carries-out w v address count bits e = ap (levelCarriesOut w v) e ∙ go (ltb co
     go false false a b c p q r = r
 
 -- no slot of a history carries out a copy in chip i
-abbrev pub Idle : Plan → ℕ → List Whole → Type 0
-Idle (plan.Refused r) i L = Unit
-Idle (plan.Slot b) i L = carriesOut (valueOf b L) (at i L) ≡ false
-Idle plan.Reset i L = Unit
-Idle plan.PowerOn i L = Unit
-Idle (plan.Outside j l) i L = Unit
-
 abbrev pub NoCopy : ℕ → List Event → List Whole → Type 0
-NoCopy i [] L = Unit
-NoCopy i (e ∷ es) L = Idle (planOn e L) i L × NoCopy i es (afterOf e L)
+NoCopy i es L = AtSlots (λ (b : Bool) (K : List Whole). carriesOut (valueOf b K) (at i K) ≡ false) es L
+
+-- whether that is so, computed
+abbrev pub copiesNone : ℕ → List Event → List Whole → Bool
+copiesNone i es L = atSlots (λ (b : Bool) (K : List Whole). not (carriesOut (valueOf b K) (at i K))) es L
+
+pub copies-none : (i : ℕ) (es : List Event) (L : List Whole) → copiesNone i es L ≡ true → NoCopy i es L
+copies-none i es L e = at-slots _ _ (λ b K h. not-true (carriesOut (valueOf b K) (at i K)) h) es L e
 
 -- a slot that carries out no copy leaves the memory
 module _ (w : Whole) where
@@ -89,23 +86,9 @@ module _ (w : Whole) where
   unfolding outsideOf
   outside-stay l = refl
 
--- chip i, where the same is done to each chip
-map-stays : (f : Whole → Whole) (i : ℕ) (L : List Whole) → f (at i L) .memory ≡ at i L .memory → at i (map f L) .memory ≡ at i L .memory
-map-stays f i L e = map-at (λ (w : Whole). w .memory ≡ at i L .memory) f i L refl e
-
--- chip i over one event
-plan-stays : (i : ℕ) (p : Plan) (L : List Whole) → Idle p i L → at i (afterBy p L) .memory ≡ at i L .memory
-plan-stays i (plan.Refused r) L n = refl
-plan-stays i (plan.Slot b) L n = map-stays (actOf (Take (valueOf b L))) i L (slot-stays (at i L) (valueOf b L) n)
-plan-stays i plan.Reset L n = map-stays (actOf Reset) i L (reset-stays (at i L))
-plan-stays i plan.PowerOn L n = map-stays (actOf PowerOn) i L (power-stays (at i L))
-plan-stays i (plan.Outside j l) L n = outside-at (λ (w : Whole). w .memory ≡ at i L .memory) i j l L refl (outside-stay (at i L) l)
-
-event-stays : (i : ℕ) (e : Event) (L : List Whole) → Idle (planOn e L) i L → at i (afterOf e L) .memory ≡ at i L .memory
-unfolding afterOf
-event-stays i e L n = plan-stays i (planOn e L) L n
-
 -- THEOREM: a chip that carries out no copy in a history has the memory that it had
 pub no-copy : (i : ℕ) (es : List Event) (L : List Whole) → NoCopy i es L → at i (run es L) .memory ≡ at i L .memory
-no-copy i [] L n = refl
-no-copy i (e ∷ es) L (n, r) = no-copy i es (afterOf e L) r ∙ event-stays i e L n
+no-copy i es L n =
+    slots-kept i (λ (w : Whole). w .memory ≡ at i L .memory) _
+    (λ b K h q. slot-stays (at i K) (valueOf b K) q ∙ h) (λ w h. reset-stays w ∙ h) (λ w h. power-stays w ∙ h) (λ l w h. outside-stay w l ∙ h)
+    es L refl n

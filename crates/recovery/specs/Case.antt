@@ -9,14 +9,11 @@ use Rattle.base.specs.Pick.{pick}
 use Rattle.base.specs.Bits.{bitOf, both, filled}
 use Rattle.rom.specs.Rom.{commandOf, commandBit}
 use Rattle.scratchpad.specs.Registers.{registers, targetOf}
-use Rattle.scratchpad.specs.Scratchpad.{memoryFunction, addressIn, writeAddress}
-use Rattle.ds2413.specs.Switch.{switchFunction, switchInRange}
-use Rattle.scratchpad.specs.Scratchpad.{byteAtHand, pageAtHand, memoryBegins}
-use Rattle.ds2413.specs.Switch.{switchBegins}
+use Rattle.scratchpad.specs.Scratchpad.{memoryBegins, memoryFunction, byteAtHand, pageAtHand, addressIn, writeAddress}
+use Rattle.ds2413.specs.Switch.{switchBegins, switchFunction, switchInRange}
 use Rattle.memory.specs.Part.{mapOf}
-use Rattle.chip.specs.Kinds.{partOf, hasMemory, hasScratchpad, hasRegisters, hasSwitch, takesOutside, knowsOf}
+use Rattle.chip.specs.Kinds.{knownKind, imageSize, padSize, partOf, hasMemory, hasScratchpad, hasRegisters, hasSwitch, takesOutside, knowsOf}
 use Rattle.chip.specs.Chip.{Whole, whole, memoryLook, memorySight, romSlot, functionIn, functionSlot, memorySlot, switchSlot, takesOf, sendsOf, resetChip, resetOf, powerOnChip, powerOnOf, outsideChip, outsideOf, setUpChip}
-use Rattle.chip.specs.Kinds.{knownKind, imageSize, padSize}
 use Rattle.line.specs.Event.{askedBy, planEvent, outsideFits}
 use Rattle.line.specs.declared.Event.{Event}
 use Rattle.line.specs.Events.{eventWith, resetEvent, powerOnEvent, outsideEvent}
@@ -25,7 +22,7 @@ use Rattle.histories.specs.Histories.{at, afterOf, run, answers, came}
 use Rattle.histories.specs.Keeps.{InRange, Good}
 use Rattle.histories.specs.Sent.{bitsFrom, slots}
 use Rattle.recovery.specs.Sessions.{opening, Addressed, write, Page}
-use Rattle.recovery.specs.CarriedOut.{carriesOut, NoCopy}
+use Rattle.recovery.specs.CarriedOut.{carriesOut, NoCopy, copies-none}
 use Rattle.recovery.specs.Installed.{Installed}
 use Rattle.recovery.specs.Matched.{addressed-slots}
 use Rattle.recovery.specs.Recovery.{Recovered}
@@ -71,12 +68,12 @@ noise-registers = refl
 -- chip 0 carries out no copy in the first
 quiet-no-copy : NoCopy 0 quiet line
 unfolding setUpChip afterOf planEvent outsideFits askedBy powerOnOf powerOnChip outsideOf outsideChip both pick hasRegisters hasSwitch takesOutside
-quiet-no-copy = (tt, (tt, (tt, tt)))
+quiet-no-copy = copies-none 0 quiet line refl
 
 -- nor in the second
 noise-no-copy : NoCopy 0 noise line
 unfolding carriesOut setUpChip afterOf planEvent outsideFits askedBy takesOf sendsOf resetOf resetChip romSlot commandBit commandOf functionSlot functionIn memoryFunction switchFunction switchSlot memorySlot writeAddress addressIn targetOf filled bitOf both pick memoryLook memorySight memoryBegins switchBegins byteAtHand pageAtHand partOf mapOf hasMemory hasScratchpad hasRegisters hasSwitch takesOutside knowsOf
-noise-no-copy = (tt, (refl, (refl, (refl, (refl, (refl, (refl, (refl, (refl, (refl, (refl, (refl, (refl, (refl, (refl, (refl, (refl, (refl, (refl, (refl, (refl, (refl, (refl, (refl, (refl, (refl, (refl, (refl, (refl, (refl, (refl, (refl, (refl, tt)))))))))))))))))))))))))))))))))
+noise-no-copy = copies-none 0 noise line refl
 
 -- 32 bytes A5h for 0120h
 page : Page 0x0120 (replicate 32 0xA5)
