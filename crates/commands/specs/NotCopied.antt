@@ -110,11 +110,16 @@ level-kept w v (FunctionCommand count bits) h k =
 level-kept w v (Memory p) h k = memory-kept (w .chip .registers) v (memorySight (w .chip) p (levelSeen w (Memory p))) p h k
 level-kept w v (Pio p) h k = (h, refl)
 
--- PF over every act
-slot-pf : (v : Bool) (w : Whole) → HasPF w → endsAddress (w .chip .level) ≡ false → HasPF (actOf (Take v) w)
+-- PF over a slot of a history, which carries out no copy
+slot-pf : (i : ℕ) (b : Bool) (L : List Whole) → HasPF (at i L) → endsAddress (at i L .chip .level) ≡ false → HasPF (actOf (Take (valueOf b L)) (at i L))
 unfolding takesOf
-slot-pf v w h k = level-kept w v (w .chip .level) h k .0
+slot-pf i b L h k = level-kept (at i L) (valueOf b L) (at i L .chip .level) h k .0
 
+slot-idle : (i : ℕ) (b : Bool) (L : List Whole) → HasPF (at i L) → endsAddress (at i L .chip .level) ≡ false → carriesOut (valueOf b L) (at i L) ≡ false
+unfolding carriesOut
+slot-idle i b L h k = level-kept (at i L) (valueOf b L) (at i L .chip .level) h k .1
+
+-- PF over every other act
 reset-pf : (w : Whole) → HasPF w → HasPF (actOf Reset w)
 unfolding resetOf resetChip afterCut
 reset-pf w h = level-either (λ (r : Registers). pf (r .es) ≡ true) (w .chip) h (only-pf w .pf-set) (w .chip .level)
@@ -132,22 +137,13 @@ outside-pf : (l : ℕ) (w : Whole) → HasPF w → HasPF (outsideOf l w)
 unfolding outsideOf outsideChip
 outside-pf l w h = h
 
--- PF over one slot of a history
-slot-kept : (i : ℕ) (b : Bool) (L : List Whole) → HasPF (at i L) → endsAddress (at i L .chip .level) ≡ false → HasPF (actOf (Take (valueOf b L)) (at i L))
-slot-kept i b L h k = slot-pf (valueOf b L) (at i L) h k
-
--- which carries out no copy
-slot-idle : (i : ℕ) (b : Bool) (L : List Whole) → HasPF (at i L) → endsAddress (at i L .chip .level) ≡ false → carriesOut (valueOf b L) (at i L) ≡ false
-unfolding carriesOut
-slot-idle i b L h k = level-kept (at i L) (valueOf b L) (at i L .chip .level) h k .1
-
 -- THEOREM: PF that is 1 stays 1 over every history that gives the chip no whole address
 pub pf-stays : (i : ℕ) (es : List Event) (L : List Whole) → HasPF (at i L) → NoAddress i es L → HasPF (at i (run es L))
-pf-stays i es L h n = slots-kept i HasPF _ (slot-kept i) reset-pf power-pf outside-pf es L h n
+pf-stays i es L h n = slots-kept i HasPF _ (slot-pf i) reset-pf power-pf outside-pf es L h n
 
 -- THEOREM: and the chip carries out no copy in it
 pub pf-no-copy : (i : ℕ) (es : List Event) (L : List Whole) → HasPF (at i L) → NoAddress i es L → NoCopy i es L
-pf-no-copy i es L h n = at-slots-too i HasPF _ (slot-kept i) reset-pf power-pf outside-pf _ (slot-idle i) es L h n
+pf-no-copy i es L h n = at-slots-too i HasPF _ (slot-pf i) reset-pf power-pf outside-pf _ (slot-idle i) es L h n
 
 -- THEOREM: so after a reset that cuts a Write Scratchpad, whatever opened its session, whatever else is on the line and whatever
 -- the host does then: until a Write Scratchpad of the chip has its whole address it carries out no copy, and its memory is as it was

@@ -33,6 +33,7 @@ use Rattle.line.specs.declared.Act.the-variants.{Reset, PowerOn}
 use Rattle.histories.specs.Histories.{at, afterOf, run}
 use Rattle.histories.specs.Range.{pf-block}
 use Rattle.histories.specs.Place.{at-map}
+use Rattle.recovery.specs.Stays.{not-switch}
 use Rattle.recovery.specs.Matched.{reset-after}
 
 -- a reset cuts a Write Scratchpad "before its 16th address bit" and "inside a data byte", at each phase of a memory
@@ -167,17 +168,13 @@ has-pad : (k : ℕ) → k ≡ 1 → hasScratchpad k ≡ true
 unfolding hasScratchpad
 has-pad k e = ap hasScratchpad e
 
-no-switch : (k : ℕ) → k ≡ 1 → hasSwitch k ≡ false
-unfolding hasSwitch
-no-switch k e = ap hasSwitch e
-
 -- THEOREM: a power on in place of the reset is no reset: at any level, inside an address too
 pub power-on-exactly : (i : ℕ) (L : List Whole) → i < length L → at i L .chip .kind ≡ 1 → at i (run (powerOnEvent ∷ []) L) ≡ afterPowerOn (at i L)
 unfolding afterOf planEvent outsideFits askedBy powerOnOf powerOnChip powerOnPad afterPowerOn pick
 power-on-exactly i L h e =
     let w = at i L in
     let r = pick-true (hasRegisters (w .chip .kind)) powerOnRegisters (w .chip .registers) (has-registers (w .chip .kind) e) in
-    let s = pick-false (hasSwitch (w .chip .kind)) (switchPowerOn (w .chip .switch)) (w .chip .switch) (no-switch (w .chip .kind) e) in
+    let s = pick-false (hasSwitch (w .chip .kind)) (switchPowerOn (w .chip .switch)) (w .chip .switch) (not-switch (w .chip .kind) e) in
     let p = pick-true (hasScratchpad (w .chip .kind)) (replicate (length (w .pad)) 0xFF) (w .pad) (has-pad (w .chip .kind) e) in
     at-map (actOf PowerOn) i L h
     ∙ (λ j. whole (withLevel Waiting (withRc false (withRegisters (r j) (withSwitch (s j) (w .chip))))) (w .memory) (p j))

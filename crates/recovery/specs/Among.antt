@@ -254,7 +254,7 @@ ownAnswers [] w = []
 ownAnswers (p ∷ ps) w = ownAnswer p w ∷ ownAnswers ps (ownAfter p w)
 
 -- a line with a chip on it is not empty
-present : (i : ℕ) (L : List Whole) → i < length L → absent L ≡ false
+pub present : (i : ℕ) (L : List Whole) → i < length L → absent L ≡ false
 present i [] h = absurd (not-suc-le-zero h)
 present i (x ∷ L) h = refl
 

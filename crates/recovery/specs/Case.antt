@@ -22,7 +22,7 @@ use Rattle.histories.specs.Histories.{at, afterOf, run, answers, came}
 use Rattle.histories.specs.Keeps.{InRange, Good}
 use Rattle.histories.specs.Sent.{bitsFrom, slots}
 use Rattle.recovery.specs.Sessions.{opening, Addressed, write, Page}
-use Rattle.recovery.specs.CarriedOut.{carriesOut, NoCopy, copies-none}
+use Rattle.recovery.specs.CarriedOut.{carriesOut, copiesNone, copies-none}
 use Rattle.recovery.specs.Installed.{Installed}
 use Rattle.recovery.specs.Matched.{addressed-slots}
 use Rattle.recovery.specs.Recovery.{Recovered}
@@ -55,25 +55,17 @@ quiet = powerOnEvent ∷ eventWith 5 0 0 ∷ outsideEvent 1 2 ∷ []
 abbrev noise : List Event
 noise = resetEvent ∷ slots (bitsFrom 8 0 0xCC ++ (bitsFrom 8 0 0x0F ++ bitsFrom 16 0 0x0120))
 
--- the registers of chip 0 after the first
-pub quiet-registers : at 0 (run quiet line) .chip .registers ≡ registers 0x0000 0x20
-unfolding setUpChip afterOf planEvent outsideFits askedBy powerOnOf powerOnChip outsideOf outsideChip both pick hasRegisters hasSwitch takesOutside
-quiet-registers = refl
+-- T and E/S of chip 0 after the first and after the second, and that it carries out no copy in either
+pub record Apart : Type 0 where
+  pub quiet-registers : at 0 (run quiet line) .chip .registers ≡ registers 0x0000 0x20
+  pub noise-registers : at 0 (run noise line) .chip .registers ≡ registers 0x0120 0x00
+  pub quiet-copies-none : copiesNone 0 quiet line ≡ true
+  pub noise-copies-none : copiesNone 0 noise line ≡ true
 
--- they are others after the second
-pub noise-registers : at 0 (run noise line) .chip .registers ≡ registers 0x0120 0x00
-unfolding setUpChip afterOf planEvent outsideFits askedBy takesOf sendsOf resetOf resetChip romSlot commandBit commandOf functionSlot functionIn memoryFunction switchFunction switchSlot memorySlot writeAddress addressIn targetOf filled bitOf both pick memoryLook memorySight memoryBegins switchBegins byteAtHand pageAtHand partOf mapOf hasMemory hasScratchpad hasRegisters hasSwitch takesOutside knowsOf
-noise-registers = refl
-
--- chip 0 carries out no copy in the first
-quiet-no-copy : NoCopy 0 quiet line
-unfolding setUpChip afterOf planEvent outsideFits askedBy powerOnOf powerOnChip outsideOf outsideChip both pick hasRegisters hasSwitch takesOutside
-quiet-no-copy = copies-none 0 quiet line refl
-
--- nor in the second
-noise-no-copy : NoCopy 0 noise line
-unfolding carriesOut setUpChip afterOf planEvent outsideFits askedBy takesOf sendsOf resetOf resetChip romSlot commandBit commandOf functionSlot functionIn memoryFunction switchFunction switchSlot memorySlot writeAddress addressIn targetOf filled bitOf both pick memoryLook memorySight memoryBegins switchBegins byteAtHand pageAtHand partOf mapOf hasMemory hasScratchpad hasRegisters hasSwitch takesOutside knowsOf
-noise-no-copy = copies-none 0 noise line refl
+-- computed
+pub apart : Apart
+unfolding carriesOut setUpChip afterOf planEvent outsideFits askedBy takesOf sendsOf resetOf resetChip powerOnOf powerOnChip outsideOf outsideChip romSlot commandBit commandOf functionSlot functionIn memoryFunction switchFunction switchSlot memorySlot writeAddress addressIn targetOf filled bitOf both pick memoryLook memorySight memoryBegins switchBegins byteAtHand pageAtHand partOf mapOf hasMemory hasScratchpad hasRegisters hasSwitch takesOutside knowsOf
+apart = record { quiet-registers = refl; noise-registers = refl; quiet-copies-none = refl; noise-copies-none = refl }
 
 -- 32 bytes A5h for 0120h
 page : Page 0x0120 (replicate 32 0xA5)
@@ -83,7 +75,9 @@ page = record { address = omega arith; offset = refl; full = length-replicate {A
 -- so after the write of them at 0120h chip 0 stands the same
 pub recovered : Recovered 0 5 (write 5 0x0120 (replicate 32 0xA5)) (run quiet line) (run noise line)
 unfolding setUpChip
-recovered = demand-3 0 line line-installed [] quiet noise quiet-no-copy noise-no-copy 0x0120 (replicate 32 0xA5) page
+recovered =
+    demand-3 0 line line-installed [] quiet noise (copies-none 0 quiet line (apart .quiet-copies-none)) (copies-none 0 noise line (apart .noise-copies-none))
+    0x0120 (replicate 32 0xA5) page
 
 -- a session that matches the code and reads the scratchpad
 abbrev reading : List Event

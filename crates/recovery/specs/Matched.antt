@@ -1,6 +1,5 @@
 -- A session that opens by matching the code of chip i: on the line the chip comes to what it comes to alone.
 use Prim.Native.Nat.{ℕ, _<_}
-use native.Mathlib.Nat.{not-suc-le-zero}
 use mathlib.Core.Bool.{Bool, true, false}
 use mathlib.Core.List.{List, [], _∷_, _++_, map}
 use mathlib.Core.Path.{_≡_, refl, _∙_, ap, sym, subst}
@@ -21,7 +20,7 @@ use Rattle.histories.specs.Histories.{at, answerOf, afterOf, run, answers, came
 use Rattle.histories.specs.Fed.{fed, sendsNothing}
 use Rattle.histories.specs.Sent.{slots}
 use Rattle.recovery.specs.Sessions.{opening, Addressed, slotted, matchSession}
-use Rattle.recovery.specs.Among.{Own, Among, ownRun, ownAnswers, toComes, both-one, alone, alone-answers}
+use Rattle.recovery.specs.Among.{Own, Among, ownRun, ownAnswers, toComes, both-one, alone, present, alone-answers}
 use Rattle.recovery.specs.Goes.{Goes, ofKind, ec20}
 use Rattle.recovery.specs.Installed.{Installed, reset-among, reset-own}
 
@@ -73,8 +72,7 @@ reset-after L = refl
 -- what it answers where a chip is attached
 reset-answer : (i : ℕ) (L : List Whole) → i < length L → answerOf resetEvent L ≡ bit false
 unfolding answerOf planEvent outsideFits askedBy pick
-reset-answer i [] h = absurd (not-suc-le-zero h)
-reset-answer i (w ∷ L) h = ap bit (presence (w ∷ L))
+reset-answer i L h = ap bit (presence L ∙ present i L h)
 
 -- a DS28EC20 after a reset, with its kind written out
 module _ (w : Whole) (e : w .chip .kind ≡ 1) where

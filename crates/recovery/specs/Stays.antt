@@ -50,7 +50,7 @@ stays-onto w u x p q =
     }
 
 -- a DS28EC20 has no latches
-not-switch : (k : ℕ) → k ≡ 1 → hasSwitch k ≡ false
+pub not-switch : (k : ℕ) → k ≡ 1 → hasSwitch k ≡ false
 unfolding hasSwitch pick
 not-switch k e = ap hasSwitch e
 
