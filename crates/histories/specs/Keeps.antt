@@ -11,20 +11,17 @@ use Rattle.base.specs.Both.{both-holds}
 use Rattle.rom.specs.Rom.{romTakes}
 use Rattle.rom.specs.declared.RomNext.{RomNext}
 use Rattle.rom.specs.declared.RomNext.the-variants as next
-use Rattle.scratchpad.specs.Scratchpad.{memoryInRange, registersInRange}
+use Rattle.scratchpad.specs.Scratchpad.{memoryInRange, registersInRange, memoryBegins}
 use Rattle.scratchpad.specs.Registers.{pfSet}
 use Rattle.scratchpad.specs.declared.Registers.{Registers}
-use Rattle.scratchpad.specs.Scratchpad.{memoryBegins}
-use Rattle.ds2413.specs.Switch.{switchBegins}
+use Rattle.ds2413.specs.Switch.{switchBegins, switchInRange, phaseInRange, switchPowerOn}
 use Rattle.histories.specs.Bounds.{sight-last, sight-end}
-use Rattle.chip.specs.Kinds.{hasMemory, hasSwitch, knowsOf}
+use Rattle.chip.specs.Kinds.{hasMemory, hasSwitch, knowsOf, knownKind, imageSize, padSize}
 use Rattle.chip.specs.With.{withRc, withLevel}
 use Rattle.chip.specs.declared.ChipAfter.{ChipAfter}
-use Rattle.ds2413.specs.Switch.{switchInRange, phaseInRange, switchPowerOn}
 use Rattle.ds2413.specs.declared.Switch.{Switch}
 use Rattle.chip.specs.Chip.{Whole, chipMap, levelOf, levelSeen, romSlot, functionIn, functionSlot, memorySight, memorySlot, switchSlot, levelTakes, takesOf, levelReset, resetChip, resetOf, powerOnChip, powerOnOf, outsideChip, outsideOf}
 use Rattle.chip.specs.Range.{levelInRange, inRange}
-use Rattle.chip.specs.Kinds.{knownKind, imageSize, padSize}
 use Rattle.chip.specs.declared.Chip.{Chip}
 use Rattle.chip.specs.declared.Level.{Level}
 use Rattle.chip.specs.declared.Level.the-variants.{Waiting, Rom, FunctionCommand, Memory, Pio}
