@@ -5,10 +5,9 @@ use mathlib.Core.List.{List, [], _∷_}
 use lib.ListN.{replicate, take, drop, getD, set}
 use Rattle.base.specs.Pick.{pick}
 use Rattle.scratchpad.specs.declared.MemoryPhase.{MemoryPhase}
-use Rattle.chip.specs.With.{withLevel}
+use Rattle.chip.specs.With.{withLevel, noChip}
 use Rattle.chip.specs.Chip.{Whole, whole}
 use Rattle.chip.specs.declared.Level.the-variants.{Memory}
-use Rattle.chip.specs.With.{noChip}
 use Rattle.line.specs.Event.{Answered, bit}
 use Rattle.line.specs.Layout.{lineOf, imagesSize, padsSize}
 use Rattle.line.specs.declared.Event.{Event}

@@ -6,30 +6,22 @@ use Rattle.base.specs.Bits.{bitOf, same, both, filled}
 use Rattle.base.specs.Pick.{pick}
 use Rattle.card.specs.Card.{cutEntry, wholeEntry, entryAt, readFrom, setUpOf}
 use Rattle.chip.specs.Chip.{romSlot, functionIn, functionSlot, memoryLook, memorySight, memorySlot, switchSlot, takesOf, sendsOf, resetChip, resetOf, powerOnChip, powerOnPad, powerOnOf, outsideChip, outsideOf, setUpChip}
-use Rattle.chip.specs.Kinds.{knownKind, imageSize, padSize}
+use Rattle.chip.specs.Kinds.{knownKind, imageSize, padSize, partOf, hasMemory, hasScratchpad, hasRegisters, hasSwitch, takesOutside, knowsOf}
 use Rattle.crc.specs.Crc.{crcBit, crcByte, crcOf}
-use Rattle.ds2413.specs.Switch.{pinOf, flag, statusOf, switchFunction, statusSent, pairIn, pairBit, confirmed, shown}
+use Rattle.ds2413.specs.Switch.{pinOf, flag, statusOf, switchFunction, statusSent, pairIn, pairBit, confirmed, shown, switchBegins, switchInRange}
 use Rattle.memory.specs.Part.{mapOf}
 use Rattle.memory.specs.Memory.{ruleAt, spanOf, copied}
 use Rattle.scratchpad.specs.Map.{ruleBy}
-use Rattle.scratchpad.specs.Scratchpad.{byteAtHand, pageAtHand, padFrom, memoryBegins}
-use Rattle.chip.specs.Kinds.{partOf, hasMemory, hasScratchpad, hasRegisters, hasSwitch, takesOutside, knowsOf}
-use Rattle.ds2413.specs.Switch.{switchBegins}
-use Rattle.ds28ec20.specs.Map.{ds28ec20, lockAddress, padEnd}
-use Rattle.ds28ec20.specs.Map.{isData, controlAddress, isControlOrLock, isReadOnly, held, onlyFalls, closedToCopying}
+use Rattle.scratchpad.specs.Scratchpad.{byteAtHand, pageAtHand, padFrom, memoryBegins, memoryFunction, crcOfAddress, addressIn, writeAddress, afterByte, byteIn, writeData, crcSent, padBegins, registerSent, padByteSent, padSent, copyAddress, carriedOut, authorized, copyEnd, readAddress, memorySent, cutOf, inPage, readFrom as readMemoryFrom, registersInRange}
+use Rattle.ds28ec20.specs.Map.{ds28ec20, lockAddress, padEnd, isData, controlAddress, isControlOrLock, isReadOnly, held, onlyFalls, closedToCopying}
 use Rattle.line.specs.Layout.{capped}
-use Rattle.line.specs.Event.{planEvent, askedBy, outsideFits}
+use Rattle.line.specs.Event.{planEvent, askedBy, outsideFits, tableInRange, sizesFit}
 use Rattle.records.specs.Records.{headAt}
 use Rattle.rom.specs.Rom.{commandOf, commandBit, readBit, matchBit, searchBit, searchSends}
 use Rattle.histories.specs.Histories.{answerOf, afterOf}
 use Rattle.scratchpad.specs.Registers.{pf, withE, withPF, withAA, targetOf, mark, ruleOfByte}
-use Rattle.scratchpad.specs.Scratchpad.{memoryFunction, crcOfAddress, addressIn, writeAddress, afterByte, byteIn, writeData, crcSent, padBegins, registerSent, padByteSent, padSent, copyAddress, carriedOut, authorized, copyEnd, readAddress, memorySent, cutOf, inPage}
 use Rattle.search.specs.Host.{bind, play, pass, write, upTo, passes}
-use Rattle.scratchpad.specs.Scratchpad.{readFrom as readMemoryFrom}
 use Rattle.chip.specs.Range.{inRange}
-use Rattle.scratchpad.specs.Scratchpad.{registersInRange}
-use Rattle.ds2413.specs.Switch.{switchInRange}
-use Rattle.line.specs.Event.{tableInRange, sizesFit}
 use Rattle.search.specs.Search.{Search}
 use Rattle.histories.specs.Standing.{Stands}
 use Rattle.histories.specs.Joined.{search-joined}
