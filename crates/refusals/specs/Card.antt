@@ -11,7 +11,6 @@ use Rattle.base.specs.Exactly.{Iff, apart, by-else, by-then, by-left, by-either
 use Rattle.chip.specs.Kinds.{knownKind}
 use Rattle.records.specs.Numbers.{numberAt}
 use Rattle.records.specs.Records.{headAt}
-use Rattle.records.specs.declared.Head.{Head}
 use Rattle.card.specs.Card.{cutEntry, wholeEntry, entryOf, entryAt}
 use Rattle.card.specs.declared.Entry.{Entry}
 use Rattle.card.specs.declared.Entry.the-variants.{Done, Taken, TooMany, UnknownKind, WrongLength}

@@ -1,21 +1,20 @@
 -- Demand 1 for a whole card: it is refused exactly when reading record after record reaches one at fault, by that one's number
 -- and at its first byte.
-use Prim.Native.Nat.{ℕ, zero, suc, _+_, _-_, _<_, _≤_}
+use Prim.Native.Nat.{ℕ, zero, suc, _+_, _-_, _<_}
 use native.Mathlib.Omega.{arith}
-use mathlib.Core.Bool.{Bool, true, false, true≢false}
+use mathlib.Core.Bool.{true≢false}
 use mathlib.Core.List.{List, [], _∷_, _++_}
 use mathlib.Core.Path.{_≡_, refl, _∙_, ap, sym}
-use lib.Dec.{ltb}
 use lib.ListN.{length}
-use Rattle.base.specs.Pick.{pick, pick-both, pick-if}
+use Rattle.base.specs.Pick.{pick-both, pick-if}
 use Rattle.base.specs.Exactly.{Iff}
 use Rattle.chip.specs.Chip.{setUpChip}
 use Rattle.chip.specs.declared.Chip.{Chip}
 use Rattle.line.specs.Layout.{capped}
-use Rattle.card.specs.Card.{Carded, chips, refused, entryAt, Read, all, none, after, onward, readFrom, SetUp, fromRead, setUpOf}
+use Rattle.card.specs.Card.{chips, refused, entryAt, Read, all, none, after, onward, readFrom, fromRead, setUpOf}
 use Rattle.card.specs.declared.Entry.{Entry}
 use Rattle.card.specs.declared.Entry.the-variants.{Done, Taken, TooMany, UnknownKind, WrongLength}
-use Rattle.refusals.specs.Card.{judged, entry-is}
+use Rattle.refusals.specs.Card.{entry-is}
 
 -- the refusal number of a record at fault
 abbrev pub faultOf : Entry → ℕ
