@@ -8,9 +8,8 @@ use Rattle.base.specs.Pick.{pick}
 use Rattle.base.specs.Bits.{bitOf, both}
 use Rattle.base.specs.Both.{both-true, both-holds}
 use Rattle.chip.specs.Chip.{Whole, takesOf, sendsOf, resetOf}
-use Rattle.line.specs.Event.{Answered, bit}
+use Rattle.line.specs.Event.{Answered, bit, askedBy, planEvent, outsideFits}
 use Rattle.line.specs.Line.{valueOf, absent}
-use Rattle.line.specs.Event.{askedBy, planEvent, outsideFits}
 use Rattle.line.specs.Refusals.{presence}
 use Rattle.line.specs.Events.{slotEvent, resetEvent}
 use Rattle.search.specs.Host.{Host, ask, Played, played, more, play, write}
