@@ -1,6 +1,6 @@
 -- What a map promises of a run of bytes that one control byte guards (a block, a page), and laws: every copy keeps it.
 use Prim.Native.Nat.{ℕ, zero, suc, _+_, _<_}
-use mathlib.Core.Bool.{Bool, true}
+use mathlib.Core.Bool.{true}
 use mathlib.Core.List.{List, [], _∷_}
 use mathlib.Core.Path.{_≡_, refl, _∙_, ap, subst}
 use lib.Bits.{bitAnd, and-self}
