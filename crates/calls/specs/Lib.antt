@@ -8,5 +8,6 @@ pub mod Refused
 pub mod Wired
 pub mod Listed
 pub mod Protected
+pub mod SearchCopies
 pub mod Recovered
 pub mod Customer

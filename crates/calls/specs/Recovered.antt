@@ -1,6 +1,6 @@
 -- Demand 3, "Recovery after noise: after a reset, a match and a full-page scratchpad write, a chip's whole state no longer depends on what
--- happened between, unless it copied.": of calls. Page, write and Addressed are in recovery/specs/Sessions, NoCopyIn in
--- recovery/specs/OverCalls, TableInstalled in recovery/specs/Public.
+-- happened between, unless it copied.": of calls. Page, write and Addressed are in recovery/specs/Sessions, TableInstalled in
+-- recovery/specs/Public, NoCopyIn in SearchCopies.
 use Prim.Native.Nat.{ℕ}
 use mathlib.Core.List.{List, [], map}
 use mathlib.Core.Path.{_≡_, _∙_, ap, sym, subst}
@@ -10,10 +10,13 @@ use Rattle.search.specs.Search.{Attached}
 use Rattle.histories.specs.Histories.{came}
 use Rattle.histories.specs.Standing.{lineFrom}
 use Rattle.histories.specs.Joined.{runOn, answersOn}
+use Rattle.histories.specs.Calls.{callsOn, eventsOfCalls, stands-calls}
+use Rattle.recovery.specs.CarriedOut.{NoCopy}
 use Rattle.recovery.specs.Sessions.{Addressed, write, Page}
 use Rattle.recovery.specs.Public.{chipOf, TableInstalled, TableRecovered}
-use Rattle.recovery.specs.OverCalls.{NoCopyIn, demand-3-calls}
+use Rattle.recovery.specs.OverCalls.{demand-3-calls}
 use Rattle.calls.specs.Form.{Form, Asked, callsOf, Ran, ran-leaves}
+use Rattle.calls.specs.SearchCopies.{NoCopyIn, no-copy-in}
 use Rattle.calls.specs.Events.{Put, put-is}
 
 -- after the write on two tables: chip i is in one state, both were told the same, and as long as each session matches the code
@@ -73,7 +76,9 @@ recovers F i x m s start left right u a b p q r c d t bytes g told heard y z f h
     let k = ran-leaves F (j .is-table) q in
     let l = ran-leaves F (j .is-table) r in
     let begun = j .table in
+    let idle : (cs : List (Asked F)) → NoCopyIn i (callsOf cs) (F .table u) → NoCopy i (eventsOfCalls (callsOf cs) (callsOn (callsOf start) (F .table x))) (lineFrom (callsOn (callsOf start) (F .table x)))
+    = λ cs n. no-copy-in i (callsOf cs) _ (stands-calls (callsOf start) (F .table x) (s .stands)) (subst (NoCopyIn i (callsOf cs)) begun n) in
     told-alike F i (chipOf i (F .table x) .chip .code) (write (chipOf i (F .table x) .chip .code) t bytes) (k .is-table) (l .is-table)
     (rw (k .table, l .table, begun)
-    (demand-3-calls i (F .table x) s (callsOf start) (callsOf left) (callsOf right) (subst (NoCopyIn i (callsOf left)) begun c) (subst (NoCopyIn i (callsOf right)) begun d) t bytes g))
+    (demand-3-calls i (F .table x) s (callsOf start) (callsOf left) (callsOf right) (idle left c) (idle right d) t bytes g))
     f h

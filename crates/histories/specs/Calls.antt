@@ -43,7 +43,7 @@ callsOn [] l = l
 callsOn (c ∷ cs) l = callsOn cs (leavesCall c l)
 
 -- the events that a call puts on a table that stands well
-abbrev eventsOfCall : Call → Attached → List Event
+abbrev pub eventsOfCall : Call → Attached → List Event
 eventsOfCall (event-call e) l = e ∷ []
 eventsOfCall (search-call list) l = eventsOf (searchHost (length list)) l
 
@@ -52,7 +52,7 @@ eventsOfCalls [] l = []
 eventsOfCalls (c ∷ cs) l = eventsOfCall c l ++ eventsOfCalls cs (leavesCall c l)
 
 -- a call leaves a table as the history of its events does
-call-runs : (c : Call) (l : Attached) → Stands l → leavesCall c l ≡ runOn (eventsOfCall c l) l
+pub call-runs : (c : Call) (l : Attached) → Stands l → leavesCall c l ≡ runOn (eventsOfCall c l) l
 unfolding searchOf
 call-runs (event-call e) l s = refl
 call-runs (search-call list) l s =

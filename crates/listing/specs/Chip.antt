@@ -63,9 +63,14 @@ unfolding Part levelAt resetOf resetChip takesOf romSlot commandBit commandOf fi
 begun w = refl
 
 -- which level that is, at a place of the code
-level-in : (k s : ℕ) (w : Whole) → k < 64 → Part k s w → w .chip .level ≡ Rom (Search k s)
+pub level-in : (k s : ℕ) (w : Whole) → k < 64 → Part k s w → w .chip .level ≡ Rom (Search k s)
 unfolding Part levelAt
 level-in k s w h e = e ∙ pick-true (ltb k 64) _ _ (lt-ltb k 64 h)
+
+-- and which is that of a chip that dropped out
+pub level-out : (w : Whole) → Out w → w .chip .level ≡ Waiting
+unfolding Out
+level-out w e = e
 
 -- where a slot leads a chip at a known level
 level-taken : (w : Whole) (v : Bool) (l : Level) → w .chip .level ≡ l → takesOf v w .chip .level ≡ levelTakes w v l .chip .level

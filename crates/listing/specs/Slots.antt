@@ -39,7 +39,7 @@ both-swap false true c = refl
 both-swap false false c = refl
 
 -- the value of a slot is the AND of the host's bit and what the chips send
-value-is : (b : Bool) (L : List Whole) → valueOf b L ≡ both b (sent L)
+pub value-is : (b : Bool) (L : List Whole) → valueOf b L ≡ both b (sent L)
 unfolding sent
 value-is b [] = sym (both-true b)
 value-is b (w ∷ L) = value-is (both (sendsOf w) b) L ∙ both-swap (sendsOf w) b (sent L)
@@ -79,28 +79,28 @@ codes-reset [] = refl
 codes-reset (w ∷ L) = ap₂ _∷_ (code-resets w) (codes-reset L)
 
 -- no chip of a line sends anything while bits come
-abbrev AllHear : List Bool → List Whole → Type 0
+abbrev pub AllHear : List Bool → List Whole → Type 0
 AllHear vs [] = Unit {0}
 AllHear vs (w ∷ L) = (sendsNothing vs w ≡ true) × AllHear vs L
 
 -- then none does at the first
-hear-quiet : (v : Bool) (vs : List Bool) (L : List Whole) → AllHear (v ∷ vs) L → sent L ≡ true
+pub hear-quiet : (v : Bool) (vs : List Bool) (L : List Whole) → AllHear (v ∷ vs) L → sent L ≡ true
 unfolding sent both pick
 hear-quiet v vs [] h = refl
 hear-quiet v vs (w ∷ L) (h, r) = ap₂ both (both-holds (sendsOf w) _ h .0) (hear-quiet v vs L r)
 
 -- and none at the others
-hear-next : (v : Bool) (vs : List Bool) (L : List Whole) → AllHear (v ∷ vs) L → AllHear vs (taken v L)
+pub hear-next : (v : Bool) (vs : List Bool) (L : List Whole) → AllHear (v ∷ vs) L → AllHear vs (taken v L)
 hear-next v vs [] h = tt
 hear-next v vs (w ∷ L) (h, r) = (both-holds (sendsOf w) _ h .1, hear-next v vs L r)
 
 -- the line when the bits have come, one bit later
-fed-next : (v : Bool) (vs : List Bool) (L : List Whole) → map (fed vs) (taken v L) ≡ map (fed (v ∷ vs)) L
+pub fed-next : (v : Bool) (vs : List Bool) (L : List Whole) → map (fed vs) (taken v L) ≡ map (fed (v ∷ vs)) L
 fed-next v vs [] = refl
 fed-next v vs (w ∷ L) = ap (λ (r : List Whole). fed (v ∷ vs) w ∷ r) (fed-next v vs L)
 
 -- and with no bit to come
-fed-none : (L : List Whole) → L ≡ map (fed []) L
+pub fed-none : (L : List Whole) → L ≡ map (fed []) L
 fed-none [] = refl
 fed-none (w ∷ L) = ap (λ (r : List Whole). w ∷ r) (fed-none L)
 
@@ -124,7 +124,7 @@ byte-played (suc n) i byte L h =
     ∙ one-more n (map (fed (v ∷ vs)) L)
 
 -- after a reset every chip hears the command of the search
-all-hear : (L : List Whole) → AllHear (bitsFrom 8 0 0xF0) (afterReset L)
+pub all-hear : (L : List Whole) → AllHear (bitsFrom 8 0 0xF0) (afterReset L)
 all-hear [] = tt
 all-hear (w ∷ L) = (hears w, all-hear L)
 

@@ -10,10 +10,6 @@ use Rattle.recovery.specs.Sessions.{write, Page}
 use Rattle.recovery.specs.CarriedOut.{NoCopy}
 use Rattle.recovery.specs.Public.{chipOf, TableInstalled, TableRecovered, demand-3-on}
 
--- chip i carries out no copy in some calls: in none of the events that they put on the line
-abbrev pub NoCopyIn : ℕ → List Call → Attached → Type 0
-NoCopyIn i cs l = NoCopy i (eventsOfCalls cs l) (lineFrom l)
-
 module _ (i : ℕ) (l : Attached) (s : TableInstalled i l) (start : List Call) where
   -- the table after the common beginning, and the events that led there
   abbrev there : Attached
@@ -26,8 +22,8 @@ module _ (i : ℕ) (l : Attached) (s : TableInstalled i l) (start : List Call) w
       ∙ ap (runOn (eventsOfCalls cs there)) (calls-run start l (s .stands))
       ∙ sym (run-on-append (eventsOfCalls start l) (eventsOfCalls cs there) l)
 
-  -- THEOREM: demand 3, where searches may stand among the events
-  pub demand-3-calls : (left right : List Call) → NoCopyIn i left there → NoCopyIn i right there
+  -- THEOREM: demand 3, where searches may stand among the events; chip i carries out no copy in any event that the calls put on the line
+  pub demand-3-calls : (left right : List Call) → NoCopy i (eventsOfCalls left there) (lineFrom there) → NoCopy i (eventsOfCalls right there) (lineFrom there)
       → (t : ℕ) (bytes : List ℕ) → Page t bytes
       → TableRecovered i (chipOf i l .chip .code) (write (chipOf i l .chip .code) t bytes) (callsOn left there) (callsOn right there)
   demand-3-calls left right p q t bytes g =
