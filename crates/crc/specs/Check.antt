@@ -59,5 +59,5 @@ bad-exactly code =
 
 -- so the code of ones is bad
 pub ones-bad : checkOf 0xFFFFFFFFFFFFFFFF ≡ Bad
-unfolding checkOf codeCrc byteOf crcByte crcBit bitOf same pick
+unfolding checkOf codeCrc byteOf crcOf crcByte crcBit bitOf same pick
 ones-bad = refl

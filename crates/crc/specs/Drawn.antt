@@ -8,7 +8,7 @@ use borrow.Author.Tests.{eqb-true}
 use Rattle.base.specs.Pick.{pick}
 use Rattle.base.specs.Bits.{bitOf, same, both}
 use Rattle.crc.specs.Crc.{poly8, crcBit, crcByte, crcOf}
-use Rattle.crc.specs.Code.{codeCrc}
+use Rattle.crc.specs.Code.{firstSeven, codeCrc}
 use Rattle.crc.specs.Every.{at-each-register}
 use Rattle.crc.specs.Figure4.{cleared, drawnBit, drawnByte, drawnOf, drawnCode, asByte}
 use Rattle.crc.specs.declared.figure4.ShiftRegister.{ShiftRegister}
@@ -41,5 +41,5 @@ drawn-from-0 bs = drawn-run cleared bs
 
 -- the seven bytes of a code, from a run of bytes
 pub drawn-code : (code : ℕ) → asByte (drawnCode code) ≡ codeCrc code
-unfolding drawnCode codeCrc crcOf
-drawn-code code = drawn-from-0 _
+unfolding drawnCode codeCrc
+drawn-code code = drawn-from-0 (firstSeven code)

@@ -5,7 +5,7 @@ use mathlib.Core.Bool.{Bool, false, xor}
 use mathlib.Core.List.{List, [], _∷_}
 use Rattle.base.specs.Pick.{pick}
 use Rattle.base.specs.Bits.{bitOf}
-use Rattle.crc.specs.Code.{byteOf}
+use Rattle.crc.specs.Code.{firstSeven}
 use Rattle.crc.specs.declared.figure4.ShiftRegister.{ShiftRegister}
 
 -- the stages "start as 0"
@@ -50,9 +50,7 @@ drawnOf r (b ∷ bs) = drawnOf (drawnByte r b) bs
 
 -- "the family byte first: 56 bits for a code"
 unfoldable pub drawnCode : ℕ → ShiftRegister
-drawnCode code =
-    drawnOf cleared
-    (byteOf code 0 ∷ byteOf code 1 ∷ byteOf code 2 ∷ byteOf code 3 ∷ byteOf code 4 ∷ byteOf code 5 ∷ byteOf code 6 ∷ [])
+drawnCode code = drawnOf cleared (firstSeven code)
 
 -- "Stage 8 is bit 0, since it leaves first; stage 1 is bit 7."
 unfoldable pub asByte : ShiftRegister → ℕ

@@ -16,7 +16,7 @@ use Rattle.rom.specs.declared.RomNext.the-variants as next
 use Rattle.rom.specs.declared.RomStep.{RomStep}
 use Rattle.rom.specs.declared.RomStep.the-variants.{Command, Read, Match, Search}
 use Rattle.rom.specs.declared.RomResult.{RomResult}
-use Rattle.scratchpad.specs.Registers.{withE, withPF, pfSet, withAA}
+use Rattle.scratchpad.specs.Registers.{withE, withPF, pfSet, withAA, targetOf}
 use Rattle.scratchpad.specs.Scratchpad.{memoryFunction, addressIn, writeAddress, afterByte, byteIn, writeData, crcSent, padFrom, padBegins, registerSent, padByteSent, padSent, copyAddress, authorized, copyEnd, readFrom, readAddress, memorySent, memoryTakes, memoryReset, cutOf, memoryInRange}
 use Rattle.scratchpad.specs.declared.Registers.{Registers}
 use Rattle.scratchpad.specs.declared.Sight.{Sight}
@@ -130,9 +130,9 @@ module _ (last : ℕ) where
   offset-next : (offset : ℕ) → ltb offset 31 ≡ true → both (ltb (offset + 1) 32) (ltb 0 8) ≡ true
   offset-next offset e = both-true′ _ _ (more-below offset 31 e) refl
 
-  address-in : (t : ℕ) → MemoryAfterInRange (addressIn t)
+  address-in : (bits : ℕ) → MemoryAfterInRange (addressIn bits)
   unfolding addressIn
-  address-in t = (clear-t t, offset-in (t % 32) (mod-lt t (omega arith)))
+  address-in bits = let t = targetOf bits in (clear-t t, offset-in (t % 32) (mod-lt t (omega arith)))
 
   byte-in : (r : Registers) (offset b crc : ℕ) (see : Sight) → Clear (r .es) → MemoryAfterInRange (byteIn r offset b crc see)
   unfolding byteIn afterByte

@@ -2,10 +2,11 @@
 -- scratchpad is answered as a deed, and what a slot sees of them is handed in as a sight.
 use Prim.Native.Nat.{ℕ, _+_, _*_, _/_, _%_}
 use mathlib.Core.Bool.{Bool, true, false, not}
+use mathlib.Core.List.{[], _∷_}
 use lib.Dec.{eqb, ltb, leb}
 use Rattle.base.specs.Pick.{pick}
 use Rattle.base.specs.Bits.{bitOf, both, filled}
-use Rattle.crc.specs.Crc.{poly16, crcByte}
+use Rattle.crc.specs.Crc.{poly16, crcByte, crcOf}
 use Rattle.scratchpad.specs.Registers.{registers, pf, withE, pfSet, withAA, targetOf, ruleOfByte}
 use Rattle.scratchpad.specs.declared.Registers.{Registers}
 use Rattle.scratchpad.specs.declared.Sight.{Sight}
@@ -34,19 +35,21 @@ memoryFunction b =
 unfoldable pub memoryBegins : Registers → ℕ → MemoryAfter
 memoryBegins r b = memoryAfter r (memoryFunction b) Nothing
 
--- the CRC-16 of a command and the two bytes of T
+-- the CRC-16 of a command and the two bytes of an address, low byte first
 unfoldable pub crcOfAddress : ℕ → ℕ → ℕ
-crcOfAddress command t = crcByte poly16 (crcByte poly16 (crcByte poly16 0 command) (t % 256)) (t / 256)
+crcOfAddress command address = crcOf poly16 0 (command ∷ address % 256 ∷ address / 256 ∷ [])
 
--- 0Fh: "When all 16 address bits are in, T is set, E = T mod 32, PF = AA = 0."
+-- 0Fh: "When all 16 address bits are in, T is set, E = T mod 32, PF = AA = 0."; the CRC-16 is of the address as the chip took it
 unfoldable pub addressIn : ℕ → MemoryAfter
-addressIn t = memoryAfter (registers t (t % 32)) (WriteData (t % 32) 0 0 (crcOfAddress 0x0F t)) Nothing
+addressIn bits =
+    let t : ℕ = targetOf bits in
+    memoryAfter (registers t (t % 32)) (WriteData (t % 32) 0 0 (crcOfAddress 0x0F bits)) Nothing
 
 -- 0Fh, a bit of the address
 unfoldable pub writeAddress : Registers → ℕ → ℕ → Bool → MemoryAfter
 writeAddress r count bits v =
     pick (ltb count 15) (memoryAfter r (WriteAddress (count + 1) (filled 0x8000 bits v)) Nothing)
-    (addressIn (targetOf (filled 0x8000 bits v)))
+    (addressIn (filled 0x8000 bits v))
 
 -- 0Fh: "After offset 31 the chip sends the CRC-16"
 unfoldable pub afterByte : ℕ → ℕ → MemoryPhase

@@ -8,21 +8,22 @@ use crate::fields;
 ghost use mathlib.Core.Path.{_≡_};
 ghost use Rattle.scratchpad.specs.Scratchpad.{crcOfAddress, addressIn, writeAddress, afterByte, byteIn, writeData, crcSent, cutOf};
 
-// The CRC-16 of a command and the two bytes of T.
-pub fn crc_of_address(command: u8, t: u16) -> u16
-    ensures { λ r. ⌜ r ≡ crcOfAddress command t ⌝ }
+// The CRC-16 of a command and the two bytes of an address.
+pub fn crc_of_address(command: u8, address: u16) -> u16
+    ensures { λ r. ⌜ r ≡ crcOfAddress command address ⌝ }
 {
     let first = crc::byte16(0, command);
-    let second = crc::byte16(first, (t % 256) as u8);
-    crc::byte16(second, (t / 256) as u8)
+    let second = crc::byte16(first, (address % 256) as u8);
+    crc::byte16(second, (address / 256) as u8)
 }
 
-// T is set, and the data begin.
-pub fn address_in(t: u16) -> MemoryAfter
-    ensures { λ r. ⌜ r ≡ addressIn t ⌝ }
+// The 16 bits of the address are in: T is set, and the data begin.
+pub fn address_in(bits: u16) -> MemoryAfter
+    ensures { λ r. ⌜ r ≡ addressIn bits ⌝ }
 {
+    let t = fields::target(bits);
     let e = (t % 32) as u8;
-    let crc = crc_of_address(0x0F, t);
+    let crc = crc_of_address(0x0F, bits);
     let r = Registers { t: t, es: e };
     crate::goes_on(
         r,
@@ -49,8 +50,7 @@ pub fn write_address(r: Registers, count: u8, bits: u16, v: bool) -> MemoryAfter
             },
         );
     }
-    let t = fields::target(b);
-    address_in(t)
+    address_in(b)
 }
 
 // The phase after a whole byte.

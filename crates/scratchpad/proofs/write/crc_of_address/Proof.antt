@@ -1,4 +1,5 @@
 use Rattle.scratchpad.specs.Scratchpad.{crcOfAddress}
+use Rattle.crc.specs.Crc.{crcOf}
 use borrow.Author.Needs.{needs}
 use Rattle.scratchpad.proofs.write.crc_of_address.Statement.{statement}
 use Rattle.scratchpad.proofs.write.crc_of_address.Tie as tie
@@ -28,7 +29,7 @@ byte16-requires-3 c κs = search needs
 
 -- src/write.rt:12:1
 returns : tie.Need-returns
-unfolding crcOfAddress
+unfolding crcOfAddress crcOf
 returns c = cc
 
 pub crc-of-address-spec : {M : Type 1} → statement M
