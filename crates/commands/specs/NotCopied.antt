@@ -12,7 +12,7 @@ use Rattle.base.specs.Pick.{pick-if, pick-both}
 use Rattle.base.specs.Bits.{bitOf, both}
 use Rattle.base.specs.Both.{both-holds}
 use Rattle.scratchpad.specs.Registers.{pf, withE, powerOnRegisters}
-use Rattle.scratchpad.specs.Scratchpad.{writeAddress, byteIn, writeData, carriedOut, authorized, copyEnd, memoryBegins, memoryTakes}
+use Rattle.scratchpad.specs.Scratchpad.{writeAddress, byteIn, writeData, carriedOut, threeBytesIn, copyEnd, memoryBegins, memoryTakes}
 use Rattle.scratchpad.specs.declared.Registers.{Registers}
 use Rattle.scratchpad.specs.declared.Sight.{Sight}
 use Rattle.scratchpad.specs.declared.MemoryAfter.{MemoryAfter}
@@ -76,16 +76,16 @@ unfolding pf bitOf withE
 pf-with-e es offset h = let e : (es / 32 * 32 + offset % 32) / 32 ≡ es / 32 = omega arith in ap (λ (n : ℕ). eqb (n % 2) 1) e ∙ h
 
 -- no copy is carried out with PF = 1
-pf-refuses : (r : Registers) (address end : ℕ) (see : Sight) → pf (r .es) ≡ true → carriedOut r address end see ≡ true → ⊥
+pf-refuses : (r : Registers) (address es : ℕ) (see : Sight) → pf (r .es) ≡ true → carriedOut r address es see ≡ true → ⊥
 unfolding carriedOut
-pf-refuses r address end see h e =
-    let a = both-holds (both (eqb address (r .t)) (eqb end (r .es))) (both (not (pf (r .es))) (not (see .closed))) e in
+pf-refuses r address es see h e =
+    let a = both-holds (both (eqb address (r .t)) (eqb es (r .es))) (both (not (pf (r .es))) (not (see .closed))) e in
     let b = both-holds (not (pf (r .es))) (not (see .closed)) (a .1) in
     true≢false (sym (b .0) ∙ ap not h)
 
 -- a slot of a memory that ends no address
 memory-kept : (r : Registers) (v : Bool) (see : Sight) (p : MemoryPhase) → pf (r .es) ≡ true → phaseEnds p ≡ false → MemoryKept (memoryTakes r v see p)
-unfolding writeAddress writeData byteIn copyEnd authorized
+unfolding writeAddress writeData byteIn copyEnd threeBytesIn
 memory-kept r v see memory.Ones h k = (h, refl)
 memory-kept r v see (memory.WriteAddress count bits) h k =
     pick-if MemoryKept _ _ _ (λ e. (h, refl)) (λ e. absurd (true≢false (sym (ap not e) ∙ k)))

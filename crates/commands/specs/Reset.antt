@@ -12,7 +12,7 @@ use lib.ListN.{length, replicate}
 use Rattle.base.specs.Pick.{pick, pick-true, pick-false}
 use Rattle.base.specs.Bits.{bitOf}
 use Rattle.rom.specs.declared.RomStep.the-variants.{Command}
-use Rattle.scratchpad.specs.Registers.{registers, pf, withPF, pfSet, powerOnRegisters}
+use Rattle.scratchpad.specs.Registers.{registers, eOf, pf, withPF, pfSet, powerOnRegisters}
 use Rattle.scratchpad.specs.Scratchpad.{cutOf, memoryReset}
 use Rattle.scratchpad.specs.declared.Registers.{Registers}
 use Rattle.scratchpad.specs.declared.MemoryPhase.{MemoryPhase}
@@ -69,7 +69,7 @@ afterCut w = awaiting (pfSet (w .chip .registers)) w
 -- "T, E and AA stay", and PF is 1; bit 6 stays too
 pub record OnlyPF (before after : Registers) : Type 0 where
   pub t-stays : after .t ≡ before .t
-  pub e-stays : after .es % 32 ≡ before .es % 32
+  pub e-stays : eOf (after .es) ≡ eOf (before .es)
   pub aa-stays : bitOf (after .es) 7 ≡ bitOf (before .es) 7
   pub pf-set : pf (after .es) ≡ true
   pub six-stays : bitOf (after .es) 6 ≡ bitOf (before .es) 6
@@ -91,15 +91,15 @@ pub only-pf : (w : Whole) → OnlyPF (w .chip .registers) (afterCut w .chip .reg
 unfolding afterCut withPF pf bitOf
 only-pf w =
     let es = w .chip .registers .es in
-    let n = es / 64 * 64 + 32 + es % 32 in
+    let n = es / 64 * 64 + 32 + eOf es in
     let h = mod-lt es {m = 32} (omega arith) in
-    let six : n / 64 ≡ es / 64 = pf-block (es / 64) (es % 32) h in
+    let six : n / 64 ≡ es / 64 = pf-block (es / 64) (eOf es) h in
     let seven : n / 128 ≡ es / 128 = from-seven n ∙ ap (λ (q : ℕ). q / 2) six ∙ sym (from-seven es) in
     record {
       t-stays = refl;
       e-stays = omega arith;
       aa-stays = ap (λ (q : ℕ). eqb (q % 2) 1) seven;
-      pf-set = ap (λ (q : ℕ). eqb (q % 2) 1) (from-five (es / 64) (es % 32) h) ∙ ap (λ (b : ℕ). eqb b 1) (odd (es / 64));
+      pf-set = ap (λ (q : ℕ). eqb (q % 2) 1) (from-five (es / 64) (eOf es) h) ∙ ap (λ (b : ℕ). eqb b 1) (odd (es / 64));
       six-stays = ap (λ (q : ℕ). eqb (q % 2) 1) six;
     }
 

@@ -16,8 +16,8 @@ use Rattle.rom.specs.declared.RomNext.the-variants as next
 use Rattle.rom.specs.declared.RomStep.{RomStep}
 use Rattle.rom.specs.declared.RomStep.the-variants.{Command, Read, Match, Search}
 use Rattle.rom.specs.declared.RomResult.{RomResult}
-use Rattle.scratchpad.specs.Registers.{withE, withPF, pfSet, withAA, targetOf}
-use Rattle.scratchpad.specs.Scratchpad.{memoryFunction, addressIn, writeAddress, afterByte, byteIn, writeData, crcSent, padFrom, padBegins, registerSent, padByteSent, padSent, copyAddress, authorized, copyEnd, readFrom, readAddress, memorySent, memoryTakes, memoryReset, cutOf, memoryInRange}
+use Rattle.scratchpad.specs.Registers.{eOf, withE, withPF, pfSet, withAA, targetOf}
+use Rattle.scratchpad.specs.Scratchpad.{memoryFunction, addressIn, writeAddress, afterByte, byteIn, writeData, crcSent, padFrom, padBegins, registerSent, padByteSent, padSent, copyAddress, threeBytesIn, copyEnd, readFrom, readAddress, memorySent, memoryTakes, memoryReset, cutOf, memoryInRange}
 use Rattle.scratchpad.specs.declared.Registers.{Registers}
 use Rattle.scratchpad.specs.declared.Sight.{Sight}
 use Rattle.scratchpad.specs.declared.MemoryAfter.{MemoryAfter}
@@ -102,7 +102,7 @@ pf-block q k h = omega arith
 
 pub clear-pf : (es : ℕ) → Clear es → Clear (withPF es)
 unfolding withPF
-clear-pf es h = ap (λ (n : ℕ). n % 2) (pf-block (es / 64) (es % 32) (mod-lt es (omega arith))) ∙ h
+clear-pf es h = ap (λ (n : ℕ). n % 2) (pf-block (es / 64) (eOf es) (mod-lt es (omega arith))) ∙ h
 
 clear-aa : (es : ℕ) → Clear es → Clear (withAA es)
 unfolding withAA
@@ -139,9 +139,9 @@ module _ (last : ℕ) where
   byte-in r offset b crc see h =
       (clear-e (r .es) offset h, pick-if PhaseInRange _ _ _ (λ e. offset-next offset e) (λ e. refl))
 
-  authorized-in : (r : Registers) (address end : ℕ) (see : Sight) → Clear (r .es) → MemoryAfterInRange (authorized r address end see)
-  unfolding authorized
-  authorized-in r address end see h = pick-both MemoryAfterInRange _ _ _ (clear-aa (r .es) h, refl) (h, refl)
+  three-bytes-in : (r : Registers) (address es : ℕ) (see : Sight) → Clear (r .es) → MemoryAfterInRange (threeBytesIn r address es see)
+  unfolding threeBytesIn
+  three-bytes-in r address es see h = pick-both MemoryAfterInRange _ _ _ (clear-aa (r .es) h, refl) (h, refl)
 
   module _ (see : Sight) (is-last : see .last ≡ last) (is-end : see .end < 32) where
     read-from : (address : ℕ) → PhaseInRange (readFrom address (see .last))
@@ -163,7 +163,7 @@ module _ (last : ℕ) where
           (λ e. pick-if PhaseInRange _ _ _ (λ f. offset-in (offset + 1) (let g = ltb-true offset (see .end) f in omega arith)) (λ f. refl)),
     )
     memory-in-range r v (memory.CopyAddress count bits) h k = (h, pick-if PhaseInRange _ _ _ (λ e. more-below count 15 e) (λ e. refl))
-    memory-in-range r v (memory.CopyEnd address count bits) h k = pick-if MemoryAfterInRange _ _ _ (λ e. (h, more-below count 7 e)) (λ e. authorized-in r address _ see h)
+    memory-in-range r v (memory.CopyEnd address count bits) h k = pick-if MemoryAfterInRange _ _ _ (λ e. (h, more-below count 7 e)) (λ e. three-bytes-in r address _ see h)
     memory-in-range r v (memory.Copied answer) h k = (h, refl)
     memory-in-range r v (memory.ReadAddress count bits) h k = (h, pick-if PhaseInRange _ _ _ (λ e. more-below count 15 e) (λ e. read-from _))
     memory-in-range r v (memory.ReadMemory address count) h k =

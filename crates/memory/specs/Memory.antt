@@ -48,7 +48,8 @@ sightBy M es x (hand.Memory a) = sight M es (x .first) false false false 0
 unfoldable pub ruleAt : Map → List ℕ → ℕ → ℕ → ℕ
 ruleAt M m a b = ruleBy M a (getD m a 0) (getD m (M .control a) 0) b
 
--- the offsets "from T mod 32 to E"
+-- how many offsets there are "from T mod 32 to E", an offset being below 32; subtraction stops at 0, so where E is below T mod 32
+-- there is none
 unfoldable pub spanOf : ℕ → ℕ → ℕ
 spanOf t e = e % 32 + 1 - t % 32
 

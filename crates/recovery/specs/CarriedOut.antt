@@ -7,7 +7,7 @@ use lib.Dec.{ltb}
 use borrow.Author.Tests.{not-true}
 use Rattle.base.specs.Pick.{pick}
 use Rattle.base.specs.Bits.{filled}
-use Rattle.scratchpad.specs.Scratchpad.{carriedOut, authorized, copyEnd}
+use Rattle.scratchpad.specs.Scratchpad.{carriedOut, threeBytesIn, copyEnd}
 use Rattle.scratchpad.specs.declared.MemoryAfter.{MemoryAfter}
 use Rattle.scratchpad.specs.declared.MemoryPhase.the-variants.{CopyEnd}
 use Rattle.scratchpad.specs.declared.Deed.{Deed}
@@ -39,7 +39,7 @@ carriesOut v w = levelCarriesOut w v (w .chip .level)
 -- THEOREM: at the third byte of 55h it is the test by which Copy itself decides, once the last bit is in
 pub carries-out : (w : Whole) (v : Bool) (address count bits : ℕ) → w .chip .level ≡ Memory (CopyEnd address count bits)
     → carriesOut v w ≡ pick (ltb count 7) false (carriedOut (w .chip .registers) address (filled 0x80 bits v) (memorySight (w .chip) (CopyEnd address count bits) (levelSeen w (Memory (CopyEnd address count bits)))))
-unfolding carriesOut memorySlot copyEnd authorized pick
+unfolding carriesOut memorySlot copyEnd threeBytesIn pick
 carries-out w v address count bits e = ap (levelCarriesOut w v) e ∙ go (ltb count 7) _ _ _ _ refl refl refl
   where
     go : (s t : Bool) (a b c : MemoryAfter) → isCopy (a .deed) ≡ false → isCopy (b .deed) ≡ true → isCopy (c .deed) ≡ false → isCopy (pick s a (pick t b c) .deed) ≡ pick s false t

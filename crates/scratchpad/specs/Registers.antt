@@ -11,7 +11,11 @@ use Rattle.scratchpad.specs.declared.Registers.{Registers}
 abbrev pub registers : ℕ → ℕ → Registers
 registers t es = record { t = t; es = es }
 
--- PF
+-- "E in bits 0 to 4"
+abbrev pub eOf : ℕ → ℕ
+eOf es = es % 32
+
+-- "PF bit 5"
 unfoldable pub pf : ℕ → Bool
 pf es = bitOf es 5
 
@@ -21,7 +25,7 @@ withE es offset = es / 32 * 32 + offset % 32
 
 -- E/S with PF = 1
 unfoldable pub withPF : ℕ → ℕ
-withPF es = es / 64 * 64 + 32 + es % 32
+withPF es = es / 64 * 64 + 32 + eOf es
 
 -- the registers with PF = 1; T, E and AA stay
 abbrev pub pfSet : Registers → Registers

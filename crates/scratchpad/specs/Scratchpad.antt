@@ -7,7 +7,7 @@ use lib.Dec.{eqb, ltb, leb}
 use Rattle.base.specs.Pick.{pick}
 use Rattle.base.specs.Bits.{bitOf, both, filled}
 use Rattle.crc.specs.Crc.{poly16, crcByte, crcOf}
-use Rattle.scratchpad.specs.Registers.{registers, pf, withE, pfSet, withAA, targetOf, ruleOfByte}
+use Rattle.scratchpad.specs.Registers.{registers, eOf, pf, withE, pfSet, withAA, targetOf, ruleOfByte}
 use Rattle.scratchpad.specs.declared.Registers.{Registers}
 use Rattle.scratchpad.specs.declared.Sight.{Sight}
 use Rattle.scratchpad.specs.declared.MemoryAfter.{MemoryAfter}
@@ -100,23 +100,24 @@ copyAddress count bits v =
     pick (ltb count 15) (CopyAddress (count + 1) (filled 0x8000 bits v))
     (CopyEnd (filled 0x8000 bits v) 0 0)
 
--- 55h: "If they equal TA1, TA2, E/S, and PF = 0, and T's page isn't closed, the copy is carried out"
+-- 55h, an address and an E/S as sent: "If they equal TA1, TA2, E/S, and PF = 0, and T's page isn't closed, the copy is carried out"
 unfoldable pub carriedOut : Registers → ℕ → ℕ → Sight → Bool
-carriedOut r address end see =
-    both (both (eqb address (r .t)) (eqb end (r .es))) (both (not (pf (r .es))) (not (see .closed)))
+carriedOut r address es see =
+    both (both (eqb address (r .t)) (eqb es (r .es))) (both (not (pf (r .es))) (not (see .closed)))
 
--- 55h, the three bytes are in: a copy from T mod 32 to E, "AA = 1; the chip sends 0, 1, 0, 1 until reset. Otherwise ones, and AA stays."
-unfoldable pub authorized : Registers → ℕ → ℕ → Sight → MemoryAfter
-authorized r address end see =
-    pick (carriedOut r address end see)
-    (memoryAfter (registers (r .t) (withAA (r .es))) (Copied false) (Copy (r .t) (r .es % 32)))
+-- 55h, the three bytes are in: carried out, a copy from T mod 32 to E, "AA = 1; the chip sends 0, 1, 0, 1 until reset. Otherwise ones,
+-- and AA stays."
+unfoldable pub threeBytesIn : Registers → ℕ → ℕ → Sight → MemoryAfter
+threeBytesIn r address es see =
+    pick (carriedOut r address es see)
+    (memoryAfter (registers (r .t) (withAA (r .es))) (Copied false) (Copy (r .t) (eOf (r .es))))
     (memoryAfter r Ones Nothing)
 
 -- 55h, a bit of the third byte
 unfoldable pub copyEnd : Registers → ℕ → ℕ → ℕ → Bool → Sight → MemoryAfter
 copyEnd r address count bits v see =
     pick (ltb count 7) (memoryAfter r (CopyEnd address (count + 1) (filled 0x80 bits v)) Nothing)
-    (authorized r address (filled 0x80 bits v) see)
+    (threeBytesIn r address (filled 0x80 bits v) see)
 
 -- F0h: "bytes up to the last address, then ones"
 unfoldable pub readFrom : ℕ → ℕ → MemoryPhase

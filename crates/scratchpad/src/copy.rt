@@ -6,7 +6,7 @@ use crate::Registers;
 use crate::Sight;
 use crate::fields;
 ghost use mathlib.Core.Path.{_≡_};
-ghost use Rattle.scratchpad.specs.Scratchpad.{copyAddress, carriedOut, authorized, copyEnd};
+ghost use Rattle.scratchpad.specs.Scratchpad.{copyAddress, carriedOut, threeBytesIn, copyEnd};
 
 // A bit of TA1 and TA2.
 pub fn copy_address(count: u8, bits: u16, v: bool) -> MemoryPhase
@@ -26,31 +26,29 @@ pub fn copy_address(count: u8, bits: u16, v: bool) -> MemoryPhase
     }
 }
 
-// Whether the three bytes carry out a copy.
-pub fn is_carried_out(r: Registers, address: u16, end: u8, see: Sight) -> bool
-    ensures { λ s. ⌜ s ≡ carriedOut r address end see ⌝ }
+// Whether the three bytes, an address and an E/S as sent, carry out a copy.
+pub fn is_carried_out(r: Registers, address: u16, es: u8, see: Sight) -> bool
+    ensures { λ s. ⌜ s ≡ carriedOut r address es see ⌝ }
 {
-    let t = r.t;
-    let es = r.es;
-    let equal = base::are_both(address == t, end == es);
-    let partial = fields::pf_of(es);
+    let equal = base::are_both(address == r.t, es == r.es);
+    let partial = fields::pf_of(r.es);
     let open = base::are_both(!partial, !see.closed);
     base::are_both(equal, open)
 }
 
-// The three bytes are in.
-pub fn authorize(r: Registers, address: u16, end: u8, see: Sight) -> MemoryAfter
-    ensures { λ s. ⌜ s ≡ authorized r address end see ⌝ }
+// The three bytes are in: a copy is carried out, or ones follow.
+pub fn three_bytes_in(r: Registers, address: u16, es: u8, see: Sight) -> MemoryAfter
+    ensures { λ s. ⌜ s ≡ threeBytesIn r address es see ⌝ }
 {
     let t = r.t;
-    let es = r.es;
-    let aa = fields::with_aa(es);
-    if is_carried_out(r, address, end, see) {
+    let e = r.es % 32;
+    let aa = fields::with_aa(r.es);
+    if is_carried_out(r, address, es, see) {
         let after = Registers { t: t, es: aa };
         return MemoryAfter {
             registers: after,
             phase: MemoryPhase::Copied { answer: false },
-            deed: Deed::Copy { t: t, e: es % 32 },
+            deed: Deed::Copy { t: t, e: e },
         };
     }
     crate::goes_on(r, MemoryPhase::Ones)
@@ -71,5 +69,5 @@ pub fn copy_end(r: Registers, address: u16, count: u8, bits: u8, v: bool, see: S
             },
         );
     }
-    authorize(r, address, b, see)
+    three_bytes_in(r, address, b, see)
 }

@@ -7,19 +7,19 @@ use Rattle.scratchpad.proofs.copy.is_carried_out.Lts as lts
 use Rattle.base.proofs.are_both.Reads as are-both-reads
 use Rattle.scratchpad.proofs.fields.pf_of.Reads as pf-of-reads
 
--- src/copy.rt:35:9
+-- src/copy.rt:33:9
 are-both-requires : tie.Need-are-both-requires
 are-both-requires c κs = search needs
 
--- src/copy.rt:36:9
+-- src/copy.rt:34:9
 pf-of-requires : tie.Need-pf-of-requires
 pf-of-requires c κs = search needs
 
--- src/copy.rt:37:9
+-- src/copy.rt:35:9
 are-both-requires-2 : tie.Need-are-both-requires-2
 are-both-requires-2 c κs = search needs
 
--- src/copy.rt:38:5
+-- src/copy.rt:36:5
 are-both-requires-3 : tie.Need-are-both-requires-3
 are-both-requires-3 c κs = search needs
 
