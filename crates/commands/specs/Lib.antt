@@ -2,3 +2,4 @@ pub mod Reset
 pub mod ShortAddress
 pub mod NotCopied
 pub mod Public
+pub mod ReadStays

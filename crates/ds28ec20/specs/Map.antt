@@ -27,6 +27,7 @@ unfoldable pub isReadOnly : ℕ → Bool
 isReadOnly a = pick (ltb a 0x0A20) false (ltb a 0x0A40)
 
 -- "A byte is held if its block's control byte is 55h, or it is itself a control or lock byte holding a mark, or it is read only."
+-- Above 0A3Fh nothing is held, and nothing only falls: "Above 0A3Fh: the byte sent."
 unfoldable pub held : ℕ → ℕ → ℕ → Bool
 held a byte control =
     pick (isData a) (eqb control 0x55)

@@ -1,10 +1,11 @@
 -- What every history keeps: a relation between a chip before and after that each act and each change of outside levels keeps holds
 -- between every chip before a history and after it. So the codes, the kinds and the number of the chips are kept.
 use Prim.Native.Nat.{ℕ, zero, suc, _≤_}
-use mathlib.Core.Bool.{true}
+use mathlib.Core.Bool.{true, false}
 use mathlib.Core.List.{List, [], _∷_, map}
 use mathlib.Core.Path.{_≡_, refl, _∙_, ap}
 use lib.ListN.{length}
+use Rattle.base.specs.Bits.{bitOf}
 use Rattle.chip.specs.Kinds.{takesOutside}
 use Rattle.chip.specs.Chip.{Whole, outsideOf}
 use Rattle.line.specs.Line.{valueOf, actOf, outsideAt, afterBy}
@@ -17,10 +18,11 @@ use Rattle.line.specs.declared.Plan.{Plan}
 use Rattle.line.specs.declared.Act.the-variants.{Take, Reset, PowerOn}
 use Rattle.search.specs.Search.{Attached}
 use Rattle.histories.specs.Histories.{noWhole, at, codesOf, kindsOf, afterOf, run}
+use Rattle.histories.specs.Range.{Clear, clear-bit}
 use Rattle.histories.specs.Keeps.{Named, act-named, outside-named}
-use Rattle.histories.specs.Standing.{Stands, lineFrom, at-chip, after-length}
+use Rattle.histories.specs.Standing.{AllGood, Stands, lineFrom, line-good, at-chip, after-length}
 use Rattle.histories.specs.Joined.{runOn, run-joined}
-use Rattle.histories.specs.Calls.{Call, callsOn, eventsOfCalls, calls-run}
+use Rattle.histories.specs.Calls.{Call, callsOn, eventsOfCalls, calls-run, stands-calls}
 
 -- two lines of one length, chip by chip
 pub data Each (R : Whole → Whole → Type 0) : List Whole → List Whole → Type 0 where
@@ -102,3 +104,13 @@ run-on-codes es l s = ap codesOf (run-joined es l s) ∙ run-codes es (lineFrom 
 -- and so do calls with searches among them
 pub calls-codes : (cs : List Call) (l : Attached) → Stands l → codesOf (lineFrom (callsOn cs l)) ≡ codesOf (lineFrom l)
 calls-codes cs l s = ap (λ (k : Attached). codesOf (lineFrom k)) (calls-run cs l s) ∙ run-on-codes (eventsOfCalls cs l) l s
+
+-- bit 6 of E/S is 0 in every chip of a good line, and at a place past it
+good-clear : (i : ℕ) (L : List Whole) → AllGood L → Clear (at i L .chip .registers .es)
+good-clear i [] g = refl
+good-clear zero (w ∷ L) (g, h) = g .range .clear
+good-clear (suc i) (w ∷ L) (g, h) = good-clear i L h
+
+-- THEOREM: "Bit 6 (BS in the chart) is never set by a rule here and reads 0.": of E/S of every chip, after any calls on a table that stands well
+pub bit-6 : (cs : List Call) (l : Attached) → Stands l → (i : ℕ) → bitOf (at i (lineFrom (callsOn cs l)) .chip .registers .es) 6 ≡ false
+bit-6 cs l s i = clear-bit _ (good-clear i (lineFrom (callsOn cs l)) (line-good (callsOn cs l) (stands-calls cs l s)))

@@ -88,9 +88,12 @@ clear-of es h = go (eqb (es / 64 % 2) 1) (ne-of es) h
     go true f h = absurd (true≢false (sym h))
     go false f h = f refl
 
-pub of-clear : (es : ℕ) → Clear es → not (bitOf es 6) ≡ true
+pub clear-bit : (es : ℕ) → Clear es → bitOf es 6 ≡ false
 unfolding bitOf
-of-clear es h = ap not (ne-eqb (es / 64 % 2) 1 (λ (p : es / 64 % 2 ≡ 1). omega arith))
+clear-bit es h = ne-eqb (es / 64 % 2) 1 (λ (p : es / 64 % 2 ≡ 1). omega arith)
+
+pub of-clear : (es : ℕ) → Clear es → not (bitOf es 6) ≡ true
+of-clear es h = ap not (clear-bit es h)
 
 clear-e : (es offset : ℕ) → Clear es → Clear (withE es offset)
 unfolding withE

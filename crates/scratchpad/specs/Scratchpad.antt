@@ -135,7 +135,8 @@ memorySent address count see =
     pick (ltb count 7) (ReadMemory address (count + 1))
     (pick (ltb address (see .last)) (ReadMemory (address + 1) 0) Ones)
 
--- what a slot of the value v does at each phase; a sending chip moves on whatever the value
+-- what a slot of the value v does at each phase; a sending chip moves on whatever the value. In F0h "T, E/S and scratchpad stay": the
+-- registers are r, and nothing is done
 abbrev pub memoryTakes : Registers → Bool → Sight → MemoryPhase → MemoryAfter
 memoryTakes r v see Ones = memoryAfter r Ones Nothing
 memoryTakes r v see (WriteAddress count bits) = writeAddress r count bits v
@@ -197,7 +198,7 @@ memoryInRange last (Copied answer) = true
 memoryInRange last (ReadAddress count bits) = ltb count 16
 memoryInRange last (ReadMemory address count) = both (leb address last) (ltb count 8)
 
--- "E/S bit 6 zero"
+-- "E/S bit 6 zero"; and so it stays, since "Bit 6 (BS in the chart) is never set by a rule here"
 unfoldable pub registersInRange : Registers → Bool
 registersInRange r = not (bitOf (r .es) 6)
 
@@ -213,16 +214,16 @@ byteAtHand t offset count = pick (ltb count 7) hand.Nothing (hand.Byte (inPage t
 unfoldable pub pageAtHand : ℕ → ℕ → Hand
 pageAtHand t count = pick (ltb count 7) hand.Nothing (hand.Page (inPage t 0))
 
--- what a slot goes by at each phase, beside the registers
+-- what a slot goes by, beside the registers: at four phases by bytes of memory or scratchpad, at each other one by nothing
 abbrev pub handOf : ℕ → MemoryPhase → Hand
+handOf t (WriteData offset count bits crc) = byteAtHand t offset count
+handOf t (CopyEnd address count bits) = pageAtHand t count
+handOf t (ReadPad offset count crc) = hand.Pad offset
+handOf t (ReadMemory address count) = hand.Memory address
 handOf t Ones = hand.Nothing
 handOf t (WriteAddress count bits) = hand.Nothing
-handOf t (WriteData offset count bits crc) = byteAtHand t offset count
 handOf t (SendCrc place crc) = hand.Nothing
 handOf t (ReadRegisters place) = hand.Nothing
-handOf t (ReadPad offset count crc) = hand.Pad offset
 handOf t (CopyAddress count bits) = hand.Nothing
-handOf t (CopyEnd address count bits) = pageAtHand t count
 handOf t (Copied answer) = hand.Nothing
 handOf t (ReadAddress count bits) = hand.Nothing
-handOf t (ReadMemory address count) = hand.Memory address
