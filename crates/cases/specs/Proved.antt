@@ -8,7 +8,7 @@ use Rattle.card.specs.Card.{cutEntry, wholeEntry, entryAt, readFrom, setUpOf}
 use Rattle.chip.specs.Chip.{romSlot, functionIn, functionSlot, memoryLook, memorySight, memorySlot, switchSlot, takesOf, sendsOf, resetChip, resetOf, powerOnChip, powerOnPad, powerOnOf, outsideChip, outsideOf, setUpChip}
 use Rattle.chip.specs.Kinds.{knownKind, imageSize, padSize, partOf, hasMemory, hasScratchpad, hasRegisters, hasSwitch, takesOutside, knowsOf}
 use Rattle.crc.specs.Crc.{crcBit, crcByte, crcOf}
-use Rattle.ds2413.specs.Switch.{pinOf, flag, statusOf, switchFunction, statusSent, pairIn, pairBit, confirmed, shown, switchBegins, switchInRange}
+use Rattle.ds2413.specs.Switch.{pinOf, statusOf, switchFunction, statusSent, pairIn, pairBit, confirmed, shown, switchBegins, switchInRange}
 use Rattle.memory.specs.Part.{mapOf}
 use Rattle.memory.specs.Memory.{ruleAt, spanOf, copied}
 use Rattle.scratchpad.specs.Map.{ruleBy}
@@ -28,11 +28,11 @@ use Rattle.histories.specs.Joined.{search-joined}
 use Rattle.cases.specs.Cases.{Cases, fourTable}
 
 four-stands : Stands fourTable
-unfolding bitOf same both filled pick cutEntry wholeEntry entryAt readFrom setUpOf romSlot functionIn functionSlot memoryLook memorySight memorySlot mapOf ruleBy byteAtHand pageAtHand padFrom memoryBegins partOf hasMemory hasScratchpad hasRegisters hasSwitch takesOutside knowsOf switchBegins ds28ec20 lockAddress padEnd switchSlot takesOf sendsOf resetChip resetOf powerOnChip powerOnPad powerOnOf outsideChip outsideOf setUpChip knownKind imageSize padSize crcBit crcByte crcOf pinOf flag statusOf switchFunction statusSent pairIn pairBit confirmed shown ruleAt spanOf copied isData controlAddress isControlOrLock isReadOnly mark held onlyFalls closedToCopying capped planEvent outsideFits askedBy headAt commandOf commandBit readBit matchBit searchBit searchSends answerOf afterOf pf withE withPF withAA targetOf ruleOfByte memoryFunction crcOfAddress addressIn writeAddress afterByte byteIn writeData crcSent padBegins registerSent padByteSent padSent copyAddress carriedOut threeBytesIn copyEnd readAddress memorySent cutOf inPage bind play pass write upTo passes readMemoryFrom inRange registersInRange switchInRange tableInRange sizesFit
+unfolding bitOf same both filled pick cutEntry wholeEntry entryAt readFrom setUpOf romSlot functionIn functionSlot memoryLook memorySight memorySlot mapOf ruleBy byteAtHand pageAtHand padFrom memoryBegins partOf hasMemory hasScratchpad hasRegisters hasSwitch takesOutside knowsOf switchBegins ds28ec20 lockAddress padEnd switchSlot takesOf sendsOf resetChip resetOf powerOnChip powerOnPad powerOnOf outsideChip outsideOf setUpChip knownKind imageSize padSize crcBit crcByte crcOf pinOf statusOf switchFunction statusSent pairIn pairBit confirmed shown ruleAt spanOf copied isData controlAddress isControlOrLock isReadOnly mark held onlyFalls closedToCopying capped planEvent outsideFits askedBy headAt commandOf commandBit readBit matchBit searchBit searchSends answerOf afterOf pf withE withPF withAA targetOf ruleOfByte memoryFunction crcOfAddress addressIn writeAddress afterByte byteIn writeData crcSent padBegins registerSent padByteSent padSent copyAddress carriedOut threeBytesIn copyEnd readAddress memorySent cutOf inPage bind play pass write upTo passes readMemoryFrom inRange registersInRange switchInRange tableInRange sizesFit
 four-stands = record { range = refl; sizes = refl; places = lit≤ tt }
 
 pub cases : Cases
-unfolding bitOf same both filled pick cutEntry wholeEntry entryAt readFrom setUpOf romSlot functionIn functionSlot memoryLook memorySight memorySlot mapOf ruleBy byteAtHand pageAtHand padFrom memoryBegins partOf hasMemory hasScratchpad hasRegisters hasSwitch takesOutside knowsOf switchBegins ds28ec20 lockAddress padEnd switchSlot takesOf sendsOf resetChip resetOf powerOnChip powerOnPad powerOnOf outsideChip outsideOf setUpChip knownKind imageSize padSize crcBit crcByte crcOf pinOf flag statusOf switchFunction statusSent pairIn pairBit confirmed shown ruleAt spanOf copied isData controlAddress isControlOrLock isReadOnly mark held onlyFalls closedToCopying capped planEvent outsideFits askedBy headAt commandOf commandBit readBit matchBit searchBit searchSends answerOf afterOf pf withE withPF withAA targetOf ruleOfByte memoryFunction crcOfAddress addressIn writeAddress afterByte byteIn writeData crcSent padBegins registerSent padByteSent padSent copyAddress carriedOut threeBytesIn copyEnd readAddress memorySent cutOf inPage bind play pass write upTo passes readMemoryFrom
+unfolding bitOf same both filled pick cutEntry wholeEntry entryAt readFrom setUpOf romSlot functionIn functionSlot memoryLook memorySight memorySlot mapOf ruleBy byteAtHand pageAtHand padFrom memoryBegins partOf hasMemory hasScratchpad hasRegisters hasSwitch takesOutside knowsOf switchBegins ds28ec20 lockAddress padEnd switchSlot takesOf sendsOf resetChip resetOf powerOnChip powerOnPad powerOnOf outsideChip outsideOf setUpChip knownKind imageSize padSize crcBit crcByte crcOf pinOf statusOf switchFunction statusSent pairIn pairBit confirmed shown ruleAt spanOf copied isData controlAddress isControlOrLock isReadOnly mark held onlyFalls closedToCopying capped planEvent outsideFits askedBy headAt commandOf commandBit readBit matchBit searchBit searchSends answerOf afterOf pf withE withPF withAA targetOf ruleOfByte memoryFunction crcOfAddress addressIn writeAddress afterByte byteIn writeData crcSent padBegins registerSent padByteSent padSent copyAddress carriedOut threeBytesIn copyEnd readAddress memorySent cutOf inPage bind play pass write upTo passes readMemoryFrom
 cases =
     record {
       crc-8 = refl;

@@ -1,5 +1,5 @@
 -- Document 01, "DS2413".
-use Prim.Native.Nat.{ℕ, _+_, _*_, _/_, _%_}
+use Prim.Native.Nat.{ℕ, _+_, _-_, _*_, _/_, _%_}
 use mathlib.Core.Bool.{Bool, true, false}
 use lib.Dec.{eqb, ltb, leb}
 use Rattle.base.specs.Pick.{pick}
@@ -32,14 +32,11 @@ switchOutside l c = switch (c .latches) l
 unfoldable pub pinOf : Switch → ℕ → Bool
 pinOf c k = both (bitOf (c .latches) k) (bitOf (c .outside) k)
 
--- a bit of the status of the worth w, or else its complement four places up
-unfoldable pub flag : ℕ → Bool → ℕ
-flag w b = pick b w (16 * w)
-
 -- "Status: b0 pin A, b1 latch A, b2 pin B, b3 latch B, b7 to b4 the complement of b3 to b0."
 unfoldable pub statusOf : Switch → ℕ
 statusOf c =
-    flag 1 (pinOf c 0) + flag 2 (bitOf (c .latches) 0) + flag 4 (pinOf c 1) + flag 8 (bitOf (c .latches) 1)
+    let low : ℕ = pick (pinOf c 0) 1 0 + pick (bitOf (c .latches) 0) 2 0 + pick (pinOf c 1) 4 0 + pick (bitOf (c .latches) 1) 8 0 in
+    low + 16 * (15 - low)
 
 -- the function command b, once its eight bits are in; "Any other: ones."
 unfoldable pub switchFunction : Switch → ℕ → SwitchPhase

@@ -1,7 +1,8 @@
 // The DS2413: two latches, two pins, and its function level.
 ghost use mathlib.Core.Path.{_≡_};
-ghost use Prim.Native.Nat.{_*_, _≤_};
-ghost use Rattle.ds2413.specs.Switch.{switchAfter, switchPowerOn, switchSetUp, switchOutside, pinOf, flag, statusOf, switchFunction, switchBegins, statusSent, pairIn, pairBit, confirmed, shown, switchTakes, switchSends, phaseInRange, switchInRange};
+ghost use Prim.Native.Nat.{_≤_};
+ghost use Rattle.base.specs.Pick.{pick};
+ghost use Rattle.ds2413.specs.Switch.{switchAfter, switchPowerOn, switchSetUp, switchOutside, pinOf, statusOf, switchFunction, switchBegins, statusSent, pairIn, pairBit, confirmed, shown, switchTakes, switchSends, phaseInRange, switchInRange};
 
 // The latches and the outside levels, bit 0 for PIOA and bit 1 for PIOB.
 pub struct Switch {
@@ -66,13 +67,12 @@ pub fn pin(c: Switch, k: u8) -> bool
     )
 }
 
-// A bit of the status of the worth w, or else its complement four places up.
+// A bit of the status at its place, where 1 is worth w.
 fn flag_of(w: u8, b: bool) -> u8
-    requires { ⌜ w ≤ 8 ⌝ }
-    ensures { λ r. ⌜ r ≡ flag w b ⌝ }
-    ensures small { λ r. ⌜ r ≤ 16 * w ⌝ }
+    ensures { λ r. ⌜ r ≡ pick b w 0 ⌝ }
+    ensures small { λ r. ⌜ r ≤ w ⌝ }
 {
-    if b { w } else { 16 * w }
+    if b { w } else { 0 }
 }
 
 // The status byte.
@@ -83,7 +83,8 @@ pub fn status(c: Switch) -> u8
     let latch_a = flag_of(2, base::bit_of(c.latches as u64, 0));
     let pin_b = flag_of(4, pin(c, 1));
     let latch_b = flag_of(8, base::bit_of(c.latches as u64, 1));
-    pin_a + latch_a + pin_b + latch_b
+    let low = pin_a + latch_a + pin_b + latch_b;
+    low + 16 * (15 - low)
 }
 
 // The phase that a function command begins.
