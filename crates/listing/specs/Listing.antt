@@ -10,7 +10,7 @@ use Rattle.chip.specs.Chip.{Whole}
 use Rattle.line.specs.Layout.{capped}
 use Rattle.line.specs.Line.{absent}
 use Rattle.line.specs.Events.{resetEvent}
-use Rattle.search.specs.Host.{ask, play, write, pass, searchHost}
+use Rattle.search.specs.Host.{ask, play, write, begun, pass, searchHost}
 use Rattle.histories.specs.Below.{Codes}
 use Rattle.histories.specs.Histories.{lineWire, codesOf}
 use Rattle.listing.specs.Order.{branchOrder, SameMembers, Before, Sorted, InBranchOrder, Lists, SameListing}
@@ -76,7 +76,7 @@ listing-of-16 places L few fits =
 -- "A pass is given up as soon as no chip answers, which never comes here after presence": on a line with a chip, after a reset
 -- and F0h, a pass is whole, whatever it takes where the codes part.
 pub never-given-up : (want : ℕ) (L : List Whole) → absent L ≡ false → Codes (codesOf L)
-    → play lineWire (pass 64 0 want 0 0) (play lineWire (ask resetEvent λ x. write 8 0 0xF0) L .line) .result .whole ≡ true
+    → play lineWire (pass 64 (begun want)) (play lineWire (ask resetEvent λ x. write 8 0 0xF0) L .line) .result .whole ≡ true
 never-given-up want L there fits =
     let p = pass-opened want L (sym (absent-codes L) ∙ there) fits in
     rw (reset-played (λ x. write 8 0 0xF0) L, command-played L, p .played)

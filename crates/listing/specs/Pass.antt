@@ -8,7 +8,7 @@ use mathlib.Core.Path.{_≡_, refl, _∙_, ap, sym}
 use Rattle.base.specs.Pick.{pick, pick-false}
 use Rattle.base.specs.Bits.{bitOf, both}
 use Rattle.chip.specs.Chip.{Whole}
-use Rattle.search.specs.Host.{Host, Played, played, End, end, more, play, pass, turn, mark, put}
+use Rattle.search.specs.Host.{Host, Played, played, End, end, more, play, underWay, pass, turn, mark, put}
 use Rattle.search.specs.Counts.{more-more}
 use Rattle.search.specs.Pass.{mark-le}
 use Rattle.histories.specs.Below.{Codes}
@@ -34,14 +34,14 @@ thrice p = ap (more 0 1) (more-more 0 1 0 1 p) ∙ more-more 0 1 0 2 p
 -- a place at which a and b are read, not both 1, and d is written
 place-played : (n k want path last : ℕ) (L : List Whole) (a b d : Bool)
     → sent L ≡ a → sent (taken a L) ≡ b → sent (taken b (taken a L)) ≡ true → both a b ≡ false → turn a b (bitOf want k) ≡ d
-    → play lineWire (pass (suc n) k want path last) L
-    ≡ more 0 3 (play lineWire (pass n (k + 1) want (put d k path) (mark a b (bitOf want k) k last)) (three a b d L))
+    → play lineWire (pass (suc n) (underWay k want path last)) L
+    ≡ more 0 3 (play lineWire (pass n (underWay (k + 1) want (put d k path) (mark a b (bitOf want k) k last))) (three a b d L))
 unfolding pass
 place-played n k want path last L a b d ea eb eq nt ed =
     read-played a _ L ea
     ∙ ap (more 0 1) (read-played b _ (taken a L) eb
     ∙ ap (more 0 1) (ap (λ (h : Host End). play lineWire h (taken b (taken a L))) (pick-false (both a b) _ _ nt ∙ rw ed)
-    ∙ write-played d (λ z. pass n (k + 1) want (put d k path) (mark a b (bitOf want k) k last)) (taken b (taken a L)) eq))
+    ∙ write-played d (λ z. pass n (underWay (k + 1) want (put d k path) (mark a b (bitOf want k) k last))) (taken b (taken a L)) eq))
     ∙ thrice _
 
 -- what a whole pass of n places comes to
@@ -56,7 +56,7 @@ pub record Passed (n k want path last : ℕ) (xs : List ℕ) (L : List Whole) : 
   pub after : List Whole
   pub here : List·Memᴰ found xs
   pub kept : codesOf after ≡ codesOf L
-  pub played : play lineWire (pass n k want path last) L ≡ passPlayed n found marked after
+  pub played : play lineWire (pass n (underWay k want path last)) L ≡ passPlayed n found marked after
   pub outcome : Outcome n k want last marked found xs
 
 -- in the direction that the host takes there is a code

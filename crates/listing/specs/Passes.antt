@@ -14,7 +14,7 @@ use Rattle.chip.specs.Chip.{Whole}
 use Rattle.line.specs.Layout.{capped}
 use Rattle.line.specs.Line.{absent}
 use Rattle.line.specs.Event.{askedBy, planEvent, outsideFits}
-use Rattle.search.specs.Host.{Host, done, bind, Played, played, Listed, listed, End, end, more, play, write, pass, passes, goOn, upTo}
+use Rattle.search.specs.Host.{Host, done, bind, Played, played, Listed, listed, End, end, more, play, write, begun, pass, passes, goOn, upTo}
 use Rattle.search.specs.Counts.{more-more, andThen, play-bind}
 use Rattle.histories.specs.Below.{Codes}
 use Rattle.histories.specs.Histories.{answerOf, afterOf, lineWire, codesOf}
@@ -48,12 +48,12 @@ one-pass : (n want : ℕ) (out : List ℕ) (L : List Whole) → isNil (codesOf L
 unfolding passes
 one-pass n want out L s p =
     let go = goOn n out (λ w o. passes n w o) in
-    let search = bind (pass 64 0 want 0 0) go in
+    let search = bind (pass 64 (begun want)) go in
     reset-played _ L
     ∙ ap (more 1 0) (ap (λ (h : Host Listed). play lineWire h (afterReset L)) (pick-false (absent L) _ _ (absent-codes L ∙ s))
     ∙ play-bind lineWire (write 8 0 0xF0) (λ u. search) (afterReset L)
     ∙ ap (λ (q : Played (Unit {0}) (List Whole)). andThen lineWire q (λ u. search)) (command-played L)
-    ∙ ap (more 0 8) (play-bind lineWire (pass 64 0 want 0 0) go (opened L)
+    ∙ ap (more 0 8) (play-bind lineWire (pass 64 (begun want)) go (opened L)
     ∙ ap (λ (q : Played End (List Whole)). andThen lineWire q go) (p .played)))
     ∙ ap (more 1 0) (more-more 0 8 0 192 (play lineWire (onward n out (p .found) (p .marked)) (p .after)))
     ∙ more-more 1 0 0 200 (play lineWire (onward n out (p .found) (p .marked)) (p .after))

@@ -86,14 +86,34 @@ abbrev pub put : Bool → ℕ → ℕ → ℕ
 put true k path = path + 2 ^ k
 put false k path = path
 
--- n more of "64 times two reads and one write", from place k on; "A pass is given up as soon as no chip answers"
-unfoldable pub pass : ℕ → ℕ → ℕ → ℕ → ℕ → Host End
-pass zero k want path last = done (end path last true)
-pass (suc n) k want path last =
+-- a pass under way: the place that it has come to, the path that it wants where the codes part, the path that it took, and the last
+-- parting at which 0 was taken, one more than its place, or 0
+pub record UnderWay : Type 0 where
+  pub place : ℕ
+  pub want : ℕ
+  pub path : ℕ
+  pub last : ℕ
+
+abbrev pub underWay : ℕ → ℕ → ℕ → ℕ → UnderWay
+underWay k want path last = record { place = k; want = want; path = path; last = last }
+
+-- one that begins
+abbrev pub begun : ℕ → UnderWay
+begun want = underWay 0 want 0 0
+
+-- one at the next place, after the bit a and its complement b were read at this one
+abbrev pub nextPlace : Bool → Bool → UnderWay → UnderWay
+nextPlace a b p =
+    let t : Bool = bitOf (p .want) (p .place) in
+    underWay (p .place + 1) (p .want) (put (turn a b t) (p .place) (p .path)) (mark a b t (p .place) (p .last))
+
+-- n more of "64 times two reads and one write"; "A pass is given up as soon as no chip answers"
+unfoldable pub pass : ℕ → UnderWay → Host End
+pass zero p = done (end (p .path) (p .last) true)
+pass (suc n) p =
     ask (slotEvent true) λ x. ask (slotEvent true) λ y.
-    pick (both (heard x) (heard y)) (done (end path last false))
-    (ask (slotEvent (turn (heard x) (heard y) (bitOf want k))) λ z.
-    pass n (k + 1) want (put (turn (heard x) (heard y) (bitOf want k)) k path) (mark (heard x) (heard y) (bitOf want k) k last))
+    pick (both (heard x) (heard y)) (done (end (p .path) (p .last) false))
+    (ask (slotEvent (turn (heard x) (heard y) (bitOf (p .want) (p .place)))) λ z. pass n (nextPlace (heard x) (heard y) p))
 
 -- n bits of a byte, from bit i on
 unfoldable pub write : ℕ → ℕ → ℕ → Host (Unit {0})
@@ -130,7 +150,7 @@ unfoldable pub passes : ℕ → ℕ → List ℕ → Host Listed
 passes zero want out = ask resetEvent λ x. pick (heard x) (done (listed out true)) (done (listed out false))
 passes (suc n) want out =
     ask resetEvent λ x. pick (heard x) (done (listed out true))
-    (bind (write 8 0 0xF0) λ u. bind (pass 64 0 want 0 0) (goOn n out (λ w o. passes n w o)))
+    (bind (write 8 0 0xF0) λ u. bind (pass 64 (begun want)) (goOn n out (λ w o. passes n w o)))
 
 -- the host of the search, by the number of places alone
 abbrev pub searchHost : ℕ → Host Listed

@@ -10,7 +10,7 @@ use borrow.Author.Tests.{ne-eqb, le-leb}
 use Rattle.base.specs.Pick.{pick, pick-true, pick-false}
 use Rattle.base.specs.Bits.{bitOf, both}
 use Rattle.line.specs.Events.{slotEvent}
-use Rattle.search.specs.Host.{Played, played, End, end, more, resetsOf, slotsOf, heard, play, pass, write, turn, mark, put, upTo, wanted}
+use Rattle.search.specs.Host.{Played, played, End, end, more, resetsOf, slotsOf, heard, play, underWay, begun, pass, write, turn, mark, put, upTo, wanted}
 use Rattle.search.specs.Counts.{more-more, more-none, one-slot}
 use Rattle.search.specs.Search.{Attached, saysOf, leavesOf, wire, playedPass, playedWrite}
 
@@ -27,7 +27,7 @@ pow-next k = ap (λ (n : ℕ). 2 ^ n) (add-one k) ∙ two-pow-succ k
 
 -- where the loop of a pass stands after k places
 pub record Going (want : ℕ) (l₀ l : Attached) (k path last slots : ℕ) (whole : Bool) : Type 0 where
-  pub left : more 0 slots (play wire (pass (64 - k) k want path last) l) ≡ play wire (pass 64 0 want 0 0) l₀
+  pub left : more 0 slots (play wire (pass (64 - k) (underWay k want path last)) l) ≡ play wire (pass 64 (begun want)) l₀
   pub place : k ≤ 64
   pub low : path < 2 ^ k
   pub mark-low : last ≤ k
@@ -35,7 +35,7 @@ pub record Going (want : ℕ) (l₀ l : Attached) (k path last slots : ℕ) (who
   pub all : whole ≡ true
 
 pub going-start : (want : ℕ) (l : Attached) → Going want l l 0 0 0 0 true
-going-start want l = record { left = sym (more-none (play wire (pass 64 0 want 0 0) l)); place = omega arith; low = omega arith; mark-low = omega arith; count = omega arith; all = refl }
+going-start want l = record { left = sym (more-none (play wire (pass 64 (begun want)) l)); place = omega arith; low = omega arith; mark-low = omega arith; count = omega arith; all = refl }
 
 thrice : {A L : Type 0} (d : Bool) (p : Played A L) → more 0 1 (more 0 1 (more (resetsOf (slotEvent d)) (slotsOf (slotEvent d)) p)) ≡ more 0 3 p
 thrice d p = ap (λ q. more 0 1 (more 0 1 q)) (one-slot d p) ∙ ap (more 0 1) (more-more 0 1 0 1 p) ∙ more-more 0 1 0 2 p
@@ -43,7 +43,7 @@ thrice d p = ap (λ q. more 0 1 (more 0 1 q)) (one-slot d p) ∙ ap (more 0 1) (
 -- three slots of a place
 three : (n k want path last : ℕ) (l la lb lw : Attached) (a b d : Bool)
     → a ≡ hears true l → la ≡ slotLeaves true l → b ≡ hears true la → lb ≡ slotLeaves true la → both a b ≡ false → d ≡ turn a b (bitOf want k) → lw ≡ slotLeaves d lb
-    → play wire (pass (suc n) k want path last) l ≡ more 0 3 (play wire (pass n (k + 1) want (put d k path) (mark a b (bitOf want k) k last)) lw)
+    → play wire (pass (suc n) (underWay k want path last)) l ≡ more 0 3 (play wire (pass n (underWay (k + 1) want (put d k path) (mark a b (bitOf want k) k last))) lw)
 unfolding play pass pick
 three n k want path last l la lb lw a b d ea la-is eb lb-is nt ed lw-is =
     rw (← ea, ← la-is, ← eb, ← lb-is, nt, ← ed, ← lw-is) (thrice d _)
@@ -51,7 +51,7 @@ three n k want path last l la lb lw a b d ea la-is eb lb-is nt ed lw-is =
 -- two slots, and nobody answers
 two : (n k want path last : ℕ) (l la lb : Attached) (a b : Bool)
     → a ≡ hears true l → la ≡ slotLeaves true l → b ≡ hears true la → lb ≡ slotLeaves true la → both a b ≡ true
-    → play wire (pass (suc n) k want path last) l ≡ playedPass lb path last false 2
+    → play wire (pass (suc n) (underWay k want path last)) l ≡ playedPass lb path last false 2
 unfolding play pass pick
 two n k want path last l la lb a b ea la-is eb lb-is nt = rw (← ea, ← la-is, ← eb, ← lb-is, nt)
 
@@ -75,8 +75,8 @@ going-next want l₀ l la lb lw k path last slots whole a b none t d p m g h ea 
     let n : 64 - k ≡ suc (64 - (k + 1)) = omega arith in
     let dt : d ≡ turn a b (bitOf want k) = rw (← et) ed in
     let mt : m ≡ mark a b (bitOf want k) k last = rw (← et) em in
-    let r = play wire (pass (64 - (k + 1)) (k + 1) want p m) lw in
-    let e : play wire (pass (64 - k) k want path last) l ≡ more 0 3 r = rw (n, ep, mt) (three (64 - (k + 1)) k want path last l la lb lw a b d ea la-is eb lb-is (sym en ∙ nt) dt lw-is) in
+    let r = play wire (pass (64 - (k + 1)) (underWay (k + 1) want p m)) lw in
+    let e : play wire (pass (64 - k) (underWay k want path last)) l ≡ more 0 3 r = rw (n, ep, mt) (three (64 - (k + 1)) k want path last l la lb lw a b d ea la-is eb lb-is (sym en ∙ nt) dt lw-is) in
     record {
       left = sym (more-more 0 slots 0 3 r) ∙ ap (more 0 slots) (sym e) ∙ g .left;
       place = omega arith;
@@ -89,14 +89,14 @@ going-next want l₀ l la lb lw k path last slots whole a b none t d p m g h ea 
 pub going-up : (want : ℕ) (l₀ l la lb : Attached) (k path last slots : ℕ) (whole a b none : Bool)
     → Going want l₀ l k path last slots whole → k < 64
     → a ≡ hears true l → la ≡ slotLeaves true l → b ≡ hears true la → lb ≡ slotLeaves true la → none ≡ both a b → none ≡ true
-    → playedPass lb path last false (slots + 2) ≡ play wire (pass 64 0 want 0 0) l₀
+    → playedPass lb path last false (slots + 2) ≡ play wire (pass 64 (begun want)) l₀
 going-up want l₀ l la lb k path last slots whole a b none g h ea la-is eb lb-is en nt =
     let n : 64 - k ≡ suc (64 - (k + 1)) = omega arith in
-    let e : play wire (pass (64 - k) k want path last) l ≡ playedPass lb path last false 2 = rw n (two (64 - (k + 1)) k want path last l la lb a b ea la-is eb lb-is (sym en ∙ nt)) in
+    let e : play wire (pass (64 - k) (underWay k want path last)) l ≡ playedPass lb path last false 2 = rw n (two (64 - (k + 1)) k want path last l la lb a b ea la-is eb lb-is (sym en ∙ nt)) in
     ap (more 0 slots) (sym e) ∙ g .left
 
 pub going-end : (want : ℕ) (l₀ l : Attached) (k path last slots : ℕ) (whole : Bool)
-    → Going want l₀ l k path last slots whole → 64 ≤ k → playedPass l path last whole slots ≡ play wire (pass 64 0 want 0 0) l₀
+    → Going want l₀ l k path last slots whole → 64 ≤ k → playedPass l path last whole slots ≡ play wire (pass 64 (begun want)) l₀
 unfolding play pass
 going-end want l₀ l k path last slots whole g h =
     let q : k ≡ 64 = let p = g .place in omega arith in

@@ -15,7 +15,7 @@ use Rattle.chip.specs.declared.Chip.{Chip}
 use Rattle.line.specs.Event.{verdictOf}
 use Rattle.line.specs.Events.{resetEvent}
 use Rattle.line.specs.declared.Verdict.{Verdict}
-use Rattle.search.specs.Host.{Host, bind, Played, played, Listed, listed, End, end, more, heard, play, pass, write, passes, goOn, upTo, searchHost}
+use Rattle.search.specs.Host.{Host, bind, Played, played, Listed, listed, End, end, more, heard, play, begun, pass, write, passes, goOn, upTo, searchHost}
 use Rattle.search.specs.Counts.{more-more, more-none, andThen, play-bind}
 use Rattle.search.specs.Search.{Searched, completeOr4, Attached, attached, saysOf, leavesOf, wire, Search, outcome, fromPlayed, searchBy, searchOf, playedPass, playedWrite}
 
@@ -78,21 +78,21 @@ eight s q = ap (more 1 0) (more-more 0 8 0 s q) ∙ more-more 1 0 0 (8 + s) q �
 
 -- one pass
 one-pass : (m want : ℕ) (out : List ℕ) (l lp u le : Attached) (v : Bool) (path last s : ℕ) (whole : Bool) → v ≡ hearsReset l → lp ≡ resetLeaves l → v ≡ false
-    → playedWrite u 8 ≡ play wire (write 8 0 0xF0) lp → playedPass le path last whole s ≡ play wire (pass 64 0 want 0 0) u
+    → playedWrite u 8 ≡ play wire (write 8 0 0xF0) lp → playedPass le path last whole s ≡ play wire (pass 64 (begun want)) u
     → play wire (passes (suc m) want out) l ≡ more 1 (8 + s) (play wire (onward m out (end path last whole)) le)
 unfolding play passes pick
 one-pass m want out l lp u le v path last s whole ev lp-is t eu ee =
     rw (← ev, ← lp-is, t)
-    (ap (more 1 0) (play-bind wire (write 8 0 0xF0) (λ x. bind (pass 64 0 want 0 0) (onward m out)) lp
-    ∙ ap (λ (q : Played (Unit {0}) Attached). andThen wire q (λ x. bind (pass 64 0 want 0 0) (onward m out))) (sym eu)
-    ∙ ap (more 0 8) (play-bind wire (pass 64 0 want 0 0) (onward m out) u
+    (ap (more 1 0) (play-bind wire (write 8 0 0xF0) (λ x. bind (pass 64 (begun want)) (onward m out)) lp
+    ∙ ap (λ (q : Played (Unit {0}) Attached). andThen wire q (λ x. bind (pass 64 (begun want)) (onward m out))) (sym eu)
+    ∙ ap (more 0 8) (play-bind wire (pass 64 (begun want)) (onward m out) u
     ∙ ap (λ (q : Played End Attached). andThen wire q (onward m out)) (sym ee)))
     ∙ eight s (play wire (onward m out (end path last whole)) le))
 
 -- the host's way on, with n + 1 codes listed
 module _ (places : ℕ) (l₀ l lp u le : Attached) (list₀ list : List ℕ) (want n resets slots : ℕ) (v : Bool) (path last s : ℕ) (whole : Bool)
     (g : Seeking places l₀ l list₀ list want n resets slots) (ev : v ≡ hearsReset l) (lp-is : lp ≡ resetLeaves l) (t : v ≡ false) (h : n < places)
-    (eu : playedWrite u 8 ≡ play wire (write 8 0 0xF0) lp) (ee : playedPass le path last whole s ≡ play wire (pass 64 0 want 0 0) u) where
+    (eu : playedWrite u 8 ≡ play wire (write 8 0 0xF0) lp) (ee : playedPass le path last whole s ≡ play wire (pass 64 (begun want)) u) where
   -- after the pass
   passed : more (resets + 1) (slots + (8 + s)) (play wire (onward (places - (n + 1)) (take n list) (end path last whole)) le) ≡ play wire (passes places 0 []) l₀
   passed =

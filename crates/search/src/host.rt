@@ -7,7 +7,7 @@ ghost use mathlib.Core.Path.{_≡_};
 ghost use Prim.Native.Nat.{_≤_, _<_, _^_};
 ghost use Rattle.line.specs.Event.{answered};
 ghost use Rattle.line.specs.Events.{slotEvent, resetEvent};
-ghost use Rattle.search.specs.Host.{play, pass, write, turn, mark, put, wanted, heard};
+ghost use Rattle.search.specs.Host.{play, begun, pass, write, turn, mark, put, wanted, heard};
 ghost use Rattle.search.specs.Search.{attached, saysOf, leavesOf, wire, playedPass, playedWrite};
 
 // What the host hears of an event, and the table that it leaves.
@@ -112,7 +112,7 @@ fn put_bit(d: bool, k: u8, path: u64) -> u64
 // The 64 places of a pass: two reads and one write each, left as soon as no chip answers.
 pub fn one_pass(t: Table, want: u64, ms: &mut [u8], ss: &mut [u8]) -> Pass
     ensures { λ r. ⌜ playedPass (attached (r .table .n) (r .table .chips) (now (ms .exit)) (now (ss .exit))) (r .path) (r .last) (r .whole) (r .slots .0)
-        ≡ play wire (pass 64 0 want 0 0) (attached (t .n) (t .chips) (now (ms .entry)) (now (ss .entry))) ⌝ }
+        ≡ play wire (pass 64 (begun want)) (attached (t .n) (t .chips) (now (ms .entry)) (now (ss .entry))) ⌝ }
     ensures { λ r. ⌜ (r .last ≤ 64) × (r .slots .0 ≤ 192) ⌝ }
 {
     let mut table = t;

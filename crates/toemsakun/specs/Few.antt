@@ -13,7 +13,7 @@ use Rattle.line.specs.declared.Verdict.the-variants as verdict
 use Rattle.line.specs.Layout.{capped}
 use Rattle.line.specs.Prefix.{capped-few}
 use Rattle.line.specs.Events.{resetEvent}
-use Rattle.search.specs.Host.{Host, done, bind, Played, Listed, listed, End, write, pass, heard, play, passes, goOn, searchHost, upTo}
+use Rattle.search.specs.Host.{Host, done, bind, Played, Listed, listed, End, write, begun, pass, heard, play, passes, goOn, searchHost, upTo}
 use Rattle.search.specs.Counts.{play-bind}
 use Rattle.search.specs.Search.{Attached, saysOf, leavesOf, wire, searchBy, searchOf}
 
@@ -49,8 +49,8 @@ module _ (m : ℕ) where
   passes-few zero want out l h = presence (heard (saysOf resetEvent l)) (done (listed out true)) (done (listed out false)) (leavesOf resetEvent l) (omega arith) (omega arith)
   passes-few (suc n) want out l h =
       presence (heard (saysOf resetEvent l)) (done (listed out true)) _ (leavesOf resetEvent l) (omega arith)
-      (result-bind (Lists m) (write 8 0 0xF0) (λ u. bind (pass 64 0 want 0 0) (goOn n out (λ w o. passes n w o))) (leavesOf resetEvent l)
-      (λ a k. result-bind (Lists m) (pass 64 0 want 0 0) (goOn n out (λ w o. passes n w o)) k (on-few n out (λ w o. passes n w o) h (λ w o. passes-few n w o))))
+      (result-bind (Lists m) (write 8 0 0xF0) (λ u. bind (pass 64 (begun want)) (goOn n out (λ w o. passes n w o))) (leavesOf resetEvent l)
+      (λ a k. result-bind (Lists m) (pass 64 (begun want)) (goOn n out (λ w o. passes n w o)) k (on-few n out (λ w o. passes n w o) h (λ w o. passes-few n w o))))
 
 -- a search lists at most 16 codes
 pub search-few : (list : List ℕ) (l : Attached) → searchOf list l .number ≤ 16
