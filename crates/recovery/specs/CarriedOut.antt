@@ -55,6 +55,7 @@ NoCopy i es L = AtSlots (λ (b : Bool) (K : List Whole). carriesOut (valueOf b K
 abbrev pub copiesNone : ℕ → List Event → List Whole → Bool
 copiesNone i es L = atSlots (λ (b : Bool) (K : List Whole). not (carriesOut (valueOf b K) (at i K))) es L
 
+-- where it computes to true, it is so
 pub copies-none : (i : ℕ) (es : List Event) (L : List Whole) → copiesNone i es L ≡ true → NoCopy i es L
 copies-none i es L e = at-slots _ _ (λ b K h. not-true (carriesOut (valueOf b K) (at i K)) h) es L e
 

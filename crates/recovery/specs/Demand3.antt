@@ -1,7 +1,7 @@
 -- "Recovery after noise: after a reset, a match and a full-page scratchpad write, a chip's whole state no longer depends on what
 -- happened between, unless it copied."
--- The words are: Installed in Installed.antt; NoCopy in CarriedOut.antt; Page, write and Addressed in Sessions.antt; writtenTo in
--- Written.antt; Recovered in Recovery.antt.
+-- The words are: Installed in Installed.antt; NoCopy in CarriedOut.antt, by AtSlots of the crate histories; Page, write and Addressed
+-- in Sessions.antt; writtenTo in Written.antt; Recovered in Recovery.antt.
 use Prim.Native.Nat.{ℕ}
 use mathlib.Core.List.{List, _++_}
 use mathlib.Core.Path.{_≡_, refl, _∙_, ap, sym}
