@@ -28,7 +28,7 @@ use Rattle.line.specs.declared.Verdict.{Verdict}
 use Rattle.line.specs.declared.Plan.the-variants as plan
 use Rattle.line.specs.declared.Act.the-variants.{Take, Reset, PowerOn}
 use Rattle.search.specs.Search.{Attached, saysOf, leavesOf, leftBy}
-use Rattle.histories.specs.Histories.{at, answerOf, afterOf}
+use Rattle.histories.specs.Histories.{at, codesOf, answerOf, afterOf}
 use Rattle.histories.specs.Range.{both-true′}
 use Rattle.histories.specs.Keeps.{in-range, range-in, Good, act-good, outside-good}
 
@@ -67,6 +67,11 @@ at-chip zero [] = refl
 at-chip (suc i) [] = refl
 at-chip zero (w ∷ L) = refl
 at-chip (suc i) (w ∷ L) = at-chip i L
+
+-- the codes of a line are those of its chips
+pub codes-chips : (L : List Whole) → codesOf L ≡ map (λ (c : Chip). c .code) (chipsOf L)
+codes-chips [] = refl
+codes-chips (w ∷ L) = ap (λ (cs : List ℕ). w .chip .code ∷ cs) (codes-chips L)
 
 comes-good : {cs : List Chip} {q : Plan} → Comes cs q → (L : List Whole) → AllGood L → AllGood (afterBy q L)
 comes-good (slot b) L g = map-good (Take (valueOf b L)) L g

@@ -14,3 +14,4 @@ pub mod Demand3
 pub mod Case
 pub mod Public
 pub mod OverCalls
+pub mod FromCard
