@@ -132,7 +132,7 @@ module _ (l : Attached) (s : Stands l) where
       let u : valueOf b L ≡ v = same-bit (valueOf b L) v (sym (slot-says b e h) ∙ a) in
       ap (at i) (line-after l e s ∙ ap (λ (p : Plan). afterBy p L) (slot-plan b e L h))
       ∙ at-map (actOf (Take (valueOf b L))) i L (rw (line-length l s) k)
-      ∙ ap (λ (x : Bool). takesOf x (at i L)) u
+      ∙ rw u
 
   -- "A sending chip moves on whatever the value.": by either bit it is the same after the slot
   pub senders-move-on : (b : Bool) (e : Event) → Writes b e → (i : ℕ) → i < l .count → Sending (at i (lineFrom l) .chip .level)
