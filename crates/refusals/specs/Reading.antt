@@ -1,5 +1,5 @@
 -- Demand 1 for a whole card: it is refused exactly when reading record after record reaches one at fault, by that one's number
--- and at its first byte.
+-- and at its first byte; and it then leaves the table as it was.
 use Prim.Native.Nat.{ℕ, zero, suc, _+_, _-_, _<_}
 use native.Mathlib.Omega.{arith}
 use mathlib.Core.Bool.{true≢false}
@@ -11,7 +11,7 @@ use Rattle.base.specs.Exactly.{Iff}
 use Rattle.chip.specs.Chip.{setUpChip}
 use Rattle.chip.specs.declared.Chip.{Chip}
 use Rattle.line.specs.Layout.{capped}
-use Rattle.card.specs.Card.{chips, refused, entryAt, Read, all, none, after, onward, readFrom, fromRead, setUpOf}
+use Rattle.card.specs.Card.{Carded, chips, refused, entryAt, Read, all, none, after, onward, readFrom, setUp, fromRead, setUpOf}
 use Rattle.card.specs.declared.Entry.{Entry}
 use Rattle.card.specs.declared.Entry.the-variants.{Done, Taken, TooMany, UnknownKind, WrongLength}
 use Rattle.refusals.specs.Card.{entry-is}
@@ -142,7 +142,7 @@ module _ (most : ℕ) (s : List ℕ) where
       zero-off : most - 0 ≡ most
       zero-off = omega arith
 
--- set-up is refused by r at p exactly when the first record at fault starts at p, and its fault is r; the table then stays
+-- set-up is refused by r at p exactly when the first record at fault starts at p, and its fault is r
 pub set-up-refused : (places : ℕ) (s : List ℕ) (n : ℕ) (cs : List Chip) (r p : ℕ) → Iff (setUpOf places s n cs .answer ≡ refused r p) (Faulty (capped places) s r p)
 unfolding setUpOf
 set-up-refused places s n cs r p =
@@ -157,3 +157,16 @@ set-up-refused places s n cs r p =
         let a : r′ ≡ r = cc in
         let b : p′ ≡ p = cc in
         (λ j. none (a j) (b j))
+
+-- "chips taken so far are dropped, table unchanged": a refused card leaves the number of chips and every place as they were
+pub refused-card-leaves : (places : ℕ) (s : List ℕ) (n : ℕ) (cs : List Chip) (r p : ℕ) → setUpOf places s n cs .answer ≡ refused r p
+    → setUpOf places s n cs ≡ setUp (refused r p) n cs
+unfolding setUpOf
+refused-card-leaves places s n cs r p = stays (readFrom (capped places) s 0)
+  where
+    stays : (x : Read) → fromRead n cs x .answer ≡ refused r p → fromRead n cs x ≡ setUp (refused r p) n cs
+    stays (all ds) e = absurd (no e)
+      where
+        no : chips (length ds) ≡ refused r p → ⊥
+        no z = let y : _≡_ {A = ℕ} 0 1 = cc in omega arith
+    stays (none r′ p′) e = ap (λ (a : Carded). setUp a n cs) e
