@@ -1,26 +1,28 @@
--- "A short address also sets PF.": of the public event, over a table and its buffers.
+-- What a reset, a power on and a copy do, and "A short address also sets PF.": of the public event, over a table and its buffers.
 use Prim.Native.Nat.{ℕ, _<_}
 use mathlib.Core.Bool.{Bool, true}
 use mathlib.Core.List.{List, [], _∷_}
-use mathlib.Core.Path.{_≡_, _∙_, ap}
+use mathlib.Core.Path.{_≡_, _∙_, ap, sym, subst}
 use lib.ListN.{length}
 use Rattle.base.specs.Pick.{pick}
 use Rattle.scratchpad.specs.Registers.{pfSet}
 use Rattle.scratchpad.specs.declared.MemoryPhase.the-variants.{WriteAddress}
 use Rattle.chip.specs.Chip.{Whole, resetOf}
 use Rattle.chip.specs.declared.Level.the-variants.{Memory}
+use Rattle.line.specs.Event.{planOn}
 use Rattle.line.specs.Events.{resetEvent, powerOnEvent}
 use Rattle.line.specs.declared.Event.{Event}
 use Rattle.search.specs.Search.{Attached}
 use Rattle.histories.specs.Histories.{at, run}
-use Rattle.histories.specs.Standing.{Stands, lineFrom, line-length}
+use Rattle.histories.specs.Standing.{Stands, lineFrom, line-good, line-length}
 use Rattle.histories.specs.Joined.{runOn, run-joined, stands-on}
 use Rattle.histories.specs.Sent.{bitsFrom}
-use Rattle.recovery.specs.CarriedOut.{NoCopy}
-use Rattle.recovery.specs.Public.{chipOf, TableInstalled, line-installed}
+use Rattle.recovery.specs.CarriedOut.{NoCopy, no-copy}
+use Rattle.recovery.specs.Public.{chipOf, TableInstalled, good-at, line-installed}
 use Rattle.commands.specs.Reset.{isCut, awaiting, afterCut, afterPowerOn, reset-exactly, short-address, power-on-exactly}
 use Rattle.commands.specs.ShortAddress.{begunWrite, endedWrite, matched, afterAddress, short-before, short-write, whole-address}
 use Rattle.commands.specs.NotCopied.{NoAddress, cut-not-copied}
+use Rattle.commands.specs.Copy.{Copies, CopiedInFull, copy-in-full}
 
 -- THEOREM: a reset on any table that neither 8 nor 5 refuses, at any level of a DS28EC20
 pub reset-exactly-on : (i : ℕ) (l : Attached) → Stands l → i < l .count → chipOf i l .chip .kind ≡ 1
@@ -77,3 +79,15 @@ cut-not-copied-on i l s h k c rest n =
           ∙ ap (λ (L : List Whole). at i (run rest L) .memory) j
           ∙ r .memory-stays;
     }
+
+-- THEOREM: a copy in full: every event on such a table that carries out a copy in the DS28EC20 at place i
+pub copy-in-full-on : (i : ℕ) (e : Event) (l : Attached) → Stands l → i < l .count → chipOf i l .chip .kind ≡ 1
+    → Copies (planOn e (lineFrom l)) i (lineFrom l) → CopiedInFull (chipOf i l) (chipOf i (runOn (e ∷ []) l))
+copy-in-full-on i e l s h k c =
+    let L = lineFrom l in
+    let n : i < length L = rw (line-length l s) h in
+    subst (λ (M : List Whole). CopiedInFull (at i L) (at i M)) (sym (run-joined (e ∷ []) l s)) (copy-in-full i e L n (good-at i L n (line-good l s)) k c)
+
+-- THEOREM: a history in which the chip carries out no copy leaves its memory
+pub no-copy-on : (i : ℕ) (es : List Event) (l : Attached) → Stands l → NoCopy i es (lineFrom l) → chipOf i (runOn es l) .memory ≡ chipOf i l .memory
+no-copy-on i es l s n = ap (λ (L : List Whole). at i L .memory) (run-joined es l s) ∙ no-copy i es (lineFrom l) n

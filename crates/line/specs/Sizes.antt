@@ -19,7 +19,8 @@ use Rattle.line.specs.declared.Act.the-variants.{Take, Reset, PowerOn}
 abbrev pub Sized : (Whole → Whole) → Type 0
 Sized f = (w : Whole) → (length (f w .memory) ≡ length (w .memory)) × (length (f w .pad) ≡ length (w .pad))
 
-copied-length : (M : Map) (m s : List ℕ) (p k n : ℕ) → length (copied M m s p k n) ≡ length m
+-- a copy keeps the size of the memory
+pub copied-length : (M : Map) (m s : List ℕ) (p k n : ℕ) → length (copied M m s p k n) ≡ length m
 unfolding copied
 copied-length M m s p k zero = refl
 copied-length M m s p k (suc n) = simp length-set (copied-length M m s p k n)

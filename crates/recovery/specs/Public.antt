@@ -40,7 +40,7 @@ pub record TableRecovered (i code : ℕ) (again : List Event) (a b : Attached) :
   pub state-on : (rest : List Event) → Addressed code [] (came rest (lineFrom (runOn again a))) → chipOf i (runOn rest (runOn again a)) ≡ chipOf i (runOn rest (runOn again b))
 
 -- chip i of a good line is good
-good-at : (i : ℕ) (L : List Whole) → i < length L → AllGood L → Good (at i L)
+pub good-at : (i : ℕ) (L : List Whole) → i < length L → AllGood L → Good (at i L)
 good-at i [] h g = absurd (not-suc-le-zero h)
 good-at zero (w ∷ L) h (g, r) = g
 good-at (suc i) (w ∷ L) h (g, r) = good-at i L (omega arith) r
