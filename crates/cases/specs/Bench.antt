@@ -5,7 +5,7 @@ use mathlib.Core.List.{List, [], _∷_}
 use lib.ListN.{replicate, take, drop, getD, set}
 use Rattle.base.specs.Pick.{pick}
 use Rattle.scratchpad.specs.declared.MemoryPhase.{MemoryPhase}
-use Rattle.chip.specs.With.{withLevel, noChip}
+use Rattle.chip.specs.With.{noChip, withLevel}
 use Rattle.chip.specs.Chip.{Whole, whole}
 use Rattle.chip.specs.declared.Level.the-variants.{Memory}
 use Rattle.line.specs.Event.{Answered, bit}

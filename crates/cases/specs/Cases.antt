@@ -1,5 +1,5 @@
--- Document 01, "Bench cases": the starred cases, and the case of document 02's M-102, stated together. Each is the run of events
--- that a host puts on the line that a card sets up.
+-- Document 01, "Bench cases": the starred cases, the case of document 02's M-102, and a case for each slip that no starred one shows,
+-- stated together. Each is the run of events that a host puts on the line that a card sets up.
 use Prim.Native.Nat.{ℕ}
 use mathlib.Core.Bool.{true, false}
 use mathlib.Core.List.{List, [], _∷_, _++_}
@@ -24,6 +24,10 @@ memoryLine = lineOfCard (record12 1 0x43)
 
 abbrev pub switchLine : List Whole
 switchLine = lineOfCard (record12 2 0x3A)
+
+-- a DS28EC20 whose first bytes are not FFh, as its scratchpad is after power on
+abbrev pub freshLine : List Whole
+freshLine = withByte 0x0000 0x12 (withByte 0x0001 0x34 memoryLine)
 
 -- Write Scratchpad of 12h 34h at 0006h
 abbrev pub write1234 : List Event
@@ -79,6 +83,17 @@ staleLine = withByte 0x0A01 0x55 (run (session (0x0F ∷ 0x00 ∷ 0x00 ∷ 0x12 
 abbrev pub staleCopy : List Event
 staleCopy = session (0x0F ∷ 0x20 ∷ 0x01 ∷ []) ++ copyOf 0x20 0x01 0x00
 
+-- 77h at 0004h to 0009h, so that case 5's write is a short one over a scratchpad that is not FFh
+abbrev pub write77 : List Event
+write77 = session (0x0F ∷ 0x04 ∷ 0x00 ∷ replicate 6 0x77)
+
+abbrev pub shortWrite : List Event
+shortWrite = write77 ++ write1234
+
+-- 55h, a mark, for each register byte: 0A00h to 0A1Fh
+abbrev pub markedCopy : List Event
+markedCopy = session (0x0F ∷ 0x00 ∷ 0x0A ∷ replicate 32 0x55) ++ copyOf 0x00 0x0A 0x1F
+
 -- a status by PIO Access Read
 abbrev pub statusOn : List Event → List Whole → List ℕ
 statusOn es L = bytesRead (es ++ session (0xF5 ∷ [])) 1 L
@@ -119,8 +134,8 @@ pub record Cases : Type 0 where
   pub two-refused : searchOf (replicate 2 0) fourTable .answer ≡ refused 4
   pub two-counted : searchOf (replicate 2 0) fourTable .slots ≡ 400
   -- 4: "After power on, copy with 00 00 20: nothing copied."
-  pub fresh-copy : bytesRead (copyOf 0x00 0x00 0x20) 2 memoryLine ≡ 0xFF ∷ 0xFF ∷ []
-  pub fresh-memory : at 0 (run (copyOf 0x00 0x00 0x20) memoryLine) .memory ≡ at 0 memoryLine .memory
+  pub fresh-copy : bytesRead (copyOf 0x00 0x00 0x20) 2 freshLine ≡ 0xFF ∷ 0xFF ∷ []
+  pub fresh-memory : at 0 (run (copyOf 0x00 0x00 0x20) freshLine) .memory ≡ at 0 freshLine .memory
   -- 5: "Write 12h 34h at 0006h: E/S 07h. Copy 06 00 07 writes both; then 0, 1; E/S 87h."
   pub write-registers : registersOf (run write1234 memoryLine) ≡ 0x06 ∷ 0x00 ∷ 0x07 ∷ []
   pub copy-answers : bitsRead (write1234 ++ copyOf 0x06 0x00 0x07) 4 memoryLine ≡ bit false ∷ bit true ∷ bit false ∷ bit true ∷ []
@@ -146,6 +161,13 @@ pub record Cases : Type 0 where
   -- 9, into a held block: "Address only, 0120h", then a copy with 20 01 00 of an old scratchpad byte leaves the memory byte
   pub stale-held : at 0 (run staleCopy staleLine) .memory ≡ at 0 staleLine .memory
   pub stale-answers : bitsRead staleCopy 4 staleLine ≡ bit false ∷ bit true ∷ bit false ∷ bit true ∷ []
+  -- "each offset from T mod 32 to E": a short write over an old scratchpad, copied, leaves every other byte, whatever the scratchpad holds there
+  pub over-old-pad : bytesRead (shortWrite ++ session (0xAA ∷ [])) 7 memoryLine ≡ 0x06 ∷ 0x00 ∷ 0x07 ∷ 0x12 ∷ 0x34 ∷ 0x77 ∷ 0x77 ∷ []
+  pub past-e-stays : at 0 (run (shortWrite ++ copyOf 0x06 0x00 0x07) memoryLine) .memory ≡ at 0 (withByte 0x0006 0x12 (withByte 0x0007 0x34 memoryLine)) .memory
+  -- "every byte judged by the memory before the copy": one that sets 0A1Fh sets all other register bytes with it, and closes the page to the next
+  pub marks-answers : bitsRead markedCopy 4 memoryLine ≡ bit false ∷ bit true ∷ bit false ∷ bit true ∷ []
+  pub marks-memory : at 0 (run markedCopy memoryLine) .memory ≡ replicate 0x0A00 0xFF ++ (replicate 32 0x55 ++ replicate 32 0xFF)
+  pub marks-closed : bytesRead (markedCopy ++ copyOf 0x00 0x0A 0x9F) 2 memoryLine ≡ 0xFF ∷ 0xFF ∷ []
   -- 6: "0A00h = 55h, memory FFh at 0006h: case 5 leaves FFh and sets AA."
   pub held-memory : memoryOf 3 (run (write1234 ++ copyOf 0x06 0x00 0x07) protectedLine) ≡ 0xFF ∷ 0xFF ∷ 0xFF ∷ []
   pub held-registers : registersOf (run (write1234 ++ copyOf 0x06 0x00 0x07) protectedLine) ≡ 0x06 ∷ 0x00 ∷ 0x87 ∷ []

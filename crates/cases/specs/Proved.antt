@@ -27,12 +27,8 @@ use Rattle.histories.specs.Standing.{Stands}
 use Rattle.histories.specs.Joined.{search-joined}
 use Rattle.cases.specs.Cases.{Cases, fourTable}
 
-four-stands : Stands fourTable
-unfolding bitOf same both filled pick cutEntry wholeEntry entryAt readFrom setUpOf romSlot functionIn functionSlot memoryLook memorySight memorySlot mapOf ruleBy byteAtHand pageAtHand padFrom memoryBegins partOf hasMemory hasScratchpad hasRegisters hasSwitch takesOutside knowsOf switchBegins ds28ec20 lockAddress padEnd switchSlot takesOf sendsOf resetChip resetOf powerOnChip powerOnPad powerOnOf outsideChip outsideOf setUpChip knownKind imageSize padSize crcBit crcByte crcOf pinOf statusOf switchFunction statusSent pairIn pairBit confirmed shown ruleAt spanOf copied isData controlAddress isControlOrLock isReadOnly mark held onlyFalls closedToCopying capped planEvent outsideFits askedBy headAt commandOf commandBit readBit matchBit searchBit searchSends answerOf afterOf pf withE withPF withAA targetOf ruleOfByte memoryFunction crcOfAddress addressIn writeAddress afterByte byteIn writeData crcSent padBegins registerSent padByteSent padSent copyAddress carriedOut threeBytesIn copyEnd readAddress memorySent cutOf inPage bind play pass write upTo passes readMemoryFrom inRange registersInRange switchInRange tableInRange sizesFit
-four-stands = record { range = refl; sizes = refl; places = lit≤ tt }
-
 pub cases : Cases
-unfolding bitOf same both filled pick cutEntry wholeEntry entryAt readFrom setUpOf romSlot functionIn functionSlot memoryLook memorySight memorySlot mapOf ruleBy byteAtHand pageAtHand padFrom memoryBegins partOf hasMemory hasScratchpad hasRegisters hasSwitch takesOutside knowsOf switchBegins ds28ec20 lockAddress padEnd switchSlot takesOf sendsOf resetChip resetOf powerOnChip powerOnPad powerOnOf outsideChip outsideOf setUpChip knownKind imageSize padSize crcBit crcByte crcOf pinOf statusOf switchFunction statusSent pairIn pairBit confirmed shown ruleAt spanOf copied isData controlAddress isControlOrLock isReadOnly mark held onlyFalls closedToCopying capped planEvent outsideFits askedBy headAt commandOf commandBit readBit matchBit searchBit searchSends answerOf afterOf pf withE withPF withAA targetOf ruleOfByte memoryFunction crcOfAddress addressIn writeAddress afterByte byteIn writeData crcSent padBegins registerSent padByteSent padSent copyAddress carriedOut threeBytesIn copyEnd readAddress memorySent cutOf inPage bind play pass write upTo passes readMemoryFrom
+unfolding bitOf same both filled pick cutEntry wholeEntry entryAt readFrom setUpOf romSlot functionIn functionSlot memoryLook memorySight memorySlot mapOf ruleBy byteAtHand pageAtHand padFrom memoryBegins partOf hasMemory hasScratchpad hasRegisters hasSwitch takesOutside knowsOf switchBegins ds28ec20 lockAddress padEnd switchSlot takesOf sendsOf resetChip resetOf powerOnChip powerOnPad powerOnOf outsideChip outsideOf setUpChip knownKind imageSize padSize crcBit crcByte crcOf pinOf statusOf switchFunction statusSent pairIn pairBit confirmed shown ruleAt spanOf copied isData controlAddress isControlOrLock isReadOnly mark held onlyFalls closedToCopying capped planEvent outsideFits askedBy headAt commandOf commandBit readBit matchBit searchBit searchSends answerOf afterOf pf withE withPF withAA targetOf ruleOfByte memoryFunction crcOfAddress addressIn writeAddress afterByte byteIn writeData crcSent padBegins registerSent padByteSent padSent copyAddress carriedOut threeBytesIn copyEnd readAddress memorySent cutOf inPage bind play pass write upTo passes readMemoryFrom inRange registersInRange switchInRange tableInRange sizesFit
 cases =
     record {
       crc-8 = refl;
@@ -71,6 +67,11 @@ cases =
       resumed = refl;
       stale-held = refl;
       stale-answers = refl;
+      over-old-pad = refl;
+      past-e-stays = refl;
+      marks-answers = refl;
+      marks-memory = refl;
+      marks-closed = refl;
       held-memory = refl;
       held-registers = refl;
       locked-answers = refl;
@@ -81,3 +82,6 @@ cases =
       held-low = refl;
       together = refl;
     }
+  where
+    four-stands : Stands fourTable
+    four-stands = record { range = refl; sizes = refl; places = lit≤ tt }
