@@ -11,7 +11,7 @@ use Rattle.base.specs.Bits.{filled, both}
 use Rattle.base.specs.Both.{both-holds}
 use Rattle.scratchpad.specs.Registers.{registers, pf, withAA}
 use Rattle.scratchpad.specs.Map.{Map}
-use Rattle.scratchpad.specs.Scratchpad.{inPage, pageAtHand, addressIn, writeAddress, writeData, byteIn, carriedOut, authorized, copyEnd, memoryBegins}
+use Rattle.scratchpad.specs.Scratchpad.{inPage, pageAtHand, addressIn, writeAddress, writeData, byteIn, carriedOut, threeBytesIn, copyEnd, memoryBegins}
 use Rattle.scratchpad.specs.declared.Hand.{Hand}
 use Rattle.scratchpad.specs.declared.Hand.the-variants as hand
 use Rattle.scratchpad.specs.declared.Deed.the-variants.{Copy}
@@ -62,7 +62,7 @@ module _ (w : Whole) (v : Bool) (address count bits : ℕ) where
 
   -- its last bit
   end-carried : levelCarriesOut w v end ≡ true → Carried w v end (levelTakesBy (w .chip) v (levelSeen w end) end)
-  unfolding memorySlot memorySight memoryLook copyEnd authorized carriedOut pageAtHand
+  unfolding memorySlot memorySight memoryLook copyEnd threeBytesIn carriedOut pageAtHand
   end-carried =
       let M = chipMap (w .chip) in
       let r = w .chip .registers in

@@ -3,5 +3,14 @@ pub mod ShortAddress
 pub mod NotCopied
 pub mod Asked
 pub mod Copy
-pub mod Public
+pub mod Streams
+pub mod ReadSession
+pub mod Sending
+pub mod RegisterBits
+pub mod ReadScratchpad
+pub mod ReadMemory
 pub mod ReadStays
+pub mod WriteScratchpad
+pub mod Public
+pub mod PublicReads
+pub mod ReadCase

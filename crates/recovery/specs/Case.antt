@@ -33,7 +33,7 @@ abbrev line : List Whole
 line = whole (setUpChip 5 1) (replicate 2624 0xFF) (replicate 32 0xFF) ∷ whole (setUpChip 6 2) [] [] ∷ []
 
 -- chip 0 is in range
-fresh-range : InRange (setUpChip 5 1)
+pub fresh-range : InRange (setUpChip 5 1)
 unfolding setUpChip knownKind switchInRange both pick
 fresh-range = record { known = refl; clear = refl; pins = refl; place = refl }
 

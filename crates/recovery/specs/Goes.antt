@@ -25,7 +25,7 @@ use Rattle.histories.specs.Fed.{fed, sendsNothing}
 use Rattle.histories.specs.Range.{both-true′}
 use Rattle.histories.specs.Sent.{bitsFrom}
 use Rattle.recovery.specs.Sessions.{opening}
-use Rattle.recovery.specs.Filled.{filledBy, address-taken}
+use Rattle.recovery.specs.Filled.{filledBy, byte-taken, address-taken}
 
 -- fed these bits, a chip sends nothing all along and comes to exactly u
 pub record Goes (vs : List Bool) (w u : Whole) : Type 0 where
@@ -91,10 +91,21 @@ module _ (c : Chip) (m : List ℕ) where
   pub goes-opening : (rc : Bool) (r : Registers) (s : List ℕ) → Goes (opening (c .code)) (ec20 (Rom (Command 0 0)) rc r s) (ec20 (FunctionCommand 0 0) true r s)
   goes-opening rc r s = goes-append (bitsFrom 8 0 0x55) (bitsFrom 64 0 (c .code)) _ _ _ (goes-55 rc r s) (goes-code 63 0 r s refl)
 
+  -- the 8 bits of a function command, as the register takes them
+  goes-eight : (b : ℕ) (r : Registers) (s : List ℕ)
+      → Goes (bitsFrom 8 0 b) (ec20 (FunctionCommand 0 0) true r s) (ec20 (Memory (memoryFunction (filledBy 0x80 0 (bitsFrom 8 0 b)))) true r s)
+  unfolding sendsOf takesOf functionSlot functionIn hasMemory memoryBegins both pick
+  goes-eight b r s = record { silent = refl; comes = refl }
+
+  -- a function command
+  pub goes-command : (b : ℕ) (r : Registers) (s : List ℕ) → b < 256
+      → Goes (bitsFrom 8 0 b) (ec20 (FunctionCommand 0 0) true r s) (ec20 (Memory (memoryFunction b)) true r s)
+  goes-command b r s h = goes-to (bitsFrom 8 0 b) _ _ _ (goes-eight b r s) (ap (λ (n : ℕ). ec20 (Memory (memoryFunction n)) true r s) (byte-taken b h))
+
   -- 0Fh
   pub goes-0F : (r : Registers) (s : List ℕ) → Goes (bitsFrom 8 0 0x0F) (ec20 (FunctionCommand 0 0) true r s) (ec20 (Memory (WriteAddress 0 0)) true r s)
-  unfolding sendsOf takesOf functionSlot functionIn hasMemory memoryBegins memoryFunction filled bitOf both pick
-  goes-0F r s = record { silent = refl; comes = refl }
+  unfolding memoryFunction pick
+  goes-0F r s = goes-command 0x0F r s (omega arith)
 
   -- a chip that has the address
   abbrev pub addressed : List ℕ → ℕ → Whole

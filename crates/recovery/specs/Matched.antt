@@ -30,7 +30,7 @@ unfolding planEvent outsideFits askedBy pick
 planned-slot true L = refl
 planned-slot false L = refl
 
-came-slots : (vs : List Bool) (L : List Whole) → came (slots vs) L ≡ slotted vs
+pub came-slots : (vs : List Bool) (L : List Whole) → came (slots vs) L ≡ slotted vs
 came-slots [] L = refl
 came-slots (v ∷ vs) L = let rest = came-slots vs (afterOf (slotEvent v) L) in λ j. planned-slot v L j ∷ rest j
 

@@ -30,7 +30,7 @@ module _ (w : Whole) (e : w .chip .kind ≡ 1) where
       ap (λ (k : ℕ). ofKind (w .chip) (w .memory) k (Memory (SendCrc 0 crc)) true (registers t 0x1F) (ruled (w .memory) t bytes)) (sym e)
 
   -- its scratchpad has 32 bytes
-  pad-size : padSize (w .chip .kind) ≡ 32
+  pub pad-size : padSize (w .chip .kind) ≡ 32
   unfolding padSize pick
   pad-size = rw e
 

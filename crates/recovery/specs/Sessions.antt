@@ -1,6 +1,7 @@
 -- Sessions: the opening that matches a code, histories in which every session opens so, and the session that writes a whole page
 -- into a scratchpad.
-use Prim.Native.Nat.{ℕ, _%_, _<_}
+use Prim.Native.Nat.{ℕ, _+_, _%_, _<_, _≤_}
+use native.Mathlib.Omega.{arith}
 use mathlib.Core.Bool.{Bool}
 use mathlib.Core.List.{List, [], _∷_, _++_, map}
 use mathlib.Core.Path.{_≡_}
@@ -62,3 +63,17 @@ pub record Page (t : ℕ) (bytes : List ℕ) : Type 0 where
   pub offset : t % 32 ≡ 0
   pub full : length bytes ≡ 32
   pub small : Bytes bytes
+
+-- bytes for an address of 16 bits, at least one and no more than its page has from there on
+pub record InPage (t : ℕ) (bytes : List ℕ) : Type 0 where
+  pub address : t < 0x10000
+  pub some : 0 < length bytes
+  pub fits : t % 32 + length bytes ≤ 32
+  pub small : Bytes bytes
+
+-- a whole page is such
+pub page-in : (t : ℕ) (bytes : List ℕ) → Page t bytes → InPage t bytes
+page-in t bytes g =
+    let z = g .offset in
+    let f = g .full in
+    record { address = g .address; some = omega arith; fits = omega arith; small = g .small }
