@@ -10,4 +10,5 @@ pub mod Listed
 pub mod Protected
 pub mod SearchCopies
 pub mod Recovered
+pub mod FromCard
 pub mod Customer

@@ -20,7 +20,7 @@ use Rattle.line.specs.Line.{valueOf}
 use Rattle.line.specs.Event.{Answered, bit, askedBy, planEvent, outsideFits, planOn}
 use Rattle.line.specs.Events.{slotEvent, resetEvent}
 use Rattle.line.specs.declared.Event.{Event}
-use Rattle.search.specs.Host.{Host, done, ask, End, turn, mark, put, Listed, bind, pass, write, upTo, passes, searchHost}
+use Rattle.search.specs.Host.{Host, done, ask, End, Listed, bind, UnderWay, begun, nextPlace, pass, write, upTo, passes, searchHost}
 use Rattle.search.specs.Search.{Attached, saysOf, leavesOf, searchOf}
 use Rattle.histories.specs.Histories.{noWhole, at, answerOf, afterOf, run}
 use Rattle.histories.specs.Standing.{Stands, lineFrom, says-is, line-after, stands-after}
@@ -129,12 +129,13 @@ module _ (i : ℕ) where
       let k : v ≡ b = sym e ∙ value-is b L ∙ ap (both b) (hear-quiet b vs L h) ∙ both-true b in
       rw k (none-first i b vs L c, write-idles n (j + 1) byte (taken b L) (hear-next b vs L h) (none-next b vs L c) (subst (Q tt) (sym (fed-next b vs L)) q)))
 
-  -- a pass, from place k on
-  pass-idles : (n k want path last : ℕ) {L : List Whole} {xs : List ℕ} {Q : End → List Whole → Type 0} → k + n ≡ 64 → At k 0 L xs → ((e : End) (M : List Whole) → Q e M)
-      → Idles Q (pass n k want path last) L
+  -- a pass under way
+  pass-idles : (n : ℕ) (p : UnderWay) {L : List Whole} {xs : List ℕ} {Q : End → List Whole → Type 0} → p .place + n ≡ 64 → At (p .place) 0 L xs
+      → ((e : End) (M : List Whole) → Q e M) → Idles Q (pass n p) L
   unfolding pass
-  pass-idles zero k want path last e a q = ends (q _ _)
-  pass-idles (suc n) k want path last {L} {Q = Q} e a q =
+  pass-idles zero p e a q = ends (q _ _)
+  pass-idles (suc n) p {L} {Q = Q} e a q =
+      let k = p .place in
       let h : k < 64 = omega arith in
       slot-idles true (λ v d. (
         at-calm i k 0 h a v,
@@ -143,7 +144,7 @@ module _ (i : ℕ) where
           pick-if (λ (host : Host End). Idles Q host (taken u (taken v L))) _ _ _ (λ t. ends (q _ _))
               (λ t. slot-idles _ (λ x z. (
                 at-calm i k 2 h (nots-taken k u h (bits-taken k v h a)) x,
-                pass-idles n (k + 1) want (put (turn v u (bitOf want k)) k path) (mark v u (bitOf want k) k last) (omega arith) (bit-written k x h (nots-taken k u h (bits-taken k v h a))) q,
+                pass-idles n (nextPlace v u p) (omega arith) (bit-written k x h (nots-taken k u h (bits-taken k v h a))) q,
               ))),
         )),
       ))
@@ -159,7 +160,7 @@ module _ (i : ℕ) where
   passes-idle (suc n) want out L =
       reset-idles (λ x. pick-if (λ (h : Host Listed). Idles Anything h (afterReset L)) _ _ _ (λ t. ends tt)
       (λ t. idles-bind (write-idles 8 0 0xF0 (afterReset L) (all-hear L) (none-copies L)
-      (idles-bind (pass-idles 64 0 want 0 0 refl (at-opened L) (λ e M.
+      (idles-bind (pass-idles 64 (begun want) refl (at-opened L) (λ e M.
       pick-if (λ (h : Host Listed). Idles Anything h M) _ _ _
       (λ a. pick-if (λ (h : Host Listed). Idles Anything h M) _ _ _ (λ b. ends tt)
       (λ b. pick-if (λ (h : Host Listed). Idles Anything h M) _ _ _ (λ c. ends tt) (λ c. passes-idle n (upTo (e .last - 1) (e .path)) (out ++ (e .path ∷ [])) M)))

@@ -113,7 +113,7 @@ read-records (suc room) s i at e =
 -- what is set up ---------------------------------------------------------------------------------
 
 -- so many records
-length-chips-from : (card : List ℕ) (i k : ℕ) → length (chipsFrom card i k) ≡ k
+pub length-chips-from : (card : List ℕ) (i k : ℕ) → length (chipsFrom card i k) ≡ k
 length-chips-from card i zero = refl
 length-chips-from card i (suc k) = ap suc (length-chips-from card (suc i) k)
 
