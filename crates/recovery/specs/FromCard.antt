@@ -1,12 +1,19 @@
 -- "Recovery after noise", from one set-up on: a card that is not refused, whose codes differ, and images and scratchpads of the sizes asked.
 use Prim.Native.Nat.{ℕ, _<_}
-use mathlib.Core.List.{List, _++_}
+use native.Mathlib.Omega.{arith}
+use mathlib.Core.List.{List, [], _∷_, _++_}
 use mathlib.Core.Path.{_≡_, refl, _∙_, ap, subst}
+use lib.ListN.{replicate, length-replicate}
+use Rattle.base.specs.Pick.{pick}
+use Rattle.base.specs.Bits.{both}
 use Rattle.chip.specs.Chip.{setUpChip}
+use Rattle.chip.specs.Kinds.{knownKind, imageSize, padSize}
 use Rattle.chip.specs.declared.Chip.{Chip}
+use Rattle.line.specs.Layout.{capped, imagesAsked, padsAsked}
 use Rattle.line.specs.declared.Event.{Event}
-use Rattle.card.specs.Card.{chips, setUpOf}
-use Rattle.histories.specs.Below.{Bytes}
+use Rattle.records.specs.Records.{headAt}
+use Rattle.card.specs.Card.{chips, wholeEntry, entryAt, readFrom, setUpOf}
+use Rattle.histories.specs.Below.{Bytes, all-below}
 use Rattle.histories.specs.SetUp.{kindIn, codeIn, codesFrom, codes-below, sets-up, tableFrom, SizesAsked, set-up-stands, set-up-codes, set-up-chip}
 use Rattle.histories.specs.Standing.{lineFrom}
 use Rattle.histories.specs.Joined.{runOn}
@@ -59,3 +66,17 @@ module _ (places : ℕ) (card : List ℕ) (n : ℕ) (cs : List Chip) (ms ss : Li
       let e = ap (λ (x : Chip). x .code) (set-up-chip places card n cs ms ss k (u .answered) i l) ∙ set-up-code (codeIn card i) (kindIn card i) in
       subst (λ (code : ℕ). TableRecovered i code (write code t bytes) (runOn (start ++ left) l₀) (runOn (start ++ right) l₀)) e
       (demand-3-on i l₀ (card-installed h) start left right p q t bytes g)
+
+-- there is such a set-up, whatever table was there before: a card of a DS28EC20 of code 5 and a DS2413 of code 6
+abbrev twoRecords : List ℕ
+twoRecords = 0x0A ∷ 0 ∷ 1 ∷ 0 ∷ 5 ∷ 0 ∷ 0 ∷ 0 ∷ 0 ∷ 0 ∷ 0 ∷ 0 ∷ 0x0A ∷ 0 ∷ 2 ∷ 0 ∷ 6 ∷ 0 ∷ 0 ∷ 0 ∷ 0 ∷ 0 ∷ 0 ∷ 0 ∷ []
+
+pub two-set-up : (n : ℕ) (cs : List Chip) → OneSetUp 16 twoRecords n cs (replicate 2624 0xFF) (replicate 32 0xFF) 2
+unfolding setUpOf capped readFrom entryAt headAt wholeEntry knownKind imagesAsked padsAsked imageSize padSize setUpChip both pick
+two-set-up n cs =
+    record {
+      answered = refl;
+      bytes = all-below 256 twoRecords refl;
+      differ = (((λ e. omega arith), tt), (tt, tt));
+      sizes = record { images = length-replicate {A = ℕ} 2624 0xFF; pads = length-replicate {A = ℕ} 32 0xFF };
+    }
