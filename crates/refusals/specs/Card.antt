@@ -23,6 +23,10 @@ sort TooMany = 2
 sort UnknownKind = 3
 sort WrongLength = 4
 
+-- a fault of the length: fewer than 4 bytes; or, of a known kind, a wrong length or a cut body
+abbrev pub lengthFault : Bool → Bool → Bool → Bool → Bool
+lengthFault short known whole ten = pick short true (pick known (pick whole (not ten) true) false)
+
 module _ (s : List ℕ) (at room : ℕ) where
   -- no record starts here
   abbrev pub ended : Bool
@@ -89,11 +93,8 @@ module _ (s : List ℕ) (at room : ℕ) where
       (by-then _ ten _ _ _ (apart sort WrongLength TooMany (λ p. omega arith))
       (by-else (ltb 0 room) _ _ (apart sort chip TooMany (λ p. omega arith))))))))
 
-  -- 3: fewer than 4 bytes; or a known kind, and a wrong length or a cut body
-  abbrev pub badLength : Bool
-  badLength = pick short true (pick known (pick whole (not ten) true) false)
-
-  pub refused-3 : Iff (entryAt s at room ≡ WrongLength) ((ended ≡ false) × (badLength ≡ true))
+  -- 3: there is a record, and a fault of its length
+  pub refused-3 : Iff (entryAt s at room ≡ WrongLength) ((ended ≡ false) × (lengthFault short known whole ten ≡ true))
   unfolding sort pick
   refused-3 = gives WrongLength (by-left _ ended _ _ _ (apart sort Done WrongLength (λ p. omega arith)) (lengths short whole known ten (ltb 0 room)))
     where
@@ -106,7 +107,7 @@ module _ (s : List ℕ) (at room : ℕ) where
       off : false ≡ true → ⊥
       off e = true≢false (sym e)
 
-      lengths : (a b c d e : Bool) → Iff (pick a WrongLength (pick b (pick c (pick d (pick e chip TooMany) WrongLength) UnknownKind) (pick c WrongLength UnknownKind)) ≡ WrongLength) (pick a true (pick c (pick b (not d) true) false) ≡ true)
+      lengths : (a b c d e : Bool) → Iff (pick a WrongLength (pick b (pick c (pick d (pick e chip TooMany) WrongLength) UnknownKind) (pick c WrongLength UnknownKind)) ≡ WrongLength) (lengthFault a c b d ≡ true)
       lengths true b c d e = yes refl refl
       lengths false true true true true = no (apart sort chip WrongLength (λ p. omega arith)) off
       lengths false true true true false = no (apart sort TooMany WrongLength (λ p. omega arith)) off
