@@ -12,3 +12,4 @@ pub mod Listing
 pub mod Public
 pub mod AfterTrouble
 pub mod Case
+pub mod TooFew

@@ -1,4 +1,5 @@
--- Demand 1 for the search: 8 and 5 "both without an event, counts 0"; and neither is given exactly where the table stands well.
+-- Demand 1 for the search: 8 and 5 "both without an event, counts 0"; and neither is given exactly where the table stands well. When 4 is
+-- given needs the codes on the line, and stands with the listing.
 use Prim.Native.Nat.{ℕ, _≤_}
 use native.Mathlib.Omega.{arith}
 use mathlib.Core.Bool.{Bool, true, false, true≢false}
@@ -51,12 +52,6 @@ module _ (list : List ℕ) (l : Attached) where
 
   pub refused-5 : Iff (searchOf list l .answer ≡ refused 5) ((ranged ≡ true) × (sized ≡ false))
   refused-5 = answers 5 (by-then _ ranged _ _ _ (numbered 8 5 (λ p. omega arith)) (by-else sized _ _ (past-4 5 (λ p. omega arith))))
-
-  -- 4, where neither 8 nor 5: the host had to stop for want of places
-  pub refused-4 : Iff (searchOf list l .answer ≡ refused 4) ((ranged ≡ true) × ((sized ≡ true) × (whole ≡ false)))
-  refused-4 =
-      answers 4 (by-then _ ranged _ _ _ (numbered 8 4 (λ p. omega arith))
-      (by-then _ sized _ _ _ (numbered 5 4 (λ p. omega arith)) (by-else whole _ _ (not-complete 4))))
 
   -- under 8 and 5 no event was put on the line, and list and line are as they were
   abbrev Eventless : Search → Type 0
