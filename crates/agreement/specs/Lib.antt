@@ -3,3 +3,4 @@ pub mod Slice
 pub mod InC
 pub mod AfterTroubleLent
 pub mod AfterTroubleC
+pub mod RefusedCard

@@ -6,15 +6,14 @@ use mathlib.Core.Path.{_≡_, refl, _∙_, ap, sym}
 use lib.ListN.{length}
 use lib.Seq.{take-length}
 use Rattle.chip.specs.declared.Chip.{Chip}
-use Rattle.chip.specs.Chip.{Whole}
 use Rattle.line.specs.Event.{eventOf}
-use Rattle.line.specs.Layout.{Lent, split, chipsOf}
+use Rattle.line.specs.Layout.{Lent, split}
 use Rattle.line.specs.Prefix.{event-holds}
 use Rattle.line.specs.Refusals.{chips-split}
 use Rattle.search.specs.Prefix.{search-has}
 use Rattle.search.specs.Search.{Attached, attached, leavesOf, searchOf}
 use Rattle.histories.specs.Histories.{codesOf}
-use Rattle.histories.specs.Standing.{lineFrom}
+use Rattle.histories.specs.Standing.{lineFrom, codes-chips}
 use Rattle.histories.specs.Calls.{Call, event-call, search-call, leavesCall, callsOn}
 
 -- a lent slice of chips with its buffers, as the table that it is: each place holds a chip
@@ -50,10 +49,6 @@ run-lent [] x = refl
 run-lent (c ∷ cs) x = run-lent cs (leavesLent c x) ∙ ap (callsOn cs) (leaves-lent c x)
 
 -- and its codes are those of the table
-codes-chips : (L : List Whole) → codesOf L ≡ codesIn (chipsOf L)
-codes-chips [] = refl
-codes-chips (w ∷ L) = ap (λ (cs : List ℕ). w .chip .code ∷ cs) (codes-chips L)
-
 pub codes-lent : (x : Lent) → codesOf (lineFrom (ofLent x)) ≡ codesIn (x .chips)
 codes-lent x =
     ap (λ (cs : List Chip). codesOf (split cs (x .images) (x .pads))) (take-length (x .chips))
