@@ -18,7 +18,9 @@ use Rattle.search.specs.Prefix.{searchRest, search-rest}
 use Rattle.search.specs.Search.{searched, attached, Search, outcome as found, searchOf}
 use Rattle.search.specs.declared.SearchAnswer.{SearchAnswer}
 use Rattle.card.specs.Fits.{AtMost, read-fits}
-use Rattle.coincide.specs.Coincide.{answered-once, carded-once, searched-once}
+use Rattle.coincide.specs.Answered.{answered-once}
+use Rattle.coincide.specs.Carded.{carded-once}
+use Rattle.coincide.specs.Searched.{searched-once}
 
 module _ (cs Z : List Chip) where
   -- what `line::take_event` leaves of a table, and `lent::take_event` of its chips

@@ -1,2 +1,10 @@
-pub mod Coincide
-pub mod Each
+pub mod Settled
+pub mod Answered
+pub mod Carded
+pub mod Searched
+pub mod Leaves
+pub mod Parts
+pub mod Lines
+pub mod Outer
+pub mod Together
+pub mod Lent

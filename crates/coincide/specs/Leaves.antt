@@ -1,0 +1,76 @@
+-- Two outcomes that a contract permits are the same: of base, crc and records the functions whose contract gives the answer, or the one thing that
+-- is changed, by an equation. Written by tools/ties.
+use mathlib.Core.Path.{refl, _∙_, sym}
+use Rattle.base.proofs as base
+use Rattle.crc.proofs as crc
+use Rattle.records.proofs as records
+use Rattle.coincide.specs.Settled.{Settled}
+
+-- base
+
+pub base-bit-of : Settled base.bit_of.ended base.bit_of.Reads.Learnt
+base-bit-of κs a x y v w p q = (p ∙ sym q, refl)
+
+pub base-is-same : Settled base.is_same.ended base.is_same.Reads.Learnt
+base-is-same κs a x y v w p q = (p ∙ sym q, refl)
+
+pub base-are-both : Settled base.are_both.ended base.are_both.Reads.Learnt
+base-are-both κs a x y v w p q = (p ∙ sym q, refl)
+
+pub base-filled8 : Settled base.filled8.ended base.filled8.Reads.Learnt
+base-filled8 κs a x y v w p q = (p ∙ sym q, refl)
+
+pub base-filled16 : Settled base.filled16.ended base.filled16.Reads.Learnt
+base-filled16 κs a x y v w p q = (p ∙ sym q, refl)
+
+pub base-byte-at : Settled base.byte_at.ended base.byte_at.Reads.Learnt
+base-byte-at κs a x y v w p q = (p ∙ sym q, refl)
+
+pub base-put-at : Settled base.put_at.ended base.put_at.Reads.Learnt
+base-put-at κs a x y v w p q = (refl, λ i. ((p ∙ sym q) i, w .1))
+
+pub base-fill : Settled base.fill.ended base.fill.Reads.Learnt
+base-fill κs a x y v w p q = (refl, λ i. ((p ∙ sym q) i, w .1))
+
+-- crc
+
+pub crc-bit8 : Settled crc.bit8.ended crc.bit8.Reads.Learnt
+crc-bit8 κs a x y v w p q = (p ∙ sym q, refl)
+
+pub crc-byte8 : Settled crc.byte8.ended crc.byte8.Reads.Learnt
+crc-byte8 κs a x y v w p q = (p ∙ sym q, refl)
+
+pub crc-bit16 : Settled crc.bit16.ended crc.bit16.Reads.Learnt
+crc-bit16 κs a x y v w p q = (p ∙ sym q, refl)
+
+pub crc-byte16 : Settled crc.byte16.ended crc.byte16.Reads.Learnt
+crc-byte16 κs a x y v w p q = (p ∙ sym q, refl)
+
+pub crc-crc8 : Settled crc.crc8.ended crc.crc8.Reads.Learnt
+crc-crc8 κs a x y v w p q = (p ∙ sym q, refl)
+
+pub crc-crc16 : Settled crc.crc16.ended crc.crc16.Reads.Learnt
+crc-crc16 κs a x y v w p q = (p ∙ sym q, refl)
+
+pub crc-of-code : Settled crc.of_code.ended crc.of_code.Reads.Learnt
+crc-of-code κs a x y v w p q = (p ∙ sym q, refl)
+
+pub crc-check-code : Settled crc.check_code.ended crc.check_code.Reads.Learnt
+crc-check-code κs a x y v w p q = (p ∙ sym q, refl)
+
+pub crc-byte-of : Settled crc.byte_of.ended crc.byte_of.Reads.Learnt
+crc-byte-of κs a x y v w p q = (p ∙ sym q, refl)
+
+-- records
+
+pub records-pair : Settled records.pair.ended records.pair.Reads.Learnt
+records-pair κs a x y v w p q = (p ∙ sym q, refl)
+
+pub records-code : Settled records.code.ended records.code.Reads.Learnt
+records-code κs a x y v w p q = (p ∙ sym q, refl)
+
+pub records-code-at : Settled records.code_at.ended records.code_at.Reads.Learnt
+records-code-at κs a x y v w p q = (p ∙ sym q, refl)
+
+pub records-head-at : Settled records.head_at.ended records.head_at.Reads.Learnt
+records-head-at κs a x y v w p q = (p ∙ sym q, refl)

@@ -1,0 +1,73 @@
+-- Two outcomes that a contract permits are the same: of card, lent, packed, toemsakun and terminal the functions whose contract gives the answer, or the one thing that
+-- is changed, by an equation. Written by tools/ties.
+use mathlib.Core.Path.{refl, _∙_, sym}
+use Rattle.card.proofs as card
+use Rattle.lent.proofs as lent
+use Rattle.packed.proofs as packed
+use Rattle.toemsakun.proofs as toemsakun
+use Rattle.terminal.proofs as terminal
+use Rattle.coincide.specs.Settled.{Settled, Fixed, two-facts}
+
+-- card
+
+pub card-entry-at : Settled card.entry_at.ended card.entry_at.Reads.Learnt
+card-entry-at κs a x y v w p q = (p ∙ sym q, refl)
+
+-- lent
+
+pub lent-record-sends : Fixed lent.record.sends.ended (λ M. lent.record.sends.clauses {M = M})
+lent-record-sends M 𝓤 H A mem run κs a g x y v w = two-facts 𝓤 _ _ _ (λ p q. (p ∙ sym q, refl))
+
+pub lent-record-reset : Fixed lent.record.reset.ended (λ M. lent.record.reset.clauses {M = M})
+lent-record-reset M 𝓤 H A mem run κs a g x y v w = two-facts 𝓤 _ _ _ (λ p q. (refl, λ i. ((p ∙ sym q) i, w .1)))
+
+pub lent-record-set-outside : Fixed lent.record.set_outside.ended (λ M. lent.record.set_outside.clauses {M = M})
+lent-record-set-outside M 𝓤 H A mem run κs a g x y v w = two-facts 𝓤 _ _ _ (λ p q. (refl, λ i. ((p ∙ sym q) i, w .1)))
+
+-- packed
+
+pub packed-pack : Settled packed.pack.ended packed.pack.Reads.Learnt
+packed-pack κs a x y v w p q = (p ∙ sym q, refl)
+
+pub packed-unpack : Settled packed.unpack.ended packed.unpack.Reads.Learnt
+packed-unpack κs a x y v w p q = (p ∙ sym q, refl)
+
+pub packed-is-packed : Settled packed.is_packed.ended packed.is_packed.Reads.Learnt
+packed-is-packed κs a x y v w p q = (p ∙ sym q, refl)
+
+pub packed-put-record : Settled packed.put_record.ended packed.put_record.Reads.Learnt
+packed-put-record κs a x y v w p q = (refl, λ i. ((p ∙ sym q) i, w .1))
+
+pub packed-table-of : Settled packed.table_of.ended packed.table_of.Reads.Learnt
+packed-table-of κs a x y v w p q = (p ∙ sym q, refl)
+
+pub packed-put-table : Settled packed.put_table.ended packed.put_table.Reads.Learnt
+packed-put-table κs a x y v w p q = (refl, λ i. ((p ∙ sym q) i, w .1))
+
+-- toemsakun
+
+pub toemsakun-tk-table-size : Settled toemsakun.tk_table_size.ended toemsakun.tk_table_size.Reads.Learnt
+toemsakun-tk-table-size κs a x y v w p q = (p ∙ sym q, refl)
+
+pub toemsakun-tk-images-size : Settled toemsakun.tk_images_size.ended toemsakun.tk_images_size.Reads.Learnt
+toemsakun-tk-images-size κs a x y v w p q = (p .0 ∙ sym (q .0), refl)
+
+pub toemsakun-tk-pads-size : Settled toemsakun.tk_pads_size.ended toemsakun.tk_pads_size.Reads.Learnt
+toemsakun-tk-pads-size κs a x y v w p q = (p .0 ∙ sym (q .0), refl)
+
+-- terminal
+
+pub terminal-refused-card : Settled terminal.refused_card.ended terminal.refused_card.Reads.Learnt
+terminal-refused-card κs a x y v w p q = (p ∙ sym q, refl)
+
+pub terminal-word : Settled terminal.word.ended terminal.word.Reads.Learnt
+terminal-word κs a x y v w p q = (p ∙ sym q, refl)
+
+pub terminal-say-word : Settled terminal.say_word.ended terminal.say_word.Reads.Learnt
+terminal-say-word κs a x y v w p q = (refl, refl)
+
+pub terminal-image-room : Settled terminal.image_room.ended terminal.image_room.Reads.Learnt
+terminal-image-room κs a x y v w p q = (p .0 ∙ sym (q .0), refl)
+
+pub terminal-pad-room : Settled terminal.pad_room.ended terminal.pad_room.Reads.Learnt
+terminal-pad-room κs a x y v w p q = (p .0 ∙ sym (q .0), refl)
