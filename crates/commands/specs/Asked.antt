@@ -1,15 +1,15 @@
 -- When a copy is carried out. Document 01, 55h: "If they equal TA1, TA2, E/S, and PF = 0, and T's page isn't closed, the copy is carried
 -- out". That such a slot carries one out is `carries-out`, in the crate `recovery`; here: no other slot does.
-use Prim.Native.Nat.{ℕ, _%_, _≤_}
+use Prim.Native.Nat.{ℕ, _≤_}
 use mathlib.Core.Bool.{Bool, true, false, not, true≢false}
 use mathlib.Core.Path.{_≡_, refl, _∙_, ap, sym, subst}
 use lib.Dec.{eqb, ltb}
 use lib.ListN.{getD}
-use borrow.Author.Tests.{ltb-false, eqb-true}
+use borrow.Author.Tests.{ltb-false, eqb-true, not-true}
 use Rattle.base.specs.Pick.{pick, pick-if, pick-both, pick-false}
 use Rattle.base.specs.Bits.{filled, both}
 use Rattle.base.specs.Both.{both-holds}
-use Rattle.scratchpad.specs.Registers.{registers, pf, withAA}
+use Rattle.scratchpad.specs.Registers.{registers, eOf, pf, withAA}
 use Rattle.scratchpad.specs.Map.{Map}
 use Rattle.scratchpad.specs.Scratchpad.{inPage, pageAtHand, addressIn, writeAddress, writeData, byteIn, carriedOut, threeBytesIn, copyEnd, memoryBegins}
 use Rattle.scratchpad.specs.declared.Hand.{Hand}
@@ -47,13 +47,8 @@ pub record Asked (M : Map) (w : Whole) (v : Bool) (l : Level) : Type 0 where
 -- a slot that carries out a copy: where it leaves a chip, and what it was asked by
 pub record Carried (w : Whole) (v : Bool) (l : Level) (t : ChipAfter) : Type 0 where
   pub leaves : let r = w .chip .registers in
-      t ≡ left (withLevel (Memory (memory.Copied false)) (withRegisters (registers (r .t) (withAA (r .es))) (w .chip))) (Copy (r .t) (r .es % 32))
+      t ≡ left (withLevel (Memory (memory.Copied false)) (withRegisters (registers (r .t) (withAA (r .es))) (w .chip))) (Copy (r .t) (eOf (r .es)))
   pub asked : Asked (chipMap (w .chip)) w v l
-
--- what is not so
-not-true : (b : Bool) → not b ≡ true → b ≡ false
-not-true true e = absurd (true≢false (sym e))
-not-true false e = refl
 
 -- the third byte of Copy
 module _ (w : Whole) (v : Bool) (address count bits : ℕ) where

@@ -13,7 +13,7 @@ use lib.ListN.{length, getD}
 use lib.Seq.{getD-set-same, getD-set-other}
 use borrow.Author.Tests.{ltb-true}
 use Rattle.base.specs.Pick.{pick, pick-if}
-use Rattle.scratchpad.specs.Registers.{registers, withAA, ruleOfByte}
+use Rattle.scratchpad.specs.Registers.{registers, eOf, withAA, ruleOfByte}
 use Rattle.scratchpad.specs.Map.{Map, ruleBy}
 use Rattle.scratchpad.specs.Scratchpad.{inPage}
 use Rattle.scratchpad.specs.declared.Registers.{Registers}
@@ -57,7 +57,7 @@ byRule m a sent =
 
 -- an offset "from T mod 32 to E"
 abbrev pub InCopy : Registers → ℕ → Type 0
-InCopy r k = (r .t % 32 ≤ k) × (k ≤ r .es % 32)
+InCopy r k = (r .t % 32 ≤ k) × (k ≤ eOf (r .es))
 
 -- the address of an offset in T's page
 abbrev pub addressAt : Registers → ℕ → ℕ
@@ -116,7 +116,7 @@ module _ (w : Whole) where
 
   -- the memory after a copy that is carried out
   abbrev after : List ℕ
-  after = copied ds28ec20 (w .memory) (w .pad) (inPage (r .t) 0) (r .t % 32) (spanOf (r .t) (r .es % 32))
+  after = copied ds28ec20 (w .memory) (w .pad) (inPage (r .t) 0) (r .t % 32) (spanOf (r .t) (eOf (r .es)))
 
   -- each offset from T mod 32 to E: T's page, being open, ends inside the memory
   each-copied : length (w .memory) ≡ 0x0A40 → (v : Bool) → Asked ds28ec20 w v (w .chip .level) → (k : ℕ) → InCopy r k
@@ -126,14 +126,14 @@ module _ (w : Whole) where
       let h = open-below (r .t / 32 * 32 + 0) _ _ (q .not-closed) in
       let j : r .t % 32 + (k - r .t % 32) ≡ k = omega arith in
       let a : r .t / 32 * 32 + 0 + (r .t % 32 + (k - r .t % 32)) ≡ addressAt r k = omega arith in
-      let e = copied-byte ds28ec20 (w .memory) (w .pad) (r .t / 32 * 32 + 0) (r .t % 32) (r .es % 32 % 32 + 1 - r .t % 32) (k - r .t % 32) (omega arith) (omega arith) in
+      let e = copied-byte ds28ec20 (w .memory) (w .pad) (r .t / 32 * 32 + 0) (r .t % 32) (eOf (r .es) % 32 + 1 - r .t % 32) (k - r .t % 32) (omega arith) (omega arith) in
       ap (λ (x : ℕ). getD after x 0) (sym a) ∙ e ∙ (λ i. byRule (w .memory) (a i) (getD (w .pad) (j i) 0))
 
   -- every other address
   other-stays : (a : ℕ) → ((k : ℕ) → InCopy r k → a ≡ addressAt r k → ⊥) → getD after a 0 ≡ getD (w .memory) a 0
   unfolding inPage spanOf
   other-stays a h =
-      other-byte ds28ec20 (w .memory) (w .pad) (r .t / 32 * 32 + 0) (r .t % 32) (r .es % 32 % 32 + 1 - r .t % 32) a
+      other-byte ds28ec20 (w .memory) (w .pad) (r .t / 32 * 32 + 0) (r .t % 32) (eOf (r .es) % 32 + 1 - r .t % 32) a
       (λ j i e. h (r .t % 32 + j) (omega arith, omega arith) (omega arith))
 
   -- a slot of the value v that carries out a copy
@@ -143,7 +143,7 @@ module _ (w : Whole) where
       let M = map-is (w .chip .kind) kind in
       let chip = withLevel (Memory (memory.Copied false)) (withRegisters (registers (r .t) (0x80 + r .es % 0x80)) (w .chip)) in
       let e : takesOf v w ≡ whole chip after (w .pad)
-      = ap (wholeAfter w) (level-carried w v (w .chip .level) c .leaves) ∙ ap (λ (N : Map). whole chip (copied N (w .memory) (w .pad) (inPage (r .t) 0) (r .t % 32) (spanOf (r .t) (r .es % 32))) (w .pad)) M in
+      = ap (wholeAfter w) (level-carried w v (w .chip .level) c .leaves) ∙ ap (λ (N : Map). whole chip (copied N (w .memory) (w .pad) (inPage (r .t) 0) (r .t % 32) (spanOf (r .t) (eOf (r .es)))) (w .pad)) M in
       subst (CopiedInFull w) (sym e)
       (record {
         bytes-copied = each-copied (g .memory ∙ image-is (w .chip .kind) kind) v (copy-asked v w kind c);
