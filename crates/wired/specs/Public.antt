@@ -98,7 +98,7 @@ module _ (l : Attached) (s : Stands l) where
   slot-says b e h = says-by e (plan.Slot b) (slot-plan b e (lineFrom l) h)
 
   -- "A slot's value is the AND of the host's bit and the bit of each chip that is sending": a slot answers 1 exactly if the host's bit and
-  -- the bit of every chip is 1, and otherwise 0
+  -- the bit of every chip is 1, and otherwise 0; "a chip with nothing to send sends 1" (`nothing-sends-1`), so these are the chips that send
   pub slot-shows-and : (b : Bool) (e : Event) → Writes b e
       → Shows ((b ≡ true) × AllSendOne (lineFrom l)) ((b ≡ true) × AllSendOne (lineFrom l) → ⊥) (saysOf e l)
   slot-shows-and b e h =
