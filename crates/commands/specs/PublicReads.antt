@@ -13,7 +13,7 @@ use Rattle.histories.specs.Histories.{at, run, answers}
 use Rattle.histories.specs.Standing.{lineFrom}
 use Rattle.histories.specs.Joined.{runOn, answersOn, run-joined, answers-joined}
 use Rattle.histories.specs.Sent.{bitsFrom}
-use Rattle.recovery.specs.Sessions.{writeBits, write, InPage}
+use Rattle.recovery.specs.Sessions.{writeBits, write, WithinPage}
 use Rattle.recovery.specs.Public.{chipOf, TableInstalled, line-installed}
 use Rattle.commands.specs.ShortAddress.{matched}
 use Rattle.commands.specs.Streams.{thenOnes, butLevel}
@@ -63,15 +63,15 @@ module _ (i : ℕ) (l : Attached) (s : TableInstalled i l) where
   read-memory-stays-on t h n = leaves (readMemory t) n _ (memory-stays i (lineFrom l) (line-installed i l s) t h n)
 
   -- THEOREM: "After offset 31 the chip sends the CRC-16 of command, address and data as it took them, before the rule of a byte, then ones."
-  pub write-scratchpad-on : (t : ℕ) (bytes : List ℕ) → InPage t bytes → t % 32 + length bytes ≡ 32 → (n : ℕ)
+  pub write-scratchpad-on : (t : ℕ) (bytes : List ℕ) → WithinPage t bytes → t % 32 + length bytes ≡ 32 → (n : ℕ)
       → answersOn (reading code (writeBits t bytes) n) l ≡ readingAnswers code (writeBits t bytes) (thenOnes n (inverted (writeCrc t bytes)))
   write-scratchpad-on t bytes g f n = answered (writeBits t bytes) n _ (write-answers i (lineFrom l) (line-installed i l s) t bytes g f n)
 
   -- THEOREM: and what it leaves: T, E/S 1Fh, the scratchpad below T mod 32 as it was, and from there on each byte through the rule of a byte
-  pub write-scratchpad-leaves-on : (t : ℕ) (bytes : List ℕ) → InPage t bytes → t % 32 + length bytes ≡ 32 → (n : ℕ)
+  pub write-scratchpad-leaves-on : (t : ℕ) (bytes : List ℕ) → WithinPage t bytes → t % 32 + length bytes ≡ 32 → (n : ℕ)
       → butLevel (chipOf i (runOn (reading code (writeBits t bytes) n) l)) ≡ butLevel (filledFrom t bytes own)
   write-scratchpad-leaves-on t bytes g f n = leaves (writeBits t bytes) n _ (write-leaves i (lineFrom l) (line-installed i l s) t bytes g f n)
 
   -- THEOREM: a write that stops where it will: the chip's whole state
-  pub part-written-on : (t : ℕ) (bytes : List ℕ) → InPage t bytes → chipOf i (runOn (write code t bytes) l) ≡ writtenFrom t bytes own
+  pub part-written-on : (t : ℕ) (bytes : List ℕ) → WithinPage t bytes → chipOf i (runOn (write code t bytes) l) ≡ writtenFrom t bytes own
   part-written-on t bytes g = ap (at i) (run-joined (write code t bytes) l (s .stands)) ∙ part-written i (lineFrom l) (line-installed i l s) t bytes g

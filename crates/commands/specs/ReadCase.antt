@@ -19,7 +19,7 @@ use Rattle.histories.specs.Below.{all-below}
 use Rattle.histories.specs.Histories.{at, run, answers}
 use Rattle.histories.specs.Keeps.{Good}
 use Rattle.histories.specs.Sent.{bitsFrom, bitsOf}
-use Rattle.recovery.specs.Sessions.{writeBits, write, InPage}
+use Rattle.recovery.specs.Sessions.{writeBits, write, WithinPage}
 use Rattle.recovery.specs.Installed.{Installed, installed-run}
 use Rattle.recovery.specs.Case.{fresh-range}
 use Rattle.commands.specs.Streams.{thenOnes}
@@ -48,7 +48,7 @@ unfolding setUpChip both pick
 line-installed = record { attached = omega arith; differ = (((λ e. omega arith), tt), (tt, tt)); codes = all-below _ _ refl; kind = refl; good = fresh }
 
 -- 12h and 34h for 001Eh
-two : InPage 0x001E (0x12 ∷ 0x34 ∷ [])
+two : WithinPage 0x001E (0x12 ∷ 0x34 ∷ [])
 unfolding both pick
 two = record { address = omega arith; some = omega arith; fits = omega arith; small = all-below _ _ refl }
 

@@ -100,7 +100,7 @@ module _ (c : Chip) (m : List ℕ) (rc : Bool) (r : Registers) (s : List ℕ) wh
       (streams-places c m rc r s (λ b. b) (r .t + 65536 * r .es) 23 ReadRegisters (padFrom o crcBefore 31) rest
       registers-send registers-move registers-lead (streams-pad o crcBefore l) 23 0 refl))
 
--- THEOREM: a DS28EC20 that has taken AAh, whatever else its state and whatever the values of the slots
+-- THEOREM: a DS28EC20 that has taken AAh, whatever else its state and whatever the values of the slots; its T has 16 bits
 pub scratchpad-read : (w : Whole) → Good w → w .chip .kind ≡ 1 → w .chip .registers .t < 0x10000 → w .chip .level ≡ Memory (ReadRegisters 0)
     → Streams (scratchpadBits (w .chip .registers) (w .pad)) w
 scratchpad-read w g e h l =

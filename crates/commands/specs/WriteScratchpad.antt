@@ -14,7 +14,7 @@ use Rattle.chip.specs.With.{withRc, withLevel, withRegisters}
 use Rattle.chip.specs.Chip.{Whole, whole, levelReset}
 use Rattle.chip.specs.declared.Level.the-variants.{Memory}
 use Rattle.histories.specs.Histories.{at, run, answers}
-use Rattle.recovery.specs.Sessions.{writeBits, write, InPage}
+use Rattle.recovery.specs.Sessions.{writeBits, write, WithinPage}
 use Rattle.recovery.specs.Among.{among-at}
 use Rattle.recovery.specs.Goes.{Goes, ofKind}
 use Rattle.recovery.specs.Written.{ruled, dataFrom, overlaid, wrote, goes-write, goes-filled}
@@ -42,7 +42,7 @@ writtenFrom t bytes w =
 abbrev pub filledFrom : ℕ → List ℕ → Whole → Whole
 filledFrom t bytes w = whole (withRc true (withRegisters (registers t 0x1F) (w .chip))) (w .memory) (take (t % 32) (w .pad) ++ ruled (w .memory) t bytes)
 
-module _ (i : ℕ) (L : List Whole) (s : Installed i L) (t : ℕ) (bytes : List ℕ) (g : InPage t bytes) where
+module _ (i : ℕ) (L : List Whole) (s : Installed i L) (t : ℕ) (bytes : List ℕ) (g : WithinPage t bytes) where
   -- chip i, its code, and its registers after the reset
   abbrev own : Whole
   own = at i L

@@ -65,14 +65,14 @@ pub record Page (t : ℕ) (bytes : List ℕ) : Type 0 where
   pub small : Bytes bytes
 
 -- bytes for an address of 16 bits, at least one and no more than its page has from there on
-pub record InPage (t : ℕ) (bytes : List ℕ) : Type 0 where
+pub record WithinPage (t : ℕ) (bytes : List ℕ) : Type 0 where
   pub address : t < 0x10000
   pub some : 0 < length bytes
   pub fits : t % 32 + length bytes ≤ 32
   pub small : Bytes bytes
 
 -- a whole page is such
-pub page-in : (t : ℕ) (bytes : List ℕ) → Page t bytes → InPage t bytes
+pub page-in : (t : ℕ) (bytes : List ℕ) → Page t bytes → WithinPage t bytes
 page-in t bytes g =
     let z = g .offset in
     let f = g .full in

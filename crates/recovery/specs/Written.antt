@@ -29,7 +29,7 @@ use Rattle.chip.specs.declared.Chip.{Chip}
 use Rattle.chip.specs.declared.Level.the-variants.{Rom, FunctionCommand, Memory}
 use Rattle.histories.specs.Below.{Bytes, first-below, others-below}
 use Rattle.histories.specs.Sent.{bitsFrom, bitsOf}
-use Rattle.recovery.specs.Sessions.{opening, writeBits, Page, InPage, page-in}
+use Rattle.recovery.specs.Sessions.{opening, writeBits, Page, WithinPage, page-in}
 use Rattle.recovery.specs.Filled.{filledBy, byte-taken}
 use Rattle.recovery.specs.Goes.{Goes, goes-from, goes-to, goes-append, ec20, goes-opening, goes-0F, goes-address}
 
@@ -145,7 +145,7 @@ module _ (c : Chip) (m : List ℕ) (t : ℕ) where
       (registers t (t % 32 + (length bytes - 1))) (overlaid (t % 32) (ruled m t bytes) s)
 
   -- THEOREM: from the function level on, silent all along
-  pub goes-write : (bytes : List ℕ) (r : Registers) (s : List ℕ) → InPage t bytes → length s ≡ 32
+  pub goes-write : (bytes : List ℕ) (r : Registers) (s : List ℕ) → WithinPage t bytes → length s ≡ 32
       → Goes (writeBits t bytes) (ec20 c m (FunctionCommand 0 0) true r s) (wrote bytes s)
   unfolding crcOf crcOfAddress
   goes-write [] r s g l = absurd (let f = g .some in omega arith)
@@ -162,7 +162,7 @@ module _ (c : Chip) (m : List ℕ) (t : ℕ) where
       (λ j. ec20 c m (Memory (dataFrom (o + length (b ∷ bs)) (crcOf poly16 n (b ∷ bs)))) true (registers t (o + sym k j)) (overlaid o (ruled m (page-own t j) (b ∷ bs)) s)))))
 
   -- THEOREM: with bytes up to offset 31 the CRC-16 comes next
-  pub goes-filled : (bytes : List ℕ) (r : Registers) (s : List ℕ) → InPage t bytes → t % 32 + length bytes ≡ 32 → length s ≡ 32
+  pub goes-filled : (bytes : List ℕ) (r : Registers) (s : List ℕ) → WithinPage t bytes → t % 32 + length bytes ≡ 32 → length s ≡ 32
       → Goes (writeBits t bytes) (ec20 c m (FunctionCommand 0 0) true r s)
       (ec20 c m (Memory (SendCrc 0 (crcOf poly16 0 (0x0F ∷ t % 256 ∷ t / 256 ∷ bytes)))) true (registers t 0x1F) (take (t % 32) s ++ ruled m t bytes))
   goes-filled bytes r s g f l =
