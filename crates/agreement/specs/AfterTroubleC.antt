@@ -74,7 +74,7 @@ codes-fit [] small = none-below _
 codes-fit (c ∷ cs) small =
     one-below _ (c .code) (codesIn cs) (code-fits c (λ x m. small x (Memᴰ·append-left (packedTable cs) m))) (codes-fit cs (λ x m. small x (Memᴰ·append-right (packed c) m)))
 
-bytes-fit : (b : LentBytes) → StandsAsBytes b → Codes (codesIn (unpackedLent b .chips))
+pub bytes-fit : (b : LentBytes) → StandsAsBytes b → Codes (codesIn (unpackedLent b .chips))
 bytes-fit b s = codes-fit (unpackedLent b .chips) (rw (table-is (b .table) (s .table)) (s .bytes))
 
 -- M-111 of `tk_search`: after any calls of it and of `tk_event`, as before them

@@ -17,9 +17,13 @@ use Rattle.toemsakun.proofs.tk_event.Reads as tk-event-reads
 use Rattle.toemsakun.proofs.tk_search as tk-search
 use Rattle.toemsakun.proofs.tk_search.Reads as tk-search-reads
 use Rattle.histories.specs.Calls.{event-call, search-call}
-use Rattle.agreement.specs.Slice.{ofLent}
+use Rattle.histories.specs.Below.{Codes}
+use Rattle.histories.specs.Histories.{codesOf}
+use Rattle.histories.specs.Standing.{lineFrom}
+use Rattle.agreement.specs.Slice.{ofLent, codes-lent}
 use Rattle.agreement.specs.InC.{LentBytes, unpackedLent, searchIn, leavesBytes, leaves-bytes, searched-after}
-use Rattle.calls.specs.Form.{Meets, Form}
+use Rattle.agreement.specs.AfterTroubleC.{StandsAsBytes, bytes-fit}
+use Rattle.calls.specs.Form.{Meets, Form, Well}
 
 -- what `tk_search` tells: how many codes it lists, or minus a refusal number; the list; and the counts
 pub record Told : Type 0 where
@@ -106,6 +110,14 @@ inC = record {
   event-is = event-is;
   search-is = search-is;
 }
+
+-- numbers below 256, as every `uint8_t` is, that neither 8 nor 5 refuses are such a table; its codes have 64 bits. That these are the bytes to
+-- which `tk_search` answers neither -8 nor -5 is `given-neither-c`, in the crate `agreement`
+pub bytes-well : (x : LentBytes) → StandsAsBytes x → Well inC x
+bytes-well x s = record { is-table = s .table; stands = s .stands }
+
+pub bytes-codes : (x : LentBytes) → StandsAsBytes x → Codes (codesOf (lineFrom (ofLent (unpackedLent x))))
+bytes-codes x s = rw (codes-lent (unpackedLent x)) (bytes-fit x s)
 
 -- what a caller lends, behind a reference
 abbrev lentAs : {X : Type 0} → X → RefT X
