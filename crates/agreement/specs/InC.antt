@@ -1,8 +1,9 @@
 -- The calls of the library for C on bytes, and that they are the lent calls on the chips that the bytes stand for, packed again.
 use Prim.Native.Nat.{ℕ}
-use mathlib.Core.Bool.{true}
+use mathlib.Core.Bool.{Bool, true, false, true≢false}
 use mathlib.Core.List.{List, [], _∷_}
 use mathlib.Core.Path.{_≡_, refl, _∙_, ap, sym}
+use lib.IntN.{ℤ, pos, negsuc}
 use Rattle.base.specs.Pick.{pick-true}
 use Rattle.line.specs.Layout.{Lent, lent}
 use Rattle.search.specs.Search.{searchOf}
@@ -37,6 +38,14 @@ leavesBytes (search-call list) b = let o = searchIn list b in record { table = o
 abbrev pub runBytes : List Call → LentBytes → LentBytes
 runBytes [] b = b
 runBytes (c ∷ cs) b = runBytes cs (leavesBytes c b)
+
+-- a number from 0 on is not one below 0
+pub not-below : (m n : ℕ) → pos m ≡ negsuc n → ⊥
+not-below m n e = true≢false (sym (ap isBelow e))
+  where
+    isBelow : ℤ → Bool
+    isBelow (pos n) = false
+    isBelow (negsuc n) = true
 
 -- a call on the bytes of chips is the call on the chips, packed
 search-packed : (list : List ℕ) (x : Lent) → searchIn list (packedLent x) ≡ packedSearch (searchOf list (ofLent x))

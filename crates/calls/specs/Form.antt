@@ -39,26 +39,26 @@ pub record Form : Type 3 where
       → Meets a (listing (searchOf list (table x))) (table y) (searchOf list (table x) .line) (IsTable y)
 
 -- a call, with what it told
-pub data Asked (F : Form) : Type 0 where
-  event-asked : Event → F .Answer → Asked F
-  search-asked : List ℕ → F .Listing → Asked F
+pub data CallTold (F : Form) : Type 0 where
+  event-told : Event → F .Answer → CallTold F
+  search-told : List ℕ → F .Listing → CallTold F
 
 -- the contract of the function called permits that it leaves y of x
-abbrev pub Permits : (F : Form) → Asked F → F .Loan → F .Loan → Type 2
-Permits F (event-asked e a) x y = F .PermitsEvent e x a y
-Permits F (search-asked list a) x y = F .PermitsSearch list x a y
+abbrev pub Permits : (F : Form) → CallTold F → F .Loan → F .Loan → Type 2
+Permits F (event-told e a) x y = F .PermitsEvent e x a y
+Permits F (search-told list a) x y = F .PermitsSearch list x a y
 
 -- calls one after the other, from x to y
-pub data Ran (F : Form) : List (Asked F) → F .Loan → F .Loan → Type 2 where
+pub data Ran (F : Form) : List (CallTold F) → F .Loan → F .Loan → Type 2 where
   no-more : {x : F .Loan} → Ran F [] x x
-  and-then : {c : Asked F} {cs : List (Asked F)} {x y z : F .Loan} → Permits F c x y → Ran F cs y z → Ran F (c ∷ cs) x z
+  and-then : {c : CallTold F} {cs : List (CallTold F)} {x y z : F .Loan} → Permits F c x y → Ran F cs y z → Ran F (c ∷ cs) x z
 
 -- the call alone
-abbrev pub callOf : {F : Form} → Asked F → Call
-callOf (event-asked e a) = event-call e
-callOf (search-asked list a) = search-call list
+abbrev pub callOf : {F : Form} → CallTold F → Call
+callOf (event-told e a) = event-call e
+callOf (search-told list a) = search-call list
 
-abbrev pub callsOf : {F : Form} → List (Asked F) → List Call
+abbrev pub callsOf : {F : Form} → List (CallTold F) → List Call
 callsOf [] = []
 callsOf (c ∷ cs) = callOf c ∷ callsOf cs
 
@@ -74,12 +74,12 @@ module _ (F : Form) where
     pub is-table : F .IsTable y
 
   -- by one call
-  permits-leaves : (c : Asked F) {x y : F .Loan} → F .IsTable x → Permits F c x y → Leaves y (leavesCall (callOf c) (F .table x))
-  permits-leaves (event-asked e a) {x} {y} i p = let m = F .event-is e x a y i p in record { table = m .leaves; is-table = m .is-table }
-  permits-leaves (search-asked list a) {x} {y} i p = let m = F .search-is list x a y i p in record { table = m .leaves; is-table = m .is-table }
+  permits-leaves : (c : CallTold F) {x y : F .Loan} → F .IsTable x → Permits F c x y → Leaves y (leavesCall (callOf c) (F .table x))
+  permits-leaves (event-told e a) {x} {y} i p = let m = F .event-is e x a y i p in record { table = m .leaves; is-table = m .is-table }
+  permits-leaves (search-told list a) {x} {y} i p = let m = F .search-is list x a y i p in record { table = m .leaves; is-table = m .is-table }
 
   -- by calls one after the other
-  pub ran-leaves : {cs : List (Asked F)} {x y : F .Loan} → F .IsTable x → Ran F cs x y → Leaves y (callsOn (callsOf cs) (F .table x))
+  pub ran-leaves : {cs : List (CallTold F)} {x y : F .Loan} → F .IsTable x → Ran F cs x y → Leaves y (callsOn (callsOf cs) (F .table x))
   ran-leaves i no-more = record { table = refl; is-table = i }
   ran-leaves i (and-then {c = c} {cs = cs} p r) =
       let q = permits-leaves c i p in
@@ -88,7 +88,7 @@ module _ (F : Form) where
 
 -- a table that neither 8 nor 5 refuses is refused by neither after any calls
 abbrev pub StandsOn : Form → Type 2
-StandsOn F = (cs : List (Asked F)) (x y : F .Loan) → Well F x → Ran F cs x y → Well F y
+StandsOn F = (cs : List (CallTold F)) (x y : F .Loan) → Well F x → Ran F cs x y → Well F y
 
 -- THEOREM, in each form
 pub stands-on : (F : Form) → StandsOn F

@@ -3,39 +3,37 @@
 -- demand 3: so demand 3 begins at "one set-up", in each form. What stood in the table before does not matter.
 use Prim.Native.Nat.{ℕ, zero, suc, _*_, _/_, _<_}
 use native.Mathlib.Omega.{arith}
-use mathlib.Core.Bool.{true}
-use mathlib.Core.List.{List, [], _∷_, _++_, append-nil}
+use mathlib.Core.List.{List, [], _++_, append-nil}
 use mathlib.Core.Path.{_≡_, refl, _∙_, ap, sym}
 use contract.Lifetimes.{Lfts}
 use denote.Ref.{RefT}
 use denote.Triple.Clauses.{atExit}
 use base.Logic.{id⊢}
-use lib.IntN.{ℤ, pos, negsuc}
+use lib.IntN.{ℤ, pos}
 use lib.ListN.{length, take, drop}
 use lib.Seq.{take-at}
 use Rattle.chip.specs.declared.Chip.{Chip}
-use Rattle.line.specs.Layout.{Lent, lent, capped}
+use Rattle.line.specs.Layout.{lent, capped}
 use Rattle.line.specs.declared.Table.{Table}
-use Rattle.card.specs.Card.{Carded, chips, carded, Read, all, none, after, onward, readFrom, entryAt, SetUp, setUp, fromRead, setUpOf}
+use Rattle.card.specs.Card.{Carded, chips, carded, Read, all, none, readFrom, SetUp, setUp, fromRead, setUpOf}
 use Rattle.card.specs.declared.CardAnswer.{CardAnswer}
-use Rattle.card.specs.declared.Entry.{Entry}
-use Rattle.card.specs.declared.Entry.the-variants as entry
 use Rattle.card.proofs.set_up as set-up
 use Rattle.card.proofs.set_up.Reads as set-up-reads
 use Rattle.lent.proofs.set_up as lent-set-up
-use Rattle.search.specs.Search.{Attached, attached}
+use Rattle.search.specs.Search.{attached}
 use Rattle.packed.specs.Packed.{recordSize, packedTable, unpackedTable, isTable}
 use Rattle.packed.specs.Laws.{table-length, unpacked-table, of-table}
-use Rattle.toemsakun.specs.Library.{minus, CardLeft, cardLeft, cardFrom, cardBytes}
+use Rattle.toemsakun.specs.Library.{CardLeft, cardLeft, cardFrom, cardBytes}
 use Rattle.toemsakun.proofs.tk_card as tk-card
 use Rattle.toemsakun.proofs.tk_card.Reads as tk-card-reads
 use Rattle.histories.specs.Below.{Bytes}
 use Rattle.histories.specs.SetUp.{kindIn, codesFrom, chipsFrom, length-chips-from, sets-up, tableFrom, SizesAsked, set-up-stands}
+use Rattle.refusals.specs.Reading.{card-refused}
 use Rattle.recovery.specs.Installed.{Differ}
 use Rattle.recovery.specs.Public.{TableInstalled}
-use Rattle.recovery.specs.FromCard.{OneSetUp, card-installed}
+use Rattle.recovery.specs.FromCard.{card-installed}
 use Rattle.agreement.specs.Slice.{ofLent}
-use Rattle.agreement.specs.InC.{LentBytes, unpackedLent}
+use Rattle.agreement.specs.InC.{LentBytes, unpackedLent, not-below}
 use Rattle.calls.specs.Form.{Form, Well}
 use Rattle.calls.specs.Plain.{plain}
 use Rattle.calls.specs.Slice.{World, Learnt, slice}
@@ -68,12 +66,14 @@ pub record PermitsCard (card : List ℕ) (places : ℕ) (t : Table) (a : Carded)
       (atExit set-up.ended κs (bytes, (places, (t, tt))) (tt, (tt, (tt, tt))))
   pub tells : a ≡ carded answer
 
+pub card-is : (card : List ℕ) (places : ℕ) (t : Table) (a : Carded) (u : Table) → PermitsCard card places t a u → setUp a (u .n) (u .chips) ≡ setUpOf places card (t .n) (t .chips)
+card-is card places t a u p = (λ j. setUp (p .tells j) (u .n) (u .chips)) ∙ p .permits ∙ λ j. setUpOf places (p .from-bytes j) (t .n) (t .chips)
+
 -- THEOREM: what it leaves, with images and scratchpads of the sizes asked
 pub from-card : (card : List ℕ) (places : ℕ) (t u : Table) (k : ℕ) (ms ss : List ℕ) → PermitsCard card places t (chips k) u
     → SizesAsked (attached (u .n) (u .chips) ms ss) → SetUpBy plain card k (attached (u .n) (u .chips) ms ss)
 from-card card places t u k ms ss p z =
-    let e : setUp (chips k) (u .n) (u .chips) ≡ setUpOf places card (t .n) (t .chips)
-    = (λ j. setUp (p .tells j) (u .n) (u .chips)) ∙ p .permits ∙ λ j. setUpOf places (p .from-bytes j) (t .n) (t .chips) in
+    let e = card-is card places t (chips k) u p in
     set-up-by plain (attached (u .n) (u .chips) ms ss) places card (t .n) (t .chips) ms ss k tt
     (ap (λ (s : SetUp). attached (s .count) (s .table) ms ss) e) (sym (ap (λ (s : SetUp). s .answer) e)) z
 
@@ -108,40 +108,25 @@ pub record PermitsCardLent (card : List ℕ) (cs : List Chip) (a : Carded) (ds :
       (atExit lent-set-up.ended κs (bytes, (places, tt)) (tt, (ds, tt))))
   pub tells : a ≡ carded answer
 
+pub card-is-lent : (card : List ℕ) (cs : List Chip) (a : Carded) (ds : List Chip) → PermitsCardLent card cs a ds
+    → (a ≡ setUpOf (length cs) card 0 cs .answer) × (ds ≡ setUpOf (length cs) card 0 cs .table)
+card-is-lent card cs a ds p =
+    let o = p .permits _ (id⊢ (p .world .𝓤) _) in
+    let here : List ℕ → List Chip → SetUp = λ (s : List ℕ) (x : List Chip). setUpOf (length x) s 0 x in
+    (p .tells ∙ o .0 ∙ (λ j. here (p .from-bytes j) (p .from-places j) .answer), o .1 ∙ λ j. here (p .from-bytes j) (p .from-places j) .table)
+
 pub from-card-lent : (card : List ℕ) (cs ds : List Chip) (k : ℕ) (ms ss : List ℕ) → PermitsCardLent card cs (chips k) ds
     → SizesAsked (ofLent (lent (take k ds) ms ss)) → SetUpBy slice card k (lent (take k ds) ms ss)
 unfolding setUpOf
 from-card-lent card cs ds k ms ss p z =
-    let o = p .permits _ (id⊢ (p .world .𝓤) _) in
-    let here : List ℕ → List Chip → SetUp = λ (s : List ℕ) (x : List Chip). setUpOf (length x) s 0 x in
-    let a : here card cs .answer ≡ chips k = sym (p .tells ∙ o .0 ∙ λ j. here (p .from-bytes j) (p .from-places j) .answer) in
-    let b : ds ≡ here card cs .table = o .1 ∙ λ j. here (p .from-bytes j) (p .from-places j) .table in
+    let o = card-is-lent card cs (chips k) ds p in
+    let a : setUpOf (length cs) card 0 cs .answer ≡ chips k = sym (o .0) in
+    let b = o .1 in
     let s = sets-up (length cs) card 0 cs k a in
     let c : take k ds ≡ chipsFrom card 0 k = ap (take k) (b ∙ s .table) ∙ take-at (chipsFrom card 0 k) (drop k cs) k (length-chips-from card 0 k) in
     let n : length (take k ds) ≡ k = ap length c ∙ length-chips-from card 0 k in
     let h = answers-alike 0 cs (readFrom (capped (length cs)) card 0) ∙ a in
     set-up-by slice (lent (take k ds) ms ss) (length cs) card 0 [] ms ss k tt ((λ j. attached (n j) (c j) ms ss) ∙ alone (length cs) card ms ss k h) h z
-
--- a refusal has a number above 0
-abbrev Numbered : Read → Type 0
-Numbered (all cs) = Unit
-Numbered (none r at) = 0 < r
-
-after-numbered : (cs : List Chip) (r : Read) → Numbered r → Numbered (after cs r)
-after-numbered cs (all ds) n = tt
-after-numbered cs (none r at) n = n
-
-onward-numbered : (at : ℕ) (go : ℕ → Read) (e : Entry) → ((next : ℕ) → Numbered (go next)) → Numbered (onward at go e)
-onward-numbered at go entry.Done f = tt
-onward-numbered at go (entry.Taken code kind next) f = after-numbered _ (go next) (f next)
-onward-numbered at go entry.TooMany f = omega arith
-onward-numbered at go entry.UnknownKind f = omega arith
-onward-numbered at go entry.WrongLength f = omega arith
-
-read-numbered : (room : ℕ) (s : List ℕ) (at : ℕ) → Numbered (readFrom room s at)
-unfolding readFrom
-read-numbered zero s at = onward-numbered at (λ next. none 1 at) (entryAt s at zero) (λ next. omega arith)
-read-numbered (suc room) s at = onward-numbered at (λ next. readFrom room s next) (entryAt s at (suc room)) (λ next. read-numbered room s next)
 
 -- `tk_card`; what stood in the offset does not matter
 pub record PermitsCardInC (card bs : List ℕ) (a : ℤ) (ds : List ℕ) (at : ℕ) : Type 2 where
@@ -153,6 +138,9 @@ pub record PermitsCardInC (card bs : List ℕ) (a : ℤ) (ds : List ℕ) (at : �
   pub from-table : table .now ≡ bs
   pub permits : tk-card-reads.Learnt κs (bytes, (table, (offset, tt))) a (atExit tk-card.ended κs (bytes, (table, (offset, tt))) (tt, (ds, (at, tt))))
 
+pub card-is-c : (card bs : List ℕ) (a : ℤ) (ds : List ℕ) (at : ℕ) → PermitsCardInC card bs a ds at → cardLeft a ds at ≡ cardBytes card bs
+card-is-c card bs a ds at p = p .permits ∙ λ j. cardBytes (p .from-bytes j) (p .from-table j)
+
 -- the first k records of the bytes that it leaves
 abbrev pub recordsOf : ℕ → List ℕ → List ℕ → List ℕ → LentBytes
 recordsOf k ds ms ss = record { table = take (recordSize * k) ds; images = ms; pads = ss }
@@ -160,21 +148,15 @@ recordsOf k ds ms ss = record { table = take (recordSize * k) ds; images = ms; p
 pub from-card-c : (card bs ds : List ℕ) (at k : ℕ) (ms ss : List ℕ) → PermitsCardInC card bs (pos k) ds at
     → SizesAsked (ofLent (unpackedLent (recordsOf k ds ms ss))) → SetUpBy inC card k (recordsOf k ds ms ss)
 unfolding setUpOf cardBytes
-from-card-c card bs ds at k ms ss p z = by (readFrom (capped places) card 0) (read-numbered (capped places) card 0) refl o
+from-card-c card bs ds at k ms ss p z = by (readFrom (capped places) card 0) refl (card-is-c card bs (pos k) ds at p)
   where
     places : ℕ
     places = length bs / recordSize
 
-    o : cardLeft (pos k) ds at ≡ cardBytes card bs
-    o = p .permits ∙ λ j. cardBytes (p .from-bytes j) (p .from-table j)
-
-    by : (r : Read) → Numbered r → readFrom (capped places) card 0 ≡ r → cardLeft (pos k) ds at ≡ cardFrom bs r → SetUpBy inC card k (recordsOf k ds ms ss)
-    by (none zero q) n e f = absurd (omega arith)
-    by (none (suc r) q) n e f = absurd (no k r (ap (λ (x : CardLeft). x .answer) f))
-      where
-        no : (m i : ℕ) → pos m ≡ negsuc i → ⊥
-        no m i y = let w : _≡_ {A = ℕ} 0 1 = cc in omega arith
-    by (all cs) n e f =
+    by : (r : Read) → readFrom (capped places) card 0 ≡ r → cardLeft (pos k) ds at ≡ cardFrom bs r → SetUpBy inC card k (recordsOf k ds ms ss)
+    by (none zero q) e f = absurd (let n = card-refused (capped places) card zero q .0 e .real in omega arith)
+    by (none (suc r) q) e f = absurd (not-below k r (ap (λ (x : CardLeft). x .answer) f))
+    by (all cs) e f =
         let m : length cs ≡ k = same (length cs) k (sym (ap (λ (x : CardLeft). x .answer) f)) in
         let h : setUpOf places card 0 [] .answer ≡ chips k = ap (λ (r : Read). fromRead 0 [] r .answer) e ∙ ap chips m in
         let s = sets-up places card 0 [] k h in

@@ -26,13 +26,13 @@ use Rattle.agreement.specs.AfterTroubleC.{StandsAsBytes, bytes-fit}
 use Rattle.calls.specs.Form.{Meets, Form, Well}
 
 -- what `tk_search` tells: how many codes it lists, or minus a refusal number; the list; and the counts
-pub record Told : Type 0 where
+pub record ToldInC : Type 0 where
   pub answer : ℤ
   pub list : List ℕ
   pub resets : ℕ
   pub slots : ℕ
 
-abbrev pub told : Search → Told
+abbrev pub told : Search → ToldInC
 told s = record { answer = searchNumber (s .number) (s .answer); list = s .list; resets = s .resets; slots = s .slots }
 
 -- `tk_event`: table and buffers lie anywhere, and the contract permits what is handed back and what they hold then
@@ -65,7 +65,7 @@ event-is e x a y q p =
     }
 
 -- `tk_search`, likewise; what stood in the counts does not matter
-pub record PermitsSearch (list : List ℕ) (x : LentBytes) (a : Told) (y : LentBytes) : Type 2 where
+pub record PermitsSearch (list : List ℕ) (x : LentBytes) (a : ToldInC) (y : LentBytes) : Type 2 where
   pub κs : Lfts 6
   pub table : RefT (List ℕ)
   pub places : RefT (List ℕ)
@@ -80,11 +80,11 @@ pub record PermitsSearch (list : List ℕ) (x : LentBytes) (a : Told) (y : LentB
   pub permits : tk-search-reads.Learnt κs (table, (places, (images, (pads, (resets, (slots, tt)))))) (a .answer)
       (atExit tk-search.ended κs (table, (places, (images, (pads, (resets, (slots, tt)))))) (y .table, (a .list, (y .images, (y .pads, (a .resets, (a .slots, tt)))))))
 
-pub search-bytes : (list : List ℕ) (x : LentBytes) (a : Told) (y : LentBytes) → PermitsSearch list x a y
+pub search-bytes : (list : List ℕ) (x : LentBytes) (a : ToldInC) (y : LentBytes) → PermitsSearch list x a y
     → searchLeft (a .answer) (a .list) (y .table) (y .images) (y .pads) (a .resets) (a .slots) ≡ searchBytes (x .table) list (x .images) (x .pads)
 search-bytes list x a y p = p .permits ∙ λ i. searchBytes (p .from-table i) (p .from-places i) (p .from-images i) (p .from-pads i)
 
-pub search-is : (list : List ℕ) (x : LentBytes) (a : Told) (y : LentBytes) → isTable (x .table) ≡ true → PermitsSearch list x a y
+pub search-is : (list : List ℕ) (x : LentBytes) (a : ToldInC) (y : LentBytes) → isTable (x .table) ≡ true → PermitsSearch list x a y
     → Meets a (told (searchOf list (ofLent (unpackedLent x)))) (ofLent (unpackedLent y)) (searchOf list (ofLent (unpackedLent x)) .line) (isTable (y .table) ≡ true)
 search-is list x a y q p =
     let o = search-bytes list x a y p in
@@ -103,7 +103,7 @@ inC = record {
   table = λ x. ofLent (unpackedLent x);
   Answer = ℤ;
   answer = answerNumber;
-  Listing = Told;
+  Listing = ToldInC;
   listing = told;
   PermitsEvent = PermitsEvent;
   PermitsSearch = PermitsSearch;

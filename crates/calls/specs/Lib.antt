@@ -11,4 +11,5 @@ pub mod Protected
 pub mod SearchCopies
 pub mod Recovered
 pub mod FromCard
+pub mod RefusedCard
 pub mod Customer

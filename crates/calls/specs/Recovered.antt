@@ -15,7 +15,7 @@ use Rattle.recovery.specs.CarriedOut.{NoCopy}
 use Rattle.recovery.specs.Sessions.{Addressed, write, Page}
 use Rattle.recovery.specs.Public.{chipOf, TableInstalled, TableRecovered}
 use Rattle.recovery.specs.OverCalls.{demand-3-calls}
-use Rattle.calls.specs.Form.{Form, Asked, callsOf, Ran, ran-leaves}
+use Rattle.calls.specs.Form.{Form, CallTold, callsOf, Ran, ran-leaves}
 use Rattle.calls.specs.SearchCopies.{NoCopyIn, no-copy-in}
 use Rattle.calls.specs.Events.{Put, put-is}
 
@@ -62,7 +62,7 @@ module _ (F : Form) (i code : ℕ) (again : List Event) {a b : F .Loan} (m : F .
 -- opens by matching that code
 abbrev pub Recovers : Form → Type 2
 Recovers F = (i : ℕ) (x : F .Loan) → F .IsTable x → TableInstalled i (F .table x)
-    → (start left right : List (Asked F)) (u a b : F .Loan) → Ran F start x u → Ran F left u a → Ran F right u b
+    → (start left right : List (CallTold F)) (u a b : F .Loan) → Ran F start x u → Ran F left u a → Ran F right u b
     → NoCopyIn i (callsOf left) (F .table u) → NoCopyIn i (callsOf right) (F .table u)
     → (t : ℕ) (bytes : List ℕ) → Page t bytes
     → (told heard : List (F .Answer)) (y z : F .Loan)
@@ -76,7 +76,7 @@ recovers F i x m s start left right u a b p q r c d t bytes g told heard y z f h
     let k = ran-leaves F (j .is-table) q in
     let l = ran-leaves F (j .is-table) r in
     let begun = j .table in
-    let idle : (cs : List (Asked F)) → NoCopyIn i (callsOf cs) (F .table u) → NoCopy i (eventsOfCalls (callsOf cs) (callsOn (callsOf start) (F .table x))) (lineFrom (callsOn (callsOf start) (F .table x)))
+    let idle : (cs : List (CallTold F)) → NoCopyIn i (callsOf cs) (F .table u) → NoCopy i (eventsOfCalls (callsOf cs) (callsOn (callsOf start) (F .table x))) (lineFrom (callsOn (callsOf start) (F .table x)))
     = λ cs n. no-copy-in i (callsOf cs) _ (stands-calls (callsOf start) (F .table x) (s .stands)) (subst (NoCopyIn i (callsOf cs)) begun n) in
     told-alike F i (chipOf i (F .table x) .chip .code) (write (chipOf i (F .table x) .chip .code) t bytes) (k .is-table) (l .is-table)
     (rw (k .table, l .table, begun)

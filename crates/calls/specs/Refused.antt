@@ -1,8 +1,8 @@
 -- Demand 1, "a refused call changes no byte": of an event, and of a search refused by 8 or 5 ("both without an event, counts 0"), in each form.
--- From C it holds of any bytes, a table or not. What refusal 4 leaves is in Listed.
+-- From C it holds of any bytes, a table or not. What refusal 4 tells and leaves is in Listed; what a refused card leaves, in RefusedCard.
 use Prim.Native.Nat.{ℕ, zero, suc}
 use native.Mathlib.Omega.{arith}
-use mathlib.Core.Bool.{Bool, true, false, true≢false}
+use mathlib.Core.Bool.{Bool, true, false}
 use mathlib.Core.List.{List}
 use mathlib.Core.Path.{_≡_, refl, _∙_, ap, sym}
 use lib.IntN.{ℤ, pos, negsuc}
@@ -16,7 +16,7 @@ use Rattle.toemsakun.specs.Library.{answerNumber, EventLeft, eventBytes, search
 use Rattle.refusals.specs.Event.{refused-leaves}
 use Rattle.refusals.specs.Search.{refused-eventless}
 use Rattle.agreement.specs.Slice.{ofLent}
-use Rattle.agreement.specs.InC.{LentBytes, unpackedLent, packedLent, packed-again}
+use Rattle.agreement.specs.InC.{LentBytes, unpackedLent, packedLent, not-below, packed-again}
 use Rattle.calls.specs.Told.{Told, told}
 use Rattle.calls.specs.Plain as plain
 use Rattle.calls.specs.Slice as slice
@@ -64,17 +64,10 @@ refused-search-lent list x r a y n h p =
     let g = sym (ap (λ (t : Told). t .answer) (m .tells)) ∙ h in
     (m .tells ∙ eventless-tells list (ofLent x) r n g, ap (λ (l : Attached). l .lent) (m .leaves ∙ eventless-stays list (ofLent x) r n g))
 
--- a number below 0 is not one from 0 on, and tells how far below
-abbrev isBelow : ℤ → Bool
-isBelow (pos n) = false
-isBelow (negsuc n) = true
-
+-- how far a number is below 0
 abbrev depth : ℤ → ℕ
 depth (pos n) = 0
 depth (negsuc n) = suc n
-
-not-below : (m n : ℕ) → pos m ≡ negsuc n → ⊥
-not-below m n e = true≢false (sym (ap isBelow e))
 
 -- bytes that are a table are left as they were where the table is
 same-bytes : (x y : LentBytes) → isTable (x .table) ≡ true → isTable (y .table) ≡ true → ofLent (unpackedLent y) ≡ ofLent (unpackedLent x) → y ≡ x
@@ -96,7 +89,7 @@ refused-event-c e x n y p = by (isTable (x .table)) refl
     by false q = ap (λ (z : EventLeft). record { table = z .table; images = z .images; pads = z .pads }) (inC.event-bytes e x (negsuc n) y p ∙ pick-false (isTable (x .table)) _ _ q)
 
 -- THEOREM: so does `tk_search` that answers one other than -4, and the list; its counts are 0
-pub refused-search-c : (list : List ℕ) (x : LentBytes) (n : ℕ) (a : inC.Told) (y : LentBytes) → (n ≡ 3 → ⊥) → a .answer ≡ negsuc n → inC.PermitsSearch list x a y
+pub refused-search-c : (list : List ℕ) (x : LentBytes) (n : ℕ) (a : inC.ToldInC) (y : LentBytes) → (n ≡ 3 → ⊥) → a .answer ≡ negsuc n → inC.PermitsSearch list x a y
     → (a ≡ record { answer = negsuc n; list = list; resets = 0; slots = 0 }) × (y ≡ x)
 unfolding searchBytes
 refused-search-c list x n a y k h p = by (isTable (x .table)) refl
@@ -115,7 +108,7 @@ refused-search-c list x n a y k h p = by (isTable (x .table)) refl
     by : (t : Bool) → isTable (x .table) ≡ t → (a ≡ record { answer = negsuc n; list = list; resets = 0; slots = 0 }) × (y ≡ x)
     by true q =
         let m = inC.search-is list x a y q p in
-        let o = by-number (found .answer) refl (sym (ap (λ (t : inC.Told). t .answer) (m .tells)) ∙ h) in
+        let o = by-number (found .answer) refl (sym (ap (λ (t : inC.ToldInC). t .answer) (m .tells)) ∙ h) in
         (m .tells ∙ ap inC.told o, same-bytes x y q (m .is-table) (m .leaves ∙ ap (λ (s : Search). s .line) o))
     by false q =
         let o = inC.search-bytes list x a y p ∙ pick-false (isTable (x .table)) _ _ q in (

@@ -12,7 +12,7 @@ use Rattle.histories.specs.Histories.{at}
 use Rattle.histories.specs.Standing.{lineFrom}
 use Rattle.wired.specs.Wired.{AllSendOne}
 use Rattle.wired.specs.Public.{Writes, Shows, slot-shows-and, reset-shows-presence, power-on-answers-1, outside-answers-1, chips-take-the-bus}
-use Rattle.calls.specs.Form.{Form, Meets, Asked, Ran, Well, stands-on}
+use Rattle.calls.specs.Form.{Form, Meets, CallTold, Ran, Well, stands-on}
 
 -- what a slot of the host's bit b told: 1 exactly if that bit and the bit of every chip is 1, else 0; and every chip took the bit that was told
 pub record SlotTold (F : Form) (b : Bool) (y z : F .Loan) (a : F .Answer) : Type 0 where
@@ -29,7 +29,7 @@ pub record ResetTold (F : Form) (y : F .Loan) (a : F .Answer) : Type 0 where
 
 -- an event, after any calls from a table that neither 8 nor 5 refuses, that was told a
 abbrev pub After : (F : Form) → (Event → F .Loan → F .Answer → F .Loan → Type 0) → Type 2
-After F P = (cs : List (Asked F)) (x y z : F .Loan) → Well F x → Ran F cs x y → (e : Event) (a : F .Answer) → F .PermitsEvent e y a z → P e y a z
+After F P = (cs : List (CallTold F)) (x y z : F .Loan) → Well F x → Ran F cs x y → (e : Event) (a : F .Answer) → F .PermitsEvent e y a z → P e y a z
 
 -- a slot shows the AND, and every chip takes it
 abbrev pub SlotsShowAnd : Form → Type 2
@@ -43,7 +43,7 @@ ResetsShowPresence F = After F (λ e y a z. e .number ≡ 2 → ResetTold F y a)
 abbrev pub OthersAnswer1 : Form → Type 2
 OthersAnswer1 F = After F (λ e y a z. (e .number ≡ 3 → a ≡ F .answer (bit true)) × (e .number ≡ 4 → (a ≡ F .answer (refused 7) → ⊥) → a ≡ F .answer (bit true)))
 
-module _ (F : Form) {cs : List (Asked F)} {x y z : F .Loan} (w : Well F x) (r : Ran F cs x y) (e : Event) {a : F .Answer} (p : F .PermitsEvent e y a z) where
+module _ (F : Form) {cs : List (CallTold F)} {x y z : F .Loan} (w : Well F x) (r : Ran F cs x y) (e : Event) {a : F .Answer} (p : F .PermitsEvent e y a z) where
   -- the table that the event finds stands well, and the event is what document 01 says of it
   here : Well F y
   here = stands-on F cs x y w r

@@ -20,7 +20,8 @@ use Rattle.recovery.specs.Goes.{Goes, goes-from, goes-append, ofKind, ec20, goe
 use Rattle.recovery.specs.Installed.{Installed, codes-at}
 use Rattle.recovery.specs.Matched.{came-slots, addressed-slots, reset-is, session-among, session-answers}
 use Rattle.recovery.specs.Recovery.{run-append}
-use Rattle.commands.specs.Streams.{sentIn, afterSlots, thenOnes, butLevel, Streams}
+use Rattle.histories.specs.Fed.{fed}
+use Rattle.commands.specs.Streams.{sentIn, thenOnes, butLevel, Streams}
 use Rattle.commands.specs.ShortAddress.{matched}
 
 -- a reset, a match of the code, these bits, and n read slots
@@ -54,7 +55,7 @@ read-answers (suc n) w =
     ∙ ap (λ (l : List Answered). bit (sendsOf w) ∷ l) (read-answers n (takesOf (sendsOf w) w))
 
 -- and by which it comes where it comes to alone
-read-run : (n : ℕ) (w : Whole) → ownRun (slotted (replicate n true)) w ≡ afterSlots (readBits n w) w
+read-run : (n : ℕ) (w : Whole) → ownRun (slotted (replicate n true)) w ≡ fed (readBits n w) w
 read-run zero w = refl
 read-run (suc n) w =
     ap (λ (b : Bool). ownRun (slotted (replicate n true)) (takesOf b w)) (both-true (sendsOf w)) ∙ read-run n (takesOf (sendsOf w) w)

@@ -1,22 +1,20 @@
 -- What a chip sends in slots, one after the other, whatever their values.
 use Prim.Native.Nat.{ℕ, zero, suc}
-use mathlib.Core.Bool.{Bool, true}
+use mathlib.Core.Bool.{Bool, true, not}
 use mathlib.Core.List.{List, [], _∷_}
 use mathlib.Core.Path.{_≡_, refl, _∙_, ap, sym, subst}
 use lib.ListN.{length}
 use Rattle.chip.specs.With.{withLevel}
-use Rattle.chip.specs.Chip.{Whole, whole, takesOf, sendsOf}
-use Rattle.chip.specs.declared.Level.the-variants.{Waiting}
+use Rattle.scratchpad.specs.declared.MemoryPhase.the-variants.{Copied}
+use Rattle.chip.specs.Chip.{Whole, whole, memorySlot, levelTakes, takesOf, sendsOf}
+use Rattle.chip.specs.Level.{takes-in, sends-in}
+use Rattle.chip.specs.declared.Level.the-variants.{Waiting, Memory}
+use Rattle.histories.specs.Fed.{fed}
 
 -- the bits that a chip sends in slots of these values
 abbrev pub sentIn : List Bool → Whole → List Bool
 sentIn [] w = []
 sentIn (v ∷ vs) w = sendsOf w ∷ sentIn vs (takesOf v w)
-
--- the chip after them
-abbrev pub afterSlots : List Bool → Whole → Whole
-afterSlots [] w = w
-afterSlots (v ∷ vs) w = afterSlots vs (takesOf v w)
 
 -- the first n of these bits, "then ones"
 abbrev pub thenOnes : ℕ → List Bool → List Bool
@@ -31,7 +29,7 @@ butLevel w = whole (withLevel Waiting (w .chip)) (w .memory) (w .pad)
 -- in slots of whatever values and however many, a chip sends these bits and then ones, and all of it but its level stays
 pub record Streams (bits : List Bool) (w : Whole) : Type 0 where
   pub sends : (values : List Bool) → sentIn values w ≡ thenOnes (length values) bits
-  pub stays : (values : List Bool) → butLevel (afterSlots values w) ≡ butLevel w
+  pub stays : (values : List Bool) → butLevel (fed values w) ≡ butLevel w
 
 -- from an equal state
 pub streams-from : (bits : List Bool) (w u : Whole) → w ≡ u → Streams bits u → Streams bits w
@@ -45,9 +43,9 @@ streams-bit {bits} {w} {u} b e f k s = record { sends = sends; stays = stays }
     sends [] = refl
     sends (v ∷ vs) = let rest = ap (sentIn vs) (f v) ∙ s .sends vs in λ j. e j ∷ rest j
 
-    stays : (vs : List Bool) → butLevel (afterSlots vs w) ≡ butLevel w
+    stays : (vs : List Bool) → butLevel (fed vs w) ≡ butLevel w
     stays [] = refl
-    stays (v ∷ vs) = ap (λ (x : Whole). butLevel (afterSlots vs x)) (f v) ∙ s .stays vs ∙ k
+    stays (v ∷ vs) = ap (λ (x : Whole). butLevel (fed vs x)) (f v) ∙ s .stays vs ∙ k
 
 -- ones alone, of a chip that stays as it is and sends 1
 pub streams-ones : (w : Whole) → sendsOf w ≡ true → ((v : Bool) → takesOf v w ≡ w) → Streams [] w
@@ -57,6 +55,23 @@ streams-ones w e f = record { sends = sends; stays = stays }
     sends [] = refl
     sends (v ∷ vs) = let rest = ap (sentIn vs) (f v) ∙ sends vs in λ j. e j ∷ rest j
 
-    stays : (vs : List Bool) → butLevel (afterSlots vs w) ≡ butLevel w
+    stays : (vs : List Bool) → butLevel (fed vs w) ≡ butLevel w
     stays [] = refl
-    stays (v ∷ vs) = ap (λ (x : Whole). butLevel (afterSlots vs x)) (f v) ∙ stays vs
+    stays (v ∷ vs) = ap (λ (x : Whole). butLevel (fed vs x)) (f v) ∙ stays vs
+
+-- a bit and its complement, by turns
+abbrev pub byTurns : ℕ → Bool → List Bool
+byTurns zero b = []
+byTurns (suc n) b = b ∷ byTurns n (not b)
+
+-- "the chip sends 0, 1, 0, 1 until reset": a chip that has carried out a copy, in slots of whatever values and however many
+pub copied-sends : (values : List Bool) (w : Whole) (b : Bool) → w .chip .level ≡ Memory (Copied b) → sentIn values w ≡ byTurns (length values) b
+unfolding memorySlot
+copied-sends [] w b e = refl
+copied-sends (v ∷ vs) w b e =
+    let next : takesOf v w .chip .level ≡ Memory (Copied (not b)) = ap (λ (u : Whole). u .chip .level) (takes-in w v (Memory (Copied b)) e) ∙ step v in
+    let rest = copied-sends vs (takesOf v w) (not b) next in
+    λ j. sends-in w (Memory (Copied b)) e j ∷ rest j
+  where
+    step : (v : Bool) → levelTakes w v (Memory (Copied b)) .chip .level ≡ Memory (Copied (not b))
+    step v = refl
