@@ -23,6 +23,7 @@ use Rattle.histories.specs.Standing.{lineFrom}
 use Rattle.agreement.specs.Slice.{ofLent, codes-lent}
 use Rattle.agreement.specs.InC.{LentBytes, unpackedLent, searchIn, leavesBytes, leaves-bytes, searched-after}
 use Rattle.agreement.specs.AfterTroubleC.{StandsAsBytes, bytes-fit}
+use Rattle.calls.specs.Told.{lentAs}
 use Rattle.calls.specs.Form.{Meets, Form, Well}
 
 -- what `tk_search` tells: how many codes it lists, or minus a refusal number; the list; and the counts
@@ -118,10 +119,6 @@ bytes-well x s = record { is-table = s .table; stands = s .stands }
 
 pub bytes-codes : (x : LentBytes) → StandsAsBytes x → Codes (codesOf (lineFrom (ofLent (unpackedLent x))))
 bytes-codes x s = rw (codes-lent (unpackedLent x)) (bytes-fit x s)
-
--- what a caller lends, behind a reference
-abbrev lentAs : {X : Type 0} → X → RefT X
-lentAs x = record { ptr = (0, 0); name = 0; now = x }
 
 -- THEOREM: every call has an outcome that its contract permits, whatever is lent and however long it lives
 pub some-event : Lfts 3 → (e : Event) (x : LentBytes) → PermitsEvent e x (eventBytes (x .table) e (x .images) (x .pads) .answer) (leavesBytes (event-call e) x)

@@ -1,21 +1,31 @@
 -- The plain form: a table by value. A call is one of `line::take_event` or of `search::search_line`, with an outcome that its own contract permits.
 use Prim.Native.Nat.{ℕ}
+use mathlib.Core.Bool.{Bool, true, false}
 use mathlib.Core.List.{List}
-use mathlib.Core.Path.{_≡_, _∙_, ap}
+use mathlib.Core.Path.{_≡_, refl, _∙_, ap, sym}
 use contract.Lifetimes.{Lfts}
 use denote.Ref.{RefT}
 use denote.Triple.Clauses.{atExit}
-use Rattle.line.specs.Event.{Answered, answered, Outcome, outcome, eventOf}
+use Rattle.base.specs.Pick.{pick}
+use Rattle.chip.specs.declared.Chip.{Chip}
+use Rattle.line.specs.Event.{Answered, answered, verdictOf, Outcome, outcome, planOf, doneOf, eventOf}
 use Rattle.line.specs.declared.Event.{Event}
 use Rattle.line.specs.declared.Answer.{Answer}
+use Rattle.line.specs.declared.Answer.the-variants as answer
+use Rattle.line.specs.declared.Plan.{Plan}
+use Rattle.line.specs.declared.Plan.the-variants as plan
+use Rattle.line.specs.declared.Verdict.{Verdict}
+use Rattle.line.specs.declared.Verdict.the-variants as verdict
 use Rattle.line.specs.declared.Table.{Table}
 use Rattle.line.proofs.take_event as take-event
 use Rattle.line.proofs.take_event.Reads as take-event-reads
 use Rattle.search.proofs.search_line as search-line
 use Rattle.search.proofs.search_line.Reads as search-line-reads
-use Rattle.search.specs.Search.{Attached, attached, leftBy, saysOf, leavesOf, searched, Search, outcome as found, searchOf}
+use Rattle.search.specs.Search.{Attached, attached, leftBy, saysOf, leavesOf, searched, Search, outcome as found, completeOr4, searchBy, searchOf}
+use Rattle.search.specs.declared.SearchAnswer.{SearchAnswer}
+use Rattle.search.specs.declared.SearchAnswer.the-variants as search
 use Rattle.search.specs.declared.Found.{Found}
-use Rattle.calls.specs.Told.{Told, told}
+use Rattle.calls.specs.Told.{Told, told, lentAs}
 use Rattle.calls.specs.Form.{Meets, Form}
 
 -- a caller's table, by value
@@ -81,3 +91,59 @@ plain = record {
   event-is = λ e l a k i p. event-is e l a k p;
   search-is = λ list l a k i p. search-is list l a k p;
 }
+
+-- the answer that an event comes to, and the one of a search
+answer-for : (p : Plan) (n : ℕ) (cs : List Chip) (ms ss : List ℕ) → (a : Answer) × (answered a ≡ doneOf p n cs ms ss .answer)
+answer-for (plan.Refused r) n cs ms ss = (answer.Refused r, refl)
+answer-for (plan.Slot b) n cs ms ss = (answer.Bit _, refl)
+answer-for plan.Reset n cs ms ss = (answer.Bit _, refl)
+answer-for plan.PowerOn n cs ms ss = (answer.Bit true, refl)
+answer-for (plan.Outside i x) n cs ms ss = (answer.Bit true, refl)
+
+complete-for : (b : Bool) → (a : SearchAnswer) × (searched a ≡ completeOr4 b)
+unfolding pick
+complete-for true = (search.Complete, refl)
+complete-for false = (search.TooFewPlaces, refl)
+
+search-for : (v : Verdict) (list : List ℕ) (l : Attached) → (a : SearchAnswer) × (searched a ≡ searchBy v list l .answer)
+search-for verdict.Well list l = complete-for _
+search-for (verdict.Refused r) list l = (search.Refused r, refl)
+
+-- THEOREM: every call has an outcome that its contract permits, whatever is lent and however long it lives
+pub some-event : Lfts 2 → (e : Event) (l : Attached) → PermitsEvent e l (saysOf e l) (leavesOf e l)
+unfolding saysOf leavesOf eventOf
+some-event κs e l =
+    let o = eventOf (l .count) (l .lent .chips) e (l .lent .images) (l .lent .pads) in
+    let q = answer-for (planOf (l .count) (l .lent .chips) e (l .lent .images) (l .lent .pads)) (l .count) (l .lent .chips) (l .lent .images) (l .lent .pads) in
+    record {
+      κs = κs;
+      images = lentAs (l .lent .images);
+      pads = lentAs (l .lent .pads);
+      from-images = refl;
+      from-pads = refl;
+      answer = q .0;
+      permits = λ j. outcome (q .1 j) (o .count) (o .lent);
+      tells = sym (q .1);
+    }
+
+pub some-search : Lfts 3 → (list : List ℕ) (l : Attached) → PermitsSearch list l (told (searchOf list l)) (searchOf list l .line)
+unfolding searchOf
+some-search κs list l =
+    let o = searchOf list l in
+    let q = search-for (verdictOf (l .count) (l .lent .chips) (l .lent .images) (l .lent .pads)) list l in
+    record {
+      κs = κs;
+      places = lentAs list;
+      images = lentAs (l .lent .images);
+      pads = lentAs (l .lent .pads);
+      from-places = refl;
+      from-images = refl;
+      from-pads = refl;
+      returned = record { answer = q .0; listed = o .number; resets = record { 0 = o .resets }; slots = record { 0 = o .slots }; table = tableOf (o .line) };
+      permits = λ j. found (q .1 j) (o .number) (o .list) (o .resets) (o .slots) (o .line);
+      table = refl;
+      answer = sym (q .1);
+      number = refl;
+      resets = refl;
+      slots = refl;
+    }

@@ -1,6 +1,7 @@
--- What a search tells its caller, beside the line that it leaves.
+-- What a search tells its caller, beside the line that it leaves; and what a caller lends.
 use Prim.Native.Nat.{ℕ}
 use mathlib.Core.List.{List}
+use denote.Ref.{RefT}
 use Rattle.search.specs.Search.{Searched, Search}
 
 pub record Told : Type 0 where
@@ -12,3 +13,7 @@ pub record Told : Type 0 where
 
 abbrev pub told : Search → Told
 told s = record { answer = s .answer; number = s .number; list = s .list; resets = s .resets; slots = s .slots }
+
+-- what a caller lends, behind a reference
+abbrev pub lentAs : {X : Type 0} → X → RefT X
+lentAs x = record { ptr = (0, 0); name = 0; now = x }
