@@ -4,3 +4,9 @@ pub mod Laws
 pub mod Loops
 pub mod Filling
 pub mod Places
+pub mod Takes
+pub mod TakesLaw
+pub mod Sends
+pub mod SendsLaw
+pub mod Judged
+pub mod Waiting

@@ -1,15 +1,24 @@
 // A chip's record as bytes, and a table as a run of them.
+mod fields;
+mod judged;
 mod level;
 mod record;
+mod sending;
 mod table;
+mod taking;
 
+pub use fields::kind_of;
+pub use fields::waits;
+pub use judged::stands;
 use line::Table;
 pub use record::is_packed;
 pub use record::pack;
 pub use record::put_record;
 pub use record::unpack;
+pub use sending::sends;
 pub use table::put_table;
 pub use table::table_of;
+pub use taking::takes;
 
 // The bytes of a record.
 pub const RECORD_SIZE: usize = 32;
