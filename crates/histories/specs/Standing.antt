@@ -159,32 +159,9 @@ module _ (l : Attached) (s : Stands l) where
       done-leaves (planOf (l .count) (l .lent .chips) e (l .lent .images) (l .lent .pads)) ∙ ap (λ (p : Plan). withLine l (afterBy p (lineFrom l))) (plan-same e)
 
 -- what a good line asks for
-pub length-chips : (L : List Whole) → length (chipsOf L) ≡ length L
-length-chips [] = refl
-length-chips (w ∷ L) = ap suc (length-chips L)
-
-images-length : (L : List Whole) → AllGood L → length (imagesOf L) ≡ imagesSize (chipsOf L)
-images-length [] g = refl
-images-length (w ∷ L) (g, h) = let a = images-length L h in let b = g .memory in simp length-append (omega arith)
-
-pads-length : (L : List Whole) → AllGood L → length (padsOf L) ≡ padsSize (chipsOf L)
-pads-length [] g = refl
-pads-length (w ∷ L) (g, h) = let a = pads-length L h in let b = g .pad in simp length-append (omega arith)
-
 chips-in-range : (L : List Whole) → AllGood L → allInRange (chipsOf L) ≡ true
 chips-in-range [] g = refl
 chips-in-range (w ∷ L) (g, h) = both-true′ _ _ (range-in (w .chip) (g .range)) (chips-in-range L h)
-
-split-joined : (L : List Whole) → AllGood L → split (chipsOf L) (imagesOf L) (padsOf L) ≡ L
-split-joined [] g = refl
-split-joined (w ∷ L) (g, h) =
-    (simp (
-      take-at (w .memory) (imagesOf L) (imageSize (w .chip .kind)) (g .memory),
-      take-at (w .pad) (padsOf L) (padSize (w .chip .kind)) (g .pad),
-      drop-at (w .memory) (imagesOf L) (imageSize (w .chip .kind)) (g .memory),
-      drop-at (w .pad) (padsOf L) (padSize (w .chip .kind)) (g .pad),
-    ))
-    ∙ ap (λ (k : List Whole). w ∷ k) (split-joined L h)
 
 module _ (l : Attached) (s : Stands l) (L : List Whole) (g : AllGood L) (k : length L ≡ l .count) where
   chips-first : take (l .count) (chipsOf L ++ drop (l .count) (l .lent .chips)) ≡ chipsOf L

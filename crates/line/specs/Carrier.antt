@@ -18,6 +18,7 @@ use Rattle.chip.specs.With.{noChip}
 use Rattle.line.specs.Event.{judge, tableTests, planEvent, planBy}
 use Rattle.line.specs.Layout.{Lent, lent}
 use Rattle.line.specs.Line.{actOf, hostOf}
+use Rattle.line.specs.Slots.{runFits}
 use Rattle.line.specs.declared.Act.the-variants as act
 use Rattle.line.specs.declared.Answer.{Answer}
 use Rattle.line.specs.declared.Answer.the-variants as answer
@@ -64,6 +65,11 @@ surveyChip chip c s =
 unfoldable pub verdictBy : Survey → ℕ → ℕ → ℕ → Verdict
 verdictBy s n images pads =
     judge (tableTests (both (leb n 16) (s .within)) (both (eqb images (s .spot .image)) (eqb pads (s .spot .pad))))
+
+-- what a run of slots is judged to on it: bits and answers are of two sizes
+unfoldable pub runVerdictBy : Survey → ℕ → ℕ → ℕ → ℕ → ℕ → ℕ → Verdict
+runVerdictBy s n images pads slots bits answers =
+    judge (tableTests (both (leb n 16) (s .within)) (both (both (eqb images (s .spot .image)) (eqb pads (s .spot .pad))) (runFits slots bits answers)))
 
 -- what an event comes to on it
 unfoldable pub planSeen : Survey → ℕ → Event → ℕ → ℕ → Plan

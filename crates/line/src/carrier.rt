@@ -6,6 +6,7 @@ use crate::Bus;
 use crate::Event;
 use crate::Plan;
 use crate::Refusal;
+use crate::SLOTS_MOST;
 use crate::Spot;
 use crate::Survey;
 use crate::Turned;
@@ -18,8 +19,9 @@ ghost use Prim.Native.Nat.{_≤_};
 ghost use Rattle.base.specs.Pick.{pick};
 ghost use Rattle.chip.specs.Chip.{whole, outsideChip};
 ghost use Rattle.line.specs.Line.{hostOf};
-ghost use Rattle.line.specs.Event.{outsideFits, askedBy, planEvent, planBy};
-ghost use Rattle.line.specs.Carrier.{firstSpot, spotAfter, firstSurvey, surveyChip, verdictBy, planSeen, firstBus, putsAt, busWith, doesAt, turned, turnOf, happensBy, answerFor};
+ghost use Rattle.line.specs.Event.{judge, tableTests, outsideFits, askedBy, planEvent, planBy};
+ghost use Rattle.line.specs.Slots.{runFits};
+ghost use Rattle.line.specs.Carrier.{firstSpot, spotAfter, firstSurvey, surveyChip, verdictBy, runVerdictBy, planSeen, firstBus, putsAt, busWith, doesAt, turned, turnOf, happensBy, answerFor};
 
 // Where the first chip stands.
 pub fn first_spot() -> Spot
@@ -89,6 +91,19 @@ pub fn survey_chip(c: Chip, s: Survey, chip: u32) -> Survey
     }
 }
 
+// A table and its buffers are judged: 8, then 5.
+fn judged(range: bool, sizes: bool) -> Verdict
+    ensures { λ r. ⌜ r ≡ judge (tableTests range sizes) ⌝ }
+{
+    if range {
+        if sizes {
+            return Verdict::Well;
+        }
+        return Verdict::Refused(Refusal::WrongSize);
+    }
+    Verdict::Refused(Refusal::OutOfRange)
+}
+
 // What a table of n chips is judged to that was surveyed: 8, then 5.
 pub fn verdict_by(s: Survey, n: usize, images: usize, pads: usize) -> Verdict
     ensures { λ r. ⌜ r ≡ verdictBy s n images pads ⌝ }
@@ -96,13 +111,38 @@ pub fn verdict_by(s: Survey, n: usize, images: usize, pads: usize) -> Verdict
     let spot = s.spot;
     let few = base::are_both(n <= 16, s.within);
     let fit = base::are_both(images == spot.image, pads == spot.pad);
-    if few {
-        if fit {
-            return Verdict::Well;
-        }
-        return Verdict::Refused(Refusal::WrongSize);
+    judged(few, fit)
+}
+
+// The sizes of bits and answers are what so many slots ask, and a run has as many.
+pub fn run_fits(slots: usize, bits: usize, answers: usize) -> bool
+    ensures { λ r. ⌜ r ≡ runFits slots bits answers ⌝ }
+{
+    if slots <= SLOTS_MOST {
+        let asked = (slots + 7) / 8;
+        return base::are_both(bits == asked, answers == asked);
     }
-    Verdict::Refused(Refusal::OutOfRange)
+    false
+}
+
+// What a run of slots is judged to on a table of n chips that was surveyed: 8, then 5.
+pub fn run_verdict_by(
+    s: Survey,
+    n: usize,
+    images: usize,
+    pads: usize,
+    slots: usize,
+    bits: usize,
+    answers: usize,
+) -> Verdict
+    ensures { λ r. ⌜ r ≡ runVerdictBy s n images pads slots bits answers ⌝ }
+{
+    let spot = s.spot;
+    let few = base::are_both(n <= 16, s.within);
+    let fit = base::are_both(images == spot.image, pads == spot.pad);
+    let run = run_fits(slots, bits, answers);
+    let sizes = base::are_both(fit, run);
+    judged(few, sizes)
 }
 
 // Event 4 fits n chips, where the one that it names has a kind; any other event does.
