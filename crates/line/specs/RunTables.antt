@@ -91,8 +91,7 @@ module _ (n : ℕ) (cs₀ : List Chip) (L : List Whole) (m : ℕ) (cs : List Chi
       let f = carrying-fits in
       let k = slot-walked m (capped m) cs ms ss carrying-places f (capped-is m (f .few)) b in
       let K = afterBy (plan.Slot b) L in
-      let line = carrying-line in
-      (
+      let line = carrying-line in (
         e ∙ k .0 ∙ ap (λ (M : List Whole). valueOf b M) line,
         record {
           number = q ∙ g .number;

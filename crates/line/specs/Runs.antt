@@ -94,6 +94,10 @@ module _ (bits count : ℕ) (L₀ : List Whole) (i host sum worth : ℕ) (L : Li
       let s : sum + 0 ≡ numberFrom 1 (runOn (bitsOf count bits) L₀ .bits) = sym (ap (λ (r : Run). sum + numberFrom worth (r .bits)) none) ∙ g .summed in
       (omega arith, sym (ap (λ (r : Run). r .line) none) ∙ g .line, omega arith)
 
+-- a bit adds at most its worth
+pub bit-most : (b : Bool) (worth : ℕ) → pick b worth 0 ≤ worth
+bit-most b worth = pick-if (λ (n : ℕ). n ≤ worth) b worth 0 (λ e. omega arith) (λ e. omega arith)
+
 -- ---- all slots of a run, byte after byte
 
 -- the first bits of a byte, and those of the bytes after it

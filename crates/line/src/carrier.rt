@@ -15,12 +15,13 @@ use crate::loops;
 use chip::Chip;
 ghost use mathlib.Core.Bool.{true};
 ghost use mathlib.Core.Path.{_≡_};
-ghost use Prim.Native.Nat.{_≤_};
+ghost use Prim.Native.Nat.{_+_, _≤_};
 ghost use Rattle.base.specs.Pick.{pick};
 ghost use Rattle.chip.specs.Chip.{whole, outsideChip};
 ghost use Rattle.line.specs.Line.{hostOf};
 ghost use Rattle.line.specs.Event.{judge, tableTests, outsideFits, askedBy, planEvent, planBy};
 ghost use Rattle.line.specs.Slots.{runFits};
+ghost use Rattle.line.specs.Runs.{countOf};
 ghost use Rattle.line.specs.Carrier.{firstSpot, spotAfter, firstSurvey, surveyChip, verdictBy, runVerdictBy, planSeen, firstBus, putsAt, busWith, doesAt, turned, turnOf, happensBy, answerFor};
 
 // Where the first chip stands.
@@ -333,4 +334,21 @@ pub fn answer_of(plan: Plan, value: bool) -> Answer
             outside: _,
         } => Answer::Bit(value),
     }
+}
+
+// How many slots of a run the next byte has, of those that are left.
+pub fn next_count(left: usize) -> usize
+    ensures { λ r. ⌜ r ≡ countOf left ⌝ }
+{
+    if left < 8 { left } else { 8 }
+}
+
+// The number of the bits so far with one bit more, which is worth so much.
+pub fn with_bit(sum: u16, bit: bool, worth: u16) -> u32
+    ensures { λ r. ⌜ r ≡ sum + pick bit worth 0 ⌝ }
+{
+    if bit {
+        return (sum as u32) + (worth as u32);
+    }
+    sum as u32
 }

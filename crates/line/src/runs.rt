@@ -8,24 +8,11 @@ use crate::Verdict;
 use crate::carrier;
 use crate::loops;
 ghost use mathlib.Core.Path.{_≡_};
-ghost use Prim.Native.Nat.{_+_, _<_, _≤_};
+ghost use Prim.Native.Nat.{_≤_};
 ghost use lib.ListN.{length};
-ghost use Rattle.base.specs.Pick.{pick};
 ghost use Rattle.line.specs.Layout.{lent, lineOf, lentFrom};
 ghost use Rattle.line.specs.Event.{Fits};
-ghost use Rattle.line.specs.Runs.{countOf};
 ghost use Rattle.line.specs.Slots.{bitsOf, numberFrom, runOn, slotted, runOutcome, runVerdict, runBy, slotsOf, hostBits, bytesFrom, bytesAsked};
-
-// A bit joins others, worth so much.
-pub fn with_bit(sum: u16, bit: bool, worth: u16) -> u16
-    requires { ⌜ sum + worth < 65536 ⌝ }
-    ensures { λ r. ⌜ r ≡ sum + pick bit worth 0 ⌝ }
-{
-    if bit {
-        return sum + worth;
-    }
-    sum
-}
 
 // Up to eight slots, whose host bits are the first of a byte.
 pub fn run_byte(t: Table, bits: u8, count: usize, ms: &mut [u8], ss: &mut [u8]) -> ByteRan
@@ -44,7 +31,8 @@ pub fn run_byte(t: Table, bits: u8, count: usize, ms: &mut [u8], ss: &mut [u8]) 
         let value = loops::line_value(table, plan, ms, ss);
         let after = loops::all_turn(table, plan, value, ms, ss);
         table = after;
-        sum = with_bit(sum, value, worth);
+        let more = carrier::with_bit(sum, value, worth);
+        sum = more as u16;
         host = host / 2;
         worth = 2 * worth;
         i += 1;
@@ -53,13 +41,6 @@ pub fn run_byte(t: Table, bits: u8, count: usize, ms: &mut [u8], ss: &mut [u8]) 
         byte: sum as u8,
         table: table,
     }
-}
-
-// How many slots the next byte has, of those that are left.
-pub fn next_count(left: usize) -> usize
-    ensures { λ r. ⌜ r ≡ countOf left ⌝ }
-{
-    if left < 8 { left } else { 8 }
 }
 
 // All slots of a run, on a table and buffers that stand well, with bits and answers of the sizes that they ask.
@@ -80,7 +61,7 @@ pub fn run_all(
     let mut left = slots;
     let mut at: usize = 0;
     while 0 < left {
-        let count = next_count(left);
+        let count = carrier::next_count(left);
         let host = bits[at];
         let r = run_byte(table, host, count, ms, ss);
         let after = r.table;

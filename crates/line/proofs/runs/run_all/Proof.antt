@@ -13,7 +13,7 @@ use Rattle.line.proofs.runs.run_all.Statement.{statement}
 use Rattle.line.proofs.runs.run_all.Tie as tie
 use Rattle.line.proofs.runs.run_all.Reads as reads
 use Rattle.line.proofs.runs.run_all.Lts as lts
-use Rattle.line.proofs.runs.next_count.Reads as next-count-reads
+use Rattle.line.proofs.carrier.next_count.Reads as next-count-reads
 use Rattle.line.proofs.runs.run_byte.Reads as run-byte-reads
 
 abbrev Inv-loop : tie.InvT-loop
