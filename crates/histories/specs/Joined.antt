@@ -13,8 +13,9 @@ use Rattle.search.specs.Host.{Host, done, ask, Played, played, more, resetsOf, 
 use Rattle.line.specs.Refusals.{well-judged}
 use Rattle.line.specs.declared.Verdict.{Verdict}
 use Rattle.search.specs.Search.{Attached, saysOf, leavesOf, wire, fromPlayed, searchBy, searchOf}
+use Rattle.line.specs.Fitted.{length-chips}
 use Rattle.histories.specs.Histories.{answerOf, afterOf, run, answers, lineWire}
-use Rattle.histories.specs.Standing.{Stands, lineFrom, withLine, line-length, put-back, says-is, leaves-is, stands-after, line-after, after-length, length-chips}
+use Rattle.histories.specs.Standing.{Stands, lineFrom, withLine, line-length, put-back, says-is, leaves-is, stands-after, line-after, after-length}
 
 -- a table in which a line was replaced twice holds the second
 again : (l : Attached) (L K : List Whole) → length L ≡ l .count → withLine (withLine l L) K ≡ withLine l K

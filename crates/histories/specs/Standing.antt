@@ -19,6 +19,7 @@ use Rattle.line.specs.Line.{valueOf, actOf, outsideAt, afterBy}
 use Rattle.line.specs.Layout.{imagesSize, padsSize, split, chipsOf, imagesOf, padsOf, lent, lineOf, lentFrom}
 use Rattle.chip.specs.With.{noChip}
 use Rattle.line.specs.Event.{allInRange, tableInRange, sizesFit, planIn, planBy, planOf, planOn, answerBy, doneOf, eventOf}
+use Rattle.line.specs.Fitted.{AllFitted, length-chips, images-length, pads-length, split-joined}
 use Rattle.line.specs.Refusals.{chips-split, images-split, pads-split, fit, in-range-few, well-judged, Comes, slot, reset, power-on, outside, refused, comes}
 use Rattle.line.specs.Prefix.{length-split, length-after}
 use Rattle.line.specs.declared.Event.{Event}
@@ -158,7 +159,11 @@ module _ (l : Attached) (s : Stands l) where
   leaves-is e =
       done-leaves (planOf (l .count) (l .lent .chips) e (l .lent .images) (l .lent .pads)) ∙ ap (λ (p : Plan). withLine l (afterBy p (lineFrom l))) (plan-same e)
 
--- what a good line asks for
+-- a good line has the memories and scratchpads that its kinds ask for
+good-fitted : (L : List Whole) → AllGood L → AllFitted L
+good-fitted [] g = tt
+good-fitted (w ∷ L) (g, h) = (record { memory = g .memory; pad = g .pad }, good-fitted L h)
+
 chips-in-range : (L : List Whole) → AllGood L → allInRange (chipsOf L) ≡ true
 chips-in-range [] g = refl
 chips-in-range (w ∷ L) (g, h) = both-true′ _ _ (range-in (w .chip) (g .range)) (chips-in-range L h)
@@ -168,7 +173,7 @@ module _ (l : Attached) (s : Stands l) (L : List Whole) (g : AllGood L) (k : len
   chips-first = take-at (chipsOf L) (drop (l .count) (l .lent .chips)) (l .count) (length-chips L ∙ k)
 
   pub line-with : lineFrom (withLine l L) ≡ L
-  line-with = ap (λ (c : List Chip). split c (imagesOf L) (padsOf L)) chips-first ∙ split-joined L g
+  line-with = ap (λ (c : List Chip). split c (imagesOf L) (padsOf L)) chips-first ∙ split-joined L (good-fitted L g)
 
   pub stands-with : Stands (withLine l L)
   unfolding tableInRange sizesFit
@@ -176,8 +181,8 @@ module _ (l : Attached) (s : Stands l) (L : List Whole) (g : AllGood L) (k : len
       record {
         range = pick-true (leb (l .count) 16) _ false (le-leb (l .count) 16 (in-range-few (l .count) (l .lent .chips) (s .range))) ∙ ap allInRange chips-first ∙ chips-in-range L g;
         sizes = both-true′ _ _
-            (eq-eqb (length (imagesOf L)) (imagesSize (take (l .count) (chipsOf L ++ drop (l .count) (l .lent .chips)))) (images-length L g ∙ ap imagesSize (sym chips-first)))
-            (eq-eqb (length (padsOf L)) (padsSize (take (l .count) (chipsOf L ++ drop (l .count) (l .lent .chips)))) (pads-length L g ∙ ap padsSize (sym chips-first)));
+            (eq-eqb (length (imagesOf L)) (imagesSize (take (l .count) (chipsOf L ++ drop (l .count) (l .lent .chips)))) (images-length L (good-fitted L g) ∙ ap imagesSize (sym chips-first)))
+            (eq-eqb (length (padsOf L)) (padsSize (take (l .count) (chipsOf L ++ drop (l .count) (l .lent .chips)))) (pads-length L (good-fitted L g) ∙ ap padsSize (sym chips-first)));
         places = let a = length-chips L in simp length-append (omega arith);
       }
 
