@@ -33,8 +33,6 @@ pub struct Options {
     pub stop: usize,
     /// How long to wait for an answer.
     pub wait: Duration,
-    /// Time after which no further line is begun, if there is a bound.
-    pub seconds: Option<u64>,
     /// Whether each class is shown with its count.
     pub rules: bool,
 }
@@ -170,7 +168,7 @@ impl Tester {
         self.repeat(6, lines, Tester::line);
     }
 
-    /// Runs scripts of one part until enough has failed or the time is up.
+    /// Runs scripts of one part until enough has failed.
     fn repeat(
         &mut self,
         part: u64,
@@ -180,14 +178,6 @@ impl Tester {
         for number in 0..count {
             if self.failed >= self.options.stop {
                 self.failed += count - number;
-                return;
-            }
-            let late = |seconds| self.start.elapsed().as_secs() >= seconds;
-            if self.options.seconds.is_some_and(late) {
-                println!(
-                    "time is up: {} scripts of part {part} left out",
-                    count - number
-                );
                 return;
             }
             let mut rng = seed_for(self.options.seed, part, number);
