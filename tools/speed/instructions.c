@@ -1,18 +1,18 @@
 /*
- * A plugin of qemu's user emulation: counts the instructions that a program takes, by function. At the end it prints, on
- * standard error, a line 'instructions NUMBER FUNCTION' for each.
+ * A plugin of qemu's user emulation: counts the instructions that a program takes, by function. At the end it prints,
+ * on standard error, a line 'instructions NUMBER FUNCTION' for each.
  *
  * It is compiled for the processor at hand, whatever that of the program is:
  *   cc -shared -fPIC -DPLUGIN_VERSION=1 -o instructions.so instructions.c
  *   qemu-x86_64 -plugin ./instructions.so PROGRAM
- * PLUGIN_VERSION is the version of the interface, which depends on that of qemu: 1 up to 8, 2 or more from 9 on.
+ * PLUGIN_VERSION is the version of the interface, which depends on that of qemu: counter finds out which.
  */
 #include <inttypes.h>
 #include <stdio.h>
 #include <stdlib.h>
 #include <string.h>
 
-/* What is used of qemu-plugin.h, which no package of Debian has. It is the same in every version of the interface. */
+/* What is used of qemu-plugin.h, which no package of Debian has. qemu 7.2 and 10.0 both have these functions. */
 struct qemu_plugin_tb;
 struct qemu_plugin_insn;
 typedef void on_block(uint64_t id, struct qemu_plugin_tb *block);

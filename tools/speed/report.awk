@@ -15,8 +15,8 @@ function ratio(of, call, mix, chips) { return of["library", call, mix, chips] / 
 function ratio_row(of, call, mix,   row, i) {
     row = "| " call_name(call) ", " mix_name(mix) " |"
     for (i = 1; i <= 3; i++)
-        row = row sprintf(" %.0f and %.0f: %.2f |", of["library", call, mix, chips[i]], of["plain", call, mix, chips[i]], \
-            ratio(of, call, mix, chips[i]))
+        row = row sprintf(" %.0f and %.0f: %.2f |", of["library", call, mix, chips[i]], \
+            of["plain", call, mix, chips[i]], ratio(of, call, mix, chips[i]))
     print row
 }
 
@@ -48,7 +48,8 @@ function times_real(call, mix, chips) { return real[mix, chips] / time["library"
 function real_row(call, mix,   row, i) {
     row = "| " call_name(call) ", " mix_name(mix) " |"
     for (i = 1; i <= 3; i++)
-        row = row sprintf(" %.2f million: %.0f |", 1e3 / time["library", call, mix, chips[i]], times_real(call, mix, chips[i]))
+        row = row sprintf(" %.2f million: %.0f |", 1e3 / time["library", call, mix, chips[i]], \
+            times_real(call, mix, chips[i]))
     print row
 }
 
@@ -56,8 +57,9 @@ function times(   m, i) {
     print "\n## Time of a slot\n"
     if (emulated)
         print "The programs ran under an emulator, the plain model too: the ratios are not those of an x86-64."
-    print "Nanoseconds of the library and of plain C on the same bytes, and how many times as long the library takes. Times vary"
-    print "with what else the machine does; instructions do not.\n"
+    print "Nanoseconds of the library and of plain C on the same bytes, and how many times as long the library takes: the time that"
+    print "the program had of the processor, the best of several tries. It varies with what else the machine does; instructions do"
+    print "not.\n"
     ratio_table(time)
     print "\nThe library's slots a second, and how many times as fast as a real line that is. A real line takes 61 µs for a slot"
     print "and 960 µs for a reset, as documents 01 and 002 cost them. That is the least: the sheet of the DS28EC20 has 65 µs for a"
@@ -68,18 +70,21 @@ function times(   m, i) {
             real_row(calls[i], mixes[m])
 }
 
-# One bar: three cells, and whether it is met. Where no number can be had, the cells say so.
+# One bar: what was found at 1, 4 and 16 chips, and whether it is met.
 function bar(text, a, b, c, met) { printf "| %s | %s | %s | %s | %s |\n", text, a, b, c, met ? "met" : "**not met**" }
 
 function ratio_bar(call, most1, most,   r, i, text) {
-    text = sprintf("%s: at most %.1f times plain C", call_name(call), most1) (most1 == most ? "" : sprintf(", %.1f at 4 and 16 chips", most))
+    text = sprintf("%s: at most %.1f times plain C", call_name(call), most1)
+    if (most1 != most)
+        text = text sprintf(", %.1f at 4 and 16 chips", most)
     if (missing != "") {
         print "| " text " | | | | not counted |"
         return
     }
     for (i = 1; i <= 3; i++)
         r[i] = ratio(taken, call, "whole", chips[i])
-    bar(text, sprintf("%.2f", r[1]), sprintf("%.2f", r[2]), sprintf("%.2f", r[3]), r[1] <= most1 && r[2] <= most && r[3] <= most)
+    bar(text, sprintf("%.2f", r[1]), sprintf("%.2f", r[2]), sprintf("%.2f", r[3]), \
+        r[1] <= most1 && r[2] <= most && r[3] <= most)
 }
 
 function flat_bar(call,   text, n, i) {
@@ -90,7 +95,8 @@ function flat_bar(call,   text, n, i) {
     }
     for (i = 1; i <= 3; i++)
         n[i] = taken["library", call, "opened", chips[i]]
-    bar(text, sprintf("%.0f", n[1]), sprintf("%.0f", n[2]), sprintf("%.0f", n[3]), n[2] <= 1.1 * n[1] && n[3] <= 1.1 * n[1])
+    bar(text, sprintf("%.0f", n[1]), sprintf("%.0f", n[2]), sprintf("%.0f", n[3]), \
+        n[2] <= 1.1 * n[1] && n[3] <= 1.1 * n[1])
 }
 
 function real_bar(call,   least, found) {

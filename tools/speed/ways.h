@@ -14,7 +14,6 @@ struct model {
                      uint8_t *, size_t);
 };
 #define MODELS 3
-#define LIBRARY 0
 #define PLAIN 1
 #define STRUCTS 2
 extern const struct model models[MODELS];
