@@ -71,10 +71,10 @@ module _ (bs : List ℕ) (n : ℕ) (ok whole : Bool) (q : n ≡ length bs / reco
 
   -- the verdict of the code
   pub verdict-found : (ms ss : List ℕ) (fits run : Bool) (v : Verdict) → fits ≡ sizesFit (length cs) cs ms ss
-      → v ≡ pick whole (pick (both fits run) verdict.Well (verdict.Refused WrongSize)) (verdict.Refused OutOfRange) → v ≡ verdictBytes bs ms ss run
+      → v ≡ judge (tableTests whole (both fits run)) → v ≡ verdictBytes bs ms ss run
   unfolding verdictBytes
   verdict-found ms ss fits run v f h =
-      h ∙ (λ k. pick (judged-is k) (pick (both (f k) run) verdict.Well (verdict.Refused WrongSize)) (verdict.Refused OutOfRange))
+      h ∙ (λ k. judge (tableTests (judged-is k) (both (f k) run)))
       ∙ pick-and (isTable bs) (tableInRange (length cs) cs) _ (verdict.Refused OutOfRange)
 
 -- over 16 records
