@@ -6,6 +6,7 @@ pub mod Filling
 pub mod Places
 pub mod Takes
 pub mod TakesLaw
+pub mod Parts
 pub mod Sends
 pub mod SendsLaw
 pub mod Judged
