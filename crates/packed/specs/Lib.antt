@@ -11,3 +11,6 @@ pub mod Sends
 pub mod SendsLaw
 pub mod Judged
 pub mod Waiting
+pub mod Limits
+pub mod LimitsLaw
+pub mod JudgedLaw

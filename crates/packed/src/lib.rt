@@ -4,6 +4,7 @@ mod judged;
 mod level;
 mod record;
 mod sending;
+mod steps;
 mod table;
 mod taking;
 
@@ -26,6 +27,14 @@ pub const RECORD_SIZE: usize = 32;
 // What a chip is in the middle of: the number of the step, and what it needs to go on.
 pub struct Step {
     pub number: u8,
+    pub w: u16,
+    pub a: u8,
+    pub b: u8,
+    pub c: u8,
+}
+
+// The most that a step's fields hold.
+pub struct Limits {
     pub w: u16,
     pub a: u8,
     pub b: u8,
