@@ -7,6 +7,9 @@ use crate::model::lent::{card, memories_asked, table_size, Lent, Run};
 use crate::model::memory::{IMAGE, PAD};
 use crate::report::hex;
 
+/// Most bytes of a run's bits that are shown.
+const SHOWN: usize = 64;
+
 /// A call. A piece of memory is its bytes.
 #[derive(Clone)]
 pub enum Call {
@@ -157,9 +160,10 @@ impl Call {
                 levels,
             } => format!("tk_event {event}, chip {chip}, levels {levels}"),
             Call::Run(run) => format!(
-                "tk_slots, {} slots, bits {}, {} bytes of answers",
+                "tk_slots, {} slots, {} bytes of bits from {} on, {} bytes of answers",
                 run.slots,
-                hex(&run.bits),
+                run.bits.len(),
+                hex(&run.bits[..run.bits.len().min(SHOWN)]),
                 run.answers.len()
             ),
             Call::Search { list } => format!("tk_search, {} places", list.len()),

@@ -17,18 +17,20 @@ pub const LENGTHS: [(usize, &str); 6] = [
     (MOST_SLOTS as usize, "run: 65,535 slots"),
 ];
 /// The wrong sizes of a run, each refused by 5.
-pub const SIZES: [&str; 8] = [
+pub const SIZES: [&str; 10] = [
     "run: bits one byte short",
     "run: bits one byte long",
     "run: answers one byte short",
     "run: answers one byte long",
+    "run: bits and answers one byte short",
+    "run: bits and answers one byte long",
     "run: 65,536 slots",
     "run: too many slots, their low 16 bits a run",
     "run: too many slots, their low 32 bits a run",
     "run: slots that wrap when they are rounded up",
 ];
 /// The other classes of runs.
-const OTHERS: [&str; 14] = [
+const OTHERS: [&str; 15] = [
     "run: over 256 slots",
     "run: host bits past its end",
     "run: on no chips",
@@ -42,6 +44,7 @@ const OTHERS: [&str; 14] = [
     "run: a scratchpad changes",
     "run: an image changes",
     "run: an image behind that of a waiting chip changes",
+    "run: an image behind that of a chip that begins to wait changes",
     "run: 8 before 5",
 ];
 /// The class of a run that finds, or leaves, a chip of this kind at this step.
@@ -129,15 +132,20 @@ impl Classes {
     /// Counts an image that a run has changed.
     fn note_images(&mut self, before: &Lent, after: &Lent) {
         let records = before.table.chunks_exact(RECORD);
-        let memories = records.filter(|record| part_of(record[KIND].into()) == Some(DS28EC20));
+        let records = records.zip(after.table.chunks_exact(RECORD));
+        let memory = |record: &[u8]| part_of(record[KIND].into()) == Some(DS28EC20);
+        let memories = records.filter(|(record, _)| memory(record));
         let images = before.images.chunks(IMAGE).zip(after.images.chunks(IMAGE));
-        let mut waiting = false;
-        for (record, (image, then)) in memories.zip(images) {
-            let changes = image != then;
+        let [mut waiting, mut begins] = [false; 2];
+        for ((record, then), (image, changed)) in memories.zip(images) {
+            let changes = image != changed;
             self.saw_if(changes, "run: an image changes");
             let name = "run: an image behind that of a waiting chip changes";
             self.saw_if(changes && waiting, name);
+            let name = "run: an image behind that of a chip that begins to wait changes";
+            self.saw_if(changes && begins, name);
             waiting |= waits(record);
+            begins |= !waits(record) && waits(then);
         }
     }
 }

@@ -130,9 +130,14 @@ impl Tester {
             1 => run.bits.push(rng.byte()),
             2 => drop(run.answers.pop()),
             3 => run.answers.push(rng.byte()),
-            4 => run = run_of(rng, &vec![1; MOST_SLOTS as usize + 1]),
-            5 => run.slots += (MOST_SLOTS + 1) << rng.below(16),
-            6 => run.slots += 1 << rng.between(32, 63),
+            4 => drop((run.bits.pop(), run.answers.pop())),
+            5 => {
+                run.bits.push(rng.byte());
+                run.answers.push(rng.byte());
+            }
+            6 => run = run_of(rng, &vec![1; MOST_SLOTS as usize + 1]),
+            7 => run.slots += (MOST_SLOTS + 1) << rng.below(16),
+            8 => run.slots += 1 << rng.between(32, 63),
             _ => {
                 run = run_of(rng, &[]);
                 run.slots = u64::MAX - rng.below(7) as u64;
