@@ -13,44 +13,44 @@ use Rattle.rom.specs.Rom.{searchSends}
 use Rattle.chip.specs.Kinds.{imageSize, padSize}
 use Rattle.records.specs.Numbers.{numberAt}
 
--- "Read ROM: a place of the bit to send"
+-- step 2: "Read ROM: a place of the bit to send (0 to 63)"
 unfoldable pub codeBit : List ℕ → Bool
 codeBit bs = bitOf (numberAt bs 0 8) (getD bs 18 0)
 
--- "Search ROM: a place (0 to 63), b 0 for the bit, 1 for its complement, 2 for the bit to take"
+-- step 4: "Search ROM: a place (0 to 63), b 0 for the bit, 1 for its complement, 2 for the bit to take"
 unfoldable pub searchBit : List ℕ → Bool
 searchBit bs = searchSends (numberAt bs 0 8) (getD bs 18 0) (getD bs 19 0)
 
--- "CRC-16 being sent: a place (0 to 15), w the CRC-16 before it is inverted"
+-- step 19: "CRC-16 being sent: a place (0 to 15), w the CRC-16 before it is inverted"
 unfoldable pub crcBit : List ℕ → Bool
 crcBit bs = not (bitOf (numberAt bs 16 2) (getD bs 18 0))
 
--- "Read Scratchpad, TA1, TA2 and E/S: a place (0 to 23)"
+-- step 20: "Read Scratchpad, TA1, TA2 and E/S: a place (0 to 23)"
 unfoldable pub registerBit : List ℕ → Bool
 registerBit bs = bitOf (numberAt bs 10 2 + 65536 * getD bs 12 0) (getD bs 18 0)
 
--- "Read Scratchpad, data: a offset (0 to 31), b place (0 to 7)"
+-- step 21: "Read Scratchpad, data: a offset (0 to 31), b place (0 to 7), w CRC-16 so far"
 unfoldable pub padBit : ℕ → List ℕ → List ℕ → Bool
 padBit pad bs ss = bitOf (partByte ss pad (padSize (getD bs 8 0)) (getD bs 18 0)) (getD bs 19 0)
 
--- "a copy was carried out: a the bit that is sent next, 0 or 1"
+-- step 24: "a copy was carried out: a the bit that is sent next, 0 or 1"
 unfoldable pub copiedBit : List ℕ → Bool
 copiedBit bs = eqb (getD bs 18 0) 1
 
--- "Read Memory, data: w address (0 to 0A3Fh), a place (0 to 7)"
+-- step 26: "Read Memory, data: w address (0 to 0A3Fh), a place (0 to 7)"
 unfoldable pub memoryBit : ℕ → List ℕ → List ℕ → Bool
 memoryBit image bs ms = bitOf (partByte ms image (imageSize (getD bs 8 0)) (numberAt bs 16 2)) (getD bs 18 0)
 
--- "PIO Access Read: a place (0 to 7), b the sampled status", and so "PIO Access Write, the status"
+-- step 33: "PIO Access Read: a place (0 to 7), b the sampled status", and step 36: "PIO Access Write, the status: a place (0 to 7), b the sampled status"
 unfoldable pub sampleBit : List ℕ → Bool
 sampleBit bs = bitOf (getD bs 19 0) (getD bs 18 0)
 
--- "PIO Access Write, AAh: a place (0 to 7)"
+-- step 35: "PIO Access Write, AAh: a place (0 to 7)"
 unfoldable pub confirmBit : List ℕ → Bool
 confirmBit bs = bitOf 0xAA (getD bs 18 0)
 
--- what is sent at the step of a number; one that has nothing to send sends 1
 module _ (image pad : ℕ) (bs ms ss : List ℕ) where
+  -- what is sent at the step of a number; one that has nothing to send sends 1
   unfoldable pub sendsAt : ℕ → Bool
   sendsAt number =
       pick (eqb number 2) (codeBit bs)
