@@ -10,12 +10,13 @@ use lib.Seq.{take-length}
 use borrow.Author.Tests.{lt-leb, le-leb}
 use Rattle.base.specs.Pick.{pick, pick-true, pick-false, pick-same}
 use Rattle.base.specs.Bits.{both}
-use Rattle.base.specs.Both.{both-holds}
+use Rattle.base.specs.Both.{both-holds, true-both}
 use Rattle.chip.specs.declared.Chip.{Chip}
 use Rattle.line.specs.Event.{judge, tableTests, verdictOf, allInRange, tableInRange, sizesFit, Fits}
+use Rattle.line.specs.Carrier.{runVerdictBy}
 use Rattle.line.specs.Layout.{imagesSize, padsSize}
-use Rattle.line.specs.Refusals.{fit, in-range-few, well-judged}
-use Rattle.line.specs.declared.Refusal.{Refusal}
+use Rattle.line.specs.Slots.{runFits}
+use Rattle.line.specs.Refusals.{fit, in-range-few, well-judged, held}
 use Rattle.line.specs.declared.Refusal.the-variants.{OutOfRange, WrongSize}
 use Rattle.line.specs.declared.Survey.{Survey}
 use Rattle.line.specs.declared.Verdict.{Verdict}
@@ -25,11 +26,15 @@ use Rattle.packed.specs.Laws.{table-is}
 use Rattle.packed.specs.Places.{Table16}
 use Rattle.toemsakun.specs.Standing.{standAs, surveyOf, pick-and, chips-are, chips-count, whole-is}
 
+-- refused by 8
+abbrev pub refused8 : Verdict
+refused8 = verdict.Refused OutOfRange
+
 -- 8, then 5: bytes that are no table are refused by 8, and a run's own sizes by 5
 unfoldable pub verdictBytes : List ℕ → List ℕ → List ℕ → Bool → Verdict
 verdictBytes bs ms ss run =
     let cs = unpackedTable bs in
-    pick (isTable bs) (judge (tableTests (tableInRange (length cs) cs) (both (sizesFit (length cs) cs ms ss) run))) (verdict.Refused OutOfRange)
+    pick (isTable bs) (judge (tableTests (tableInRange (length cs) cs) (both (sizesFit (length cs) cs ms ss) run))) refused8
 
 -- at most 16 chips are in range where each is
 in-range-is : (cs : List Chip) → length cs ≤ 16 → tableInRange (length cs) cs ≡ allInRange cs
@@ -46,14 +51,10 @@ sizes-found bs ms ss n chip l q s =
     (λ j. both (eqb (length ms) (found j .spot .image)) (eqb (length ss) (found j .spot .pad)))
     ∙ (λ j. both (eqb (length ms) (imagesSize (cut j))) (eqb (length ss) (padsSize (cut j))))
 
--- a test that did not refuse holds
-held : (t : Bool) (q : Verdict) (r : Refusal) → verdict.Well ≡ pick t q (verdict.Refused r) → (t ≡ true) × (verdict.Well ≡ q)
+by-whole : (w f : Bool) → pick w (judge (tableTests true f)) refused8 ≡ judge (tableTests w f)
 unfolding pick
-held true q r e = (refl, e)
-held false q r e = absurd (other e)
-  where
-    other : verdict.Well ≡ verdict.Refused r → ⊥
-    other z = let y : _≡_ {A = ℕ} 0 1 = cc in omega arith
+by-whole true f = refl
+by-whole false f = refl
 
 module _ (bs : List ℕ) (n : ℕ) (ok whole : Bool) (q : n ≡ length bs / recordSize) (few : n ≤ 16) (j : both ok (eqb (length bs) (n * recordSize)) ≡ standAs (unpackedFrom n bs) bs)
     (w : whole ≡ both ok (eqb (length bs) (n * recordSize))) where
@@ -70,15 +71,25 @@ module _ (bs : List ℕ) (n : ℕ) (ok whole : Bool) (q : n ≡ length bs / reco
   judged-table e = let h = both-holds (isTable bs) (tableInRange (length cs) cs) (sym judged-is ∙ e) in (h .0, h .1, chips-count bs n q)
 
   -- the verdict of the code
-  pub verdict-found : (ms ss : List ℕ) (fits run : Bool) (v : Verdict) → fits ≡ sizesFit (length cs) cs ms ss
+  verdict-judged : (ms ss : List ℕ) (fits run : Bool) (v : Verdict) → fits ≡ sizesFit (length cs) cs ms ss
       → v ≡ judge (tableTests whole (both fits run)) → v ≡ verdictBytes bs ms ss run
   unfolding verdictBytes
-  verdict-found ms ss fits run v f h =
+  verdict-judged ms ss fits run v f h =
       h ∙ (λ k. judge (tableTests (judged-is k) (both (f k) run)))
-      ∙ pick-and (isTable bs) (tableInRange (length cs) cs) _ (verdict.Refused OutOfRange)
+      ∙ pick-and (isTable bs) (tableInRange (length cs) cs) _ refused8
+
+  pub verdict-found : (ms ss : List ℕ) (l : Survey) (slots bits answers : ℕ) (v : Verdict) → l ≡ surveyOf 0 (unpackedFrom n bs)
+      → v ≡ pick whole (runVerdictBy l n (length ms) (length ss) slots bits answers) refused8 → v ≡ verdictBytes bs ms ss (runFits slots bits answers)
+  unfolding runVerdictBy
+  verdict-found ms ss l slots bits answers v s h =
+      let fits = both (eqb (length ms) (l .spot .image)) (eqb (length ss) (l .spot .pad)) in
+      let run = runFits slots bits answers in
+      let within : both (leb n 16) (l .within) ≡ true = (λ k. both (le-leb n 16 few k) (s k .within)) ∙ true-both true in
+      verdict-judged ms ss fits run v (sizes-found bs ms ss n 0 l q s)
+      (h ∙ ap (λ (b : Bool). pick whole (judge (tableTests b (both fits run))) refused8) within ∙ by-whole whole (both fits run))
 
 -- over 16 records
-pub verdict-long : (bs ms ss : List ℕ) (run : Bool) → 16 < length bs / recordSize → verdict.Refused OutOfRange ≡ verdictBytes bs ms ss run
+pub verdict-long : (bs ms ss : List ℕ) (run : Bool) → 16 < length bs / recordSize → refused8 ≡ verdictBytes bs ms ss run
 unfolding verdictBytes tableInRange
 verdict-long bs ms ss run h =
     let k = chips-count bs (length bs / recordSize) refl in
