@@ -18,7 +18,8 @@ use Rattle.packed.specs.Step.{step, flag, levelPacked, levelUnpacked}
 use Rattle.packed.specs.Packed.{recordSize, bytesOf, stepAt, packedWith, packed, unpacked, sameBytes, isRecord}
 use Rattle.packed.specs.Laws.{same-true, same-refl, packed-length}
 use Rattle.packed.specs.Limits.{stepStands}
-use Rattle.packed.specs.LimitsLaw.{holds-both, flag-is, flag-small, step-back, Bytes, level-fits}
+use Rattle.packed.specs.LimitsLaw.{holds-both, flag-is, flag-small, step-back}
+use Rattle.packed.specs.LevelLimits.{Bytes, level-fits}
 use Rattle.packed.specs.Judged.{stands, fieldsStand, areZero, restIsZero, bytesStand}
 
 -- two tests, each of which holds where the other does

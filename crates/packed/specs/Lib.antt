@@ -13,4 +13,5 @@ pub mod Judged
 pub mod Waiting
 pub mod Limits
 pub mod LimitsLaw
+pub mod LevelLimits
 pub mod JudgedLaw

@@ -1,12 +1,9 @@
 -- include/toemsakun.h, the table of steps, by numbers alone: which chips can be in a step, and the most that w, a, b and c then hold.
 use Prim.Native.Nat.{ℕ}
 use mathlib.Core.Bool.{Bool, true}
-use mathlib.Core.Path.{_≡_, _∙_, ap, sym}
 use lib.Dec.{eqb, ltb, leb}
-use borrow.Author.Tests.{eq-eqb, ne-eqb}
-use Rattle.base.specs.Pick.{pick, pick-true, pick-false}
+use Rattle.base.specs.Pick.{pick}
 use Rattle.base.specs.Bits.{both}
-use Rattle.base.specs.Both.{true-both}
 use Rattle.memory.specs.Part.{mapOf}
 use Rattle.chip.specs.Kinds.{partOf, hasMemory, hasSwitch}
 use Rattle.packed.specs.declared.Step.{Step}
@@ -76,17 +73,3 @@ unfoldable pub stepStands : ℕ → Step → Bool
 stepStands kind s =
     pick (eqb (s .number) 0) (within s (upTo 0 0 0 0))
     (both (canBe kind (s .number)) (within s (limitsOf kind (s .number))))
-
--- what a chip needs in step 0, and in another that it can be in
-pub waiting-stands : (kind number : ℕ) (s : Step) (most : Limits) (t : Bool) → number ≡ s .number → number ≡ 0 → most ≡ upTo 0 0 0 0 → t ≡ within s most → t ≡ stepStands kind s
-unfolding stepStands
-waiting-stands kind number s most t e z m h =
-    h ∙ ap (λ (x : Limits). within s x) m ∙ sym (pick-true (eqb (s .number) 0) _ _ (eq-eqb (s .number) 0 (sym e ∙ z)))
-
-pub within-stands : (k kind number : ℕ) (s : Step) (most : Limits) (can t : Bool) → k ≡ kind → number ≡ s .number → (number ≡ 0 → ⊥) → can ≡ canBe k number → can ≡ true → most ≡ limitsOf k number → t ≡ within s most
-    → t ≡ stepStands kind s
-unfolding stepStands
-within-stands k kind number s most can t q e z c o m h =
-    let f : canBe kind (s .number) ≡ true = (λ j. canBe (sym q j) (sym e j)) ∙ sym c ∙ o in
-    h ∙ ap (λ (x : Limits). within s x) (m ∙ (λ j. limitsOf (q j) (e j))) ∙ sym (true-both _) ∙ ap (λ (x : Bool). both x (within s (limitsOf kind (s .number)))) (sym f)
-    ∙ sym (pick-false (eqb (s .number) 0) _ _ (ne-eqb (s .number) 0 (λ (x : s .number ≡ 0). z (e ∙ x))))

@@ -1,29 +1,19 @@
--- Law: a chip of a kind can be in a step with such fields exactly where they stand for a level of its own, in its range, that packs to them again.
+-- Law: a chip that can be in a step with such fields has a level of its own, in its range, that packs to them again.
 use Prim.Native.Nat.{ℕ, suc, _<_, _≤_}
 use native.Mathlib.Omega.{arith}
 use mathlib.Core.Bool.{Bool, true, false}
-use mathlib.Core.Path.{_≡_, refl, _∙_, sym}
+use mathlib.Core.Path.{_≡_, refl, _∙_, ap, sym}
 use lib.Dec.{eqb, ltb, leb}
-use borrow.Author.Tests.{ltb-true, ltb-false, leb-true, eqb-true, eqb-false, lt-ltb, le-ltb, le-leb, ne-eqb}
+use borrow.Author.Tests.{ltb-true, ltb-false, leb-true, eqb-true, eqb-false, lt-ltb, le-ltb, le-leb, eq-eqb, ne-eqb}
 use Rattle.base.specs.Pick.{pick, pick-true, pick-false}
 use Rattle.base.specs.Bits.{both}
-use Rattle.base.specs.Both.{both-holds}
+use Rattle.base.specs.Both.{both-holds, true-both}
 use Rattle.memory.specs.Part.{mapOf}
-use Rattle.scratchpad.specs.Scratchpad.{memoryInRange}
-use Rattle.ds2413.specs.Switch.{phaseInRange}
-use Rattle.rom.specs.declared.RomStep.{RomStep}
-use Rattle.rom.specs.declared.RomStep.the-variants as rom
-use Rattle.scratchpad.specs.declared.MemoryPhase.{MemoryPhase}
-use Rattle.scratchpad.specs.declared.MemoryPhase.the-variants as memory
-use Rattle.ds2413.specs.declared.SwitchPhase.{SwitchPhase}
-use Rattle.ds2413.specs.declared.SwitchPhase.the-variants as pio
 use Rattle.chip.specs.Kinds.{partOf, hasMemory, hasSwitch}
 use Rattle.chip.specs.Range.{levelInRange}
-use Rattle.chip.specs.declared.Level.{Level}
-use Rattle.chip.specs.declared.Level.the-variants.{Waiting, Rom, FunctionCommand, Memory, Pio}
 use Rattle.packed.specs.declared.Step.{Step}
 use Rattle.packed.specs.declared.Limits.{Limits}
-use Rattle.packed.specs.Step.{step, flag, romPacked, memoryPacked, switchPacked, levelPacked, romUnpacked, copyUnpacked, memoryUnpacked, switchUnpacked, levelUnpacked}
+use Rattle.packed.specs.Step.{step, flag, levelPacked, romUnpacked, copyUnpacked, memoryUnpacked, switchUnpacked, levelUnpacked}
 use Rattle.packed.specs.Limits.{upTo, anyLimits, memoryLimits, switchLimits, limitsOf, canBe, within, stepStands}
 
 -- two bits are both 1 where each is
@@ -61,10 +51,24 @@ module _ (s : Step) (most : Limits) where
       let m = both-holds (leb (s .b) (most .b)) _ (k .1) in
       (leb-true _ _ (h .0), leb-true _ _ (k .0), leb-true _ _ (m .0), leb-true _ _ (m .1))
 
-  fits : s .w ≤ most .w → s .a ≤ most .a → s .b ≤ most .b → s .c ≤ most .c → within s most ≡ true
+  pub fits : s .w ≤ most .w → s .a ≤ most .a → s .b ≤ most .b → s .c ≤ most .c → within s most ≡ true
   unfolding within
   fits w a b c =
       holds-both _ _ (le-leb _ _ w) (holds-both _ _ (le-leb _ _ a) (holds-both _ _ (le-leb _ _ b) (le-leb _ _ c)))
+
+-- what a chip needs in step 0, and in another that it can be in
+pub waiting-stands : (kind number : ℕ) (s : Step) (most : Limits) (t : Bool) → number ≡ s .number → number ≡ 0 → most ≡ upTo 0 0 0 0 → t ≡ within s most → t ≡ stepStands kind s
+unfolding stepStands
+waiting-stands kind number s most t e z m h =
+    h ∙ ap (λ (x : Limits). within s x) m ∙ sym (pick-true (eqb (s .number) 0) _ _ (eq-eqb (s .number) 0 (sym e ∙ z)))
+
+pub within-stands : (k kind number : ℕ) (s : Step) (most : Limits) (can t : Bool) → k ≡ kind → number ≡ s .number → (number ≡ 0 → ⊥) → can ≡ canBe k number → can ≡ true → most ≡ limitsOf k number → t ≡ within s most
+    → t ≡ stepStands kind s
+unfolding stepStands
+within-stands k kind number s most can t q e z c o m h =
+    let f : canBe kind (s .number) ≡ true = (λ j. canBe (sym q j) (sym e j)) ∙ sym c ∙ o in
+    h ∙ ap (λ (x : Limits). within s x) (m ∙ (λ j. limitsOf (q j) (e j))) ∙ sym (true-both _) ∙ ap (λ (x : Bool). both x (within s (limitsOf kind (s .number)))) (sym f)
+    ∙ sym (pick-false (eqb (s .number) 0) _ _ (ne-eqb (s .number) 0 (λ (x : s .number ≡ 0). z (e ∙ x))))
 
 -- a test holds together with what a kind has, where it holds by itself
 owned : {A : Type 0} (t u x : Bool) → (u ≡ true → A × (x ≡ true)) → both t u ≡ true → A × (both t x ≡ true)
@@ -196,60 +200,3 @@ module _ (kind w a b c : ℕ) where
       go true t f g h k = back-any n (f refl) e
       go false true f g h k = back-memory n (of-memory n (g refl) (h refl) (can n (g refl) e)) (h refl) e
       go false false f g h k = let s = of-switch n (k refl) (can n (g refl) e) in back-switch n (s .1) (s .0) e
-
--- a level in its range is a step within its limits
-over : (x k : ℕ) → ltb x (suc k) ≡ true → x ≤ k
-over x k e = let h = ltb-true x (suc k) e in omega arith
-
--- the fields that may be anything are numbers of their bytes
-pub record Bytes (s : Step) : Type 0 where
-  pub w-small : s .w ≤ 65535
-  pub b-small : s .b ≤ 255
-  pub c-small : s .c ≤ 255
-
-module _ (kind : ℕ) where
-  rom-fits : (s : RomStep) → levelInRange kind (Rom s) ≡ true → Bytes (romPacked s) → stepStands kind (romPacked s) ≡ true
-  unfolding stepStands canBe limitsOf anyLimits pick both
-  rom-fits (rom.Command count bits) e g = fits (step 1 0 count bits 0) (upTo 0 7 255 0) (omega arith) (over count 7 e) (g .b-small) (omega arith)
-  rom-fits (rom.Read place) e g = fits (step 2 0 place 0 0) (upTo 0 63 0 0) (omega arith) (over place 63 e) (omega arith) (omega arith)
-  rom-fits (rom.Match place) e g = fits (step 3 0 place 0 0) (upTo 0 63 0 0) (omega arith) (over place 63 e) (omega arith) (omega arith)
-  rom-fits (rom.Search place part) e g =
-      let h = both-holds (ltb place 64) (ltb part 3) e in
-      fits (step 4 0 place part 0) (upTo 0 63 2 0) (omega arith) (over place 63 (h .0)) (over part 2 (h .1)) (omega arith)
-
-  memory-fits : (p : MemoryPhase) → hasMemory kind ≡ true → memoryInRange (mapOf (partOf kind) .last) p ≡ true → Bytes (memoryPacked p) → stepStands kind (memoryPacked p) ≡ true
-  unfolding stepStands canBe limitsOf memoryLimits pick both
-  memory-fits memory.Ones o e g = holds-both (hasMemory kind) _ o (fits (step 16 0 0 0 0) (upTo 0 0 0 0) (omega arith) (omega arith) (omega arith) (omega arith))
-  memory-fits (memory.WriteAddress count bits) o e g = holds-both (hasMemory kind) _ o (fits (step 17 bits count 0 0) (upTo 65535 15 0 0) (g .w-small) (over count 15 e) (omega arith) (omega arith))
-  memory-fits (memory.WriteData offset count bits crc) o e g =
-      let h = both-holds (ltb offset 32) (ltb count 8) e in
-      holds-both (hasMemory kind) _ o (fits (step 18 crc offset count bits) (upTo 65535 31 7 255) (g .w-small) (over offset 31 (h .0)) (over count 7 (h .1)) (g .c-small))
-  memory-fits (memory.SendCrc place crc) o e g = holds-both (hasMemory kind) _ o (fits (step 19 crc place 0 0) (upTo 65535 15 0 0) (g .w-small) (over place 15 e) (omega arith) (omega arith))
-  memory-fits (memory.ReadRegisters place) o e g = holds-both (hasMemory kind) _ o (fits (step 20 0 place 0 0) (upTo 0 23 0 0) (omega arith) (over place 23 e) (omega arith) (omega arith))
-  memory-fits (memory.ReadPad offset count crc) o e g =
-      let h = both-holds (ltb offset 32) (ltb count 8) e in
-      holds-both (hasMemory kind) _ o (fits (step 21 crc offset count 0) (upTo 65535 31 7 0) (g .w-small) (over offset 31 (h .0)) (over count 7 (h .1)) (omega arith))
-  memory-fits (memory.CopyAddress count bits) o e g = holds-both (hasMemory kind) _ o (fits (step 22 bits count 0 0) (upTo 65535 15 0 0) (g .w-small) (over count 15 e) (omega arith) (omega arith))
-  memory-fits (memory.CopyEnd address count bits) o e g = holds-both (hasMemory kind) _ o (fits (step 23 address count bits 0) (upTo 65535 7 255 0) (g .w-small) (over count 7 e) (g .b-small) (omega arith))
-  memory-fits (memory.Copied answer) o e g = holds-both (hasMemory kind) _ o (fits (step 24 0 (flag answer) 0 0) (upTo 0 1 0 0) (omega arith) (flag-small answer) (omega arith) (omega arith))
-  memory-fits (memory.ReadAddress count bits) o e g = holds-both (hasMemory kind) _ o (fits (step 25 bits count 0 0) (upTo 65535 15 0 0) (g .w-small) (over count 15 e) (omega arith) (omega arith))
-  memory-fits (memory.ReadMemory address count) o e g =
-      let last = mapOf (partOf kind) .last in
-      let h = both-holds (leb address last) (ltb count 8) e in
-      holds-both (hasMemory kind) _ o (fits (step 26 address count 0 0) (upTo last 7 0 0) (leb-true address last (h .0)) (over count 7 (h .1)) (omega arith) (omega arith))
-
-  switch-fits : (p : SwitchPhase) → hasSwitch kind ≡ true → phaseInRange p ≡ true → Bytes (switchPacked p) → stepStands kind (switchPacked p) ≡ true
-  unfolding stepStands canBe limitsOf switchLimits pick both
-  switch-fits pio.Ones o e g = holds-both (hasSwitch kind) _ o (fits (step 32 0 0 0 0) (upTo 0 0 0 0) (omega arith) (omega arith) (omega arith) (omega arith))
-  switch-fits (pio.Status count sample) o e g = holds-both (hasSwitch kind) _ o (fits (step 33 0 count sample 0) (upTo 0 7 255 0) (omega arith) (over count 7 e) (g .b-small) (omega arith))
-  switch-fits (pio.Take count bits) o e g = holds-both (hasSwitch kind) _ o (fits (step 34 bits count 0 0) (upTo 65535 15 0 0) (g .w-small) (over count 15 e) (omega arith) (omega arith))
-  switch-fits (pio.Confirm count) o e g = holds-both (hasSwitch kind) _ o (fits (step 35 0 count 0 0) (upTo 0 7 0 0) (omega arith) (over count 7 e) (omega arith) (omega arith))
-  switch-fits (pio.Show count sample) o e g = holds-both (hasSwitch kind) _ o (fits (step 36 0 count sample 0) (upTo 0 7 255 0) (omega arith) (over count 7 e) (g .b-small) (omega arith))
-
-  pub level-fits : (l : Level) → levelInRange kind l ≡ true → Bytes (levelPacked l) → stepStands kind (levelPacked l) ≡ true
-  unfolding stepStands canBe limitsOf anyLimits pick both
-  level-fits Waiting e g = fits (step 0 0 0 0 0) (upTo 0 0 0 0) (omega arith) (omega arith) (omega arith) (omega arith)
-  level-fits (Rom s) e g = rom-fits s e g
-  level-fits (FunctionCommand count bits) e g = fits (step 5 0 count bits 0) (upTo 0 7 255 0) (omega arith) (over count 7 e) (g .b-small) (omega arith)
-  level-fits (Memory p) e g = let h = both-holds (hasMemory kind) _ e in memory-fits p (h .0) (h .1) g
-  level-fits (Pio p) e g = let h = both-holds (hasSwitch kind) _ e in switch-fits p (h .0) (h .1) g

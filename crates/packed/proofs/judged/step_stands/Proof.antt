@@ -1,5 +1,6 @@
 use Rattle.base.specs.Bits.{both}
-use Rattle.packed.specs.Limits.{stepStands, waiting-stands, within-stands}
+use Rattle.packed.specs.Limits.{stepStands}
+use Rattle.packed.specs.LimitsLaw.{waiting-stands, within-stands}
 use Rattle.base.specs.Rules.{cases}
 use borrow.Author.Needs.{needs}
 use Rattle.packed.proofs.judged.step_stands.Statement.{statement}
