@@ -13,7 +13,7 @@ use Rattle.packed.specs.declared.Limits.{Limits}
 abbrev pub upTo : ℕ → ℕ → ℕ → ℕ → Limits
 upTo w a b c = record { w = w; a = a; b = b; c = c }
 
--- steps 1 to 5, of any chip
+-- steps 1 to 4, of any chip; else 5
 unfoldable pub anyLimits : ℕ → Limits
 anyLimits number =
     pick (eqb number 1) (upTo 0 7 255 0)

@@ -15,7 +15,7 @@ pub fn up_to(w: u16, a: u8, b: u8, c: u8) -> Limits
     }
 }
 
-// Steps 1 to 5.
+// Steps 1 to 4; else 5.
 fn any_limits(number: u8) -> Limits
     ensures { λ r. ⌜ r ≡ anyLimits number ⌝ }
 {
