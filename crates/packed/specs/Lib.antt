@@ -4,7 +4,9 @@ pub mod Laws
 pub mod Loops
 pub mod Filling
 pub mod Places
+pub mod Within
 pub mod Takes
+pub mod Taking
 pub mod TakesLaw
 pub mod Parts
 pub mod Sends

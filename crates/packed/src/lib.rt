@@ -1,4 +1,5 @@
 // A chip's record as bytes, and a table as a run of them.
+mod counting;
 mod fields;
 mod judged;
 mod level;
@@ -39,6 +40,26 @@ pub struct Limits {
     pub a: u8,
     pub b: u8,
     pub c: u8,
+}
+
+// What a slot does to the bytes of a step, where it only counts or fills.
+pub enum Shape {
+    // nothing
+    Still,
+    // a is counted up to a last place
+    Count { last: u8 },
+    // a byte is taken: a counts its bits, which enter b
+    Byte,
+    // two bytes are taken: a counts their bits, which enter w
+    Word,
+    // a is counted while the bits are the code's
+    Code,
+    // a data byte is taken: b counts its bits, which enter c
+    Data,
+    // a byte of the scratchpad is sent: b counts its bits
+    Pad,
+    // anything else
+    Any,
 }
 
 // The table whose first places bytes fill, and whether they are the records of its chips.

@@ -1,0 +1,99 @@
+-- Laws: how the code of a slot comes to what the slot leaves, branch by branch.
+use Prim.Native.Nat.{ℕ, _+_, _<_, _≤_}
+use mathlib.Core.Bool.{Bool, true, false}
+use mathlib.Core.List.{List}
+use mathlib.Core.Path.{_≡_, _∙_, ap, sym}
+use lib.Dec.{ltb}
+use lib.ListN.{getD, set}
+use borrow.Author.Tests.{lt-ltb, le-ltb}
+use Rattle.base.specs.Pick.{pick, pick-true, pick-false}
+use Rattle.packed.specs.declared.Shape.{Shape}
+use Rattle.packed.specs.Takes.{Taken, taken, shapeOf, filledAt, wordFilled, ofCode, anyIn, countIn, byteIn, wordIn, codeIn, dataIn, padOut, takesBy, takesIn}
+
+-- a step's number is one in the table
+pub shape-of : (n k : ℕ) → n ≡ k → shapeOf k ≡ shapeOf n
+shape-of n k e = ap (λ (m : ℕ). shapeOf m) (sym e)
+
+module _ (v : Bool) (image pad : ℕ) (bs ms ss : List ℕ) where
+  -- a number that was read at a place is below another, or is not
+  below : (place n a : ℕ) → a ≡ getD bs place 0 → a < n → ltb (getD bs place 0) n ≡ true
+  below place n a e h = ap (λ (b : ℕ). ltb b n) (sym e) ∙ lt-ltb a n h
+
+  above : (place n a : ℕ) → a ≡ getD bs place 0 → n ≤ a → ltb (getD bs place 0) n ≡ false
+  above place n a e h = ap (λ (b : ℕ). ltb b n) (sym e) ∙ le-ltb a n h
+
+  -- bytes that are stored by it, and what comes else
+  stored : (place n a : ℕ) (f : ℕ → List ℕ) (x : List ℕ) (y : Taken) → a ≡ getD bs place 0 → a < n → x ≡ f a
+      → taken x ms ss ≡ pick (ltb (getD bs place 0) n) (taken (f (getD bs place 0)) ms ss) y
+  stored place n a f x y e h g =
+      (λ j. taken (g j) ms ss)
+      ∙ ap (λ (b : ℕ). taken (f b) ms ss) e
+      ∙ sym (pick-true (ltb (getD bs place 0) n) (taken (f (getD bs place 0)) ms ss) y (below place n a e h))
+
+  else : (place n a : ℕ) (x y z : Taken) → a ≡ getD bs place 0 → n ≤ a → x ≡ z → x ≡ pick (ltb (getD bs place 0) n) y z
+  else place n a x y z e h g = g ∙ sym (pick-false (ltb (getD bs place 0) n) y z (above place n a e h))
+
+  pub count-on : (last a : ℕ) (x : List ℕ) → a ≡ getD bs 18 0 → a < last → x ≡ set bs 18 (a + 1) → taken x ms ss ≡ countIn v image pad bs ms ss last
+  unfolding countIn
+  count-on last a x e h g = stored 18 last a (λ (b : ℕ). set bs 18 (b + 1)) x _ e h g
+
+  pub count-else : (last a : ℕ) (x : Taken) → a ≡ getD bs 18 0 → last ≤ a → x ≡ anyIn v image pad bs ms ss → x ≡ countIn v image pad bs ms ss last
+  unfolding countIn
+  count-else last a x e h g = else 18 last a x _ _ e h g
+
+  pub byte-on : (a : ℕ) (x : List ℕ) → a ≡ getD bs 18 0 → a < 7 → x ≡ filledAt 18 (a + 1) 19 v bs → taken x ms ss ≡ byteIn v image pad bs ms ss
+  unfolding byteIn
+  byte-on a x e h g = stored 18 7 a (λ (b : ℕ). filledAt 18 (b + 1) 19 v bs) x _ e h g
+
+  pub byte-else : (a : ℕ) (x : Taken) → a ≡ getD bs 18 0 → 7 ≤ a → x ≡ anyIn v image pad bs ms ss → x ≡ byteIn v image pad bs ms ss
+  unfolding byteIn
+  byte-else a x e h g = else 18 7 a x _ _ e h g
+
+  pub word-on : (a : ℕ) (x : List ℕ) → a ≡ getD bs 18 0 → a < 15 → x ≡ wordFilled (a + 1) v bs → taken x ms ss ≡ wordIn v image pad bs ms ss
+  unfolding wordIn
+  word-on a x e h g = stored 18 15 a (λ (b : ℕ). wordFilled (b + 1) v bs) x _ e h g
+
+  pub word-else : (a : ℕ) (x : Taken) → a ≡ getD bs 18 0 → 15 ≤ a → x ≡ anyIn v image pad bs ms ss → x ≡ wordIn v image pad bs ms ss
+  unfolding wordIn
+  word-else a x e h g = else 18 15 a x _ _ e h g
+
+  -- the bit is the code's, or is not
+  module _ (a : ℕ) (s : Bool) (e : a ≡ getD bs 18 0) (f : s ≡ ofCode a v bs) where
+    of-code : (t : Bool) → s ≡ t → ofCode (getD bs 18 0) v bs ≡ t
+    of-code t g = ap (λ (b : ℕ). ofCode b v bs) (sym e) ∙ sym f ∙ g
+
+    pub code-on : (x : List ℕ) → a < 63 → s ≡ true → x ≡ set bs 18 (a + 1) → taken x ms ss ≡ codeIn v image pad bs ms ss
+    unfolding codeIn
+    code-on x h t g =
+        (λ j. taken (g j) ms ss)
+        ∙ ap (λ (b : ℕ). taken (set bs 18 (b + 1)) ms ss) e
+        ∙ sym (pick-true (ltb (getD bs 18 0) 63) _ _ (below 18 63 a e h) ∙ pick-true (ofCode (getD bs 18 0) v bs) _ _ (of-code true t))
+
+    pub code-other : (x : Taken) → a < 63 → s ≡ false → x ≡ anyIn v image pad bs ms ss → x ≡ codeIn v image pad bs ms ss
+    unfolding codeIn
+    code-other x h t g = g ∙ sym (pick-true (ltb (getD bs 18 0) 63) _ _ (below 18 63 a e h) ∙ pick-false (ofCode (getD bs 18 0) v bs) _ _ (of-code false t))
+
+    pub code-else : (x : Taken) → 63 ≤ a → x ≡ anyIn v image pad bs ms ss → x ≡ codeIn v image pad bs ms ss
+    unfolding codeIn
+    code-else x h g = else 18 63 a x _ _ e h g
+
+  pub data-on : (b : ℕ) (x : List ℕ) → b ≡ getD bs 19 0 → b < 7 → x ≡ filledAt 19 (b + 1) 20 v bs → taken x ms ss ≡ dataIn v image pad bs ms ss
+  unfolding dataIn
+  data-on b x e h g = stored 19 7 b (λ (n : ℕ). filledAt 19 (n + 1) 20 v bs) x _ e h g
+
+  pub data-else : (b : ℕ) (x : Taken) → b ≡ getD bs 19 0 → 7 ≤ b → x ≡ anyIn v image pad bs ms ss → x ≡ dataIn v image pad bs ms ss
+  unfolding dataIn
+  data-else b x e h g = else 19 7 b x _ _ e h g
+
+  pub pad-on : (b : ℕ) (x : List ℕ) → b ≡ getD bs 19 0 → b < 7 → x ≡ set bs 19 (b + 1) → taken x ms ss ≡ padOut v image pad bs ms ss
+  unfolding padOut
+  pad-on b x e h g = stored 19 7 b (λ (n : ℕ). set bs 19 (n + 1)) x _ e h g
+
+  pub pad-else : (b : ℕ) (x : Taken) → b ≡ getD bs 19 0 → 7 ≤ b → x ≡ anyIn v image pad bs ms ss → x ≡ padOut v image pad bs ms ss
+  unfolding padOut
+  pad-else b x e h g = else 19 7 b x _ _ e h g
+
+  -- the step is read, its shape told, and the slot taken by it
+  pub takes-is : (n : ℕ) (s : Shape) (x : Taken) → n ≡ getD bs 15 0 → s ≡ shapeOf n → x ≡ takesBy v image pad bs ms ss s → x ≡ takesIn v image pad bs ms ss
+  unfolding takesIn
+  takes-is n s x e f g = g ∙ ap (λ (q : Shape). takesBy v image pad bs ms ss q) (f ∙ ap (λ (m : ℕ). shapeOf m) e)
