@@ -5,6 +5,7 @@ pub mod Loops
 pub mod Filling
 pub mod Places
 pub mod Within
+pub mod Parts
 pub mod Takes
 pub mod Taking
 pub mod TakesLaw

@@ -18,7 +18,7 @@ use Rattle.line.specs.Line.{actOf}
 use Rattle.line.specs.declared.Act.the-variants as act
 
 -- a part put back in its place
-back : (l : List ℕ) (at n : ℕ) → putPart l at n (partOf l at n) ≡ l
+pub back : (l : List ℕ) (at n : ℕ) → putPart l at n (partOf l at n) ≡ l
 back l at n = ap (λ (x : List ℕ). take at l ++ x) (take-append-drop n (drop at l)) ∙ take-append-drop at l
 
 module _ (v : Bool) (image pad : ℕ) (c : Chip) (ms ss : List ℕ) where

@@ -2,10 +2,10 @@
 use crate::fields;
 use crate::taking;
 ghost use mathlib.Core.Path.{_≡_};
-ghost use Rattle.packed.specs.Takes.{taken, filledAt, wordFilled, ofCode, countIn, byteIn, wordIn, codeIn, dataIn, padOut};
+ghost use Rattle.packed.specs.Takes.{taken, filledAt, wordFilled, ofCode, countIn, byteIn, wordIn, codeIn};
 
 // A bit enters the byte at a place, and another byte is its new count.
-fn fill_byte(r: &mut [u8], counter: usize, count: u8, place: usize, v: bool)
+pub fn fill_byte(r: &mut [u8], counter: usize, count: u8, place: usize, v: bool)
     ensures { λ u. ⌜ now (r .exit) ≡ filledAt counter count place v (now (r .entry)) ⌝ }
 {
     let before = base::byte_at(r, place);
@@ -90,30 +90,6 @@ pub fn take_code(r: &mut [u8], image: usize, pad: usize, v: bool, ms: &mut [u8],
             return;
         }
         taking::take_any(r, image, pad, v, ms, ss);
-        return;
-    }
-    taking::take_any(r, image, pad, v, ms, ss)
-}
-
-// A bit of a data byte.
-pub fn take_data(r: &mut [u8], image: usize, pad: usize, v: bool, ms: &mut [u8], ss: &mut [u8])
-    ensures { λ u. ⌜ taken (now (r .exit)) (now (ms .exit)) (now (ss .exit)) ≡ dataIn v image pad (now (r .entry)) (now (ms .entry)) (now (ss .entry)) ⌝ }
-{
-    let b = base::byte_at(r, 19);
-    if b < 7 {
-        fill_byte(r, 19, b + 1, 20, v);
-        return;
-    }
-    taking::take_any(r, image, pad, v, ms, ss)
-}
-
-// A bit of a byte of the scratchpad was sent.
-pub fn send_pad(r: &mut [u8], image: usize, pad: usize, v: bool, ms: &mut [u8], ss: &mut [u8])
-    ensures { λ u. ⌜ taken (now (r .exit)) (now (ms .exit)) (now (ss .exit)) ≡ padOut v image pad (now (r .entry)) (now (ms .entry)) (now (ss .entry)) ⌝ }
-{
-    let b = base::byte_at(r, 19);
-    if b < 7 {
-        base::put_at(r, 19, b + 1);
         return;
     }
     taking::take_any(r, image, pad, v, ms, ss)

@@ -1,5 +1,6 @@
 // A chip's record as bytes, and a table as a run of them.
 mod counting;
+mod data;
 mod fields;
 mod judged;
 mod level;
@@ -42,7 +43,7 @@ pub struct Limits {
     pub c: u8,
 }
 
-// What a slot does to the bytes of a step, where it only counts or fills.
+// What a slot does to the bytes of a step.
 pub enum Shape {
     // nothing
     Still,
@@ -58,6 +59,8 @@ pub enum Shape {
     Data,
     // a byte of the scratchpad is sent: b counts its bits
     Pad,
+    // a byte of the memory is sent: a counts its bits
+    Memory,
     // anything else
     Any,
 }

@@ -1,6 +1,7 @@
 // A slot on a record in its place.
 use crate::Shape;
 use crate::counting;
+use crate::data;
 use crate::record;
 use line::Act;
 ghost use mathlib.Core.Path.{_≡_};
@@ -25,7 +26,7 @@ fn shape_of(number: u8) -> Shape
         22 => Shape::Word,
         23 => Shape::Byte,
         25 => Shape::Word,
-        26 => Shape::Count { last: 7 },
+        26 => Shape::Memory,
         32 => Shape::Still,
         33 => Shape::Count { last: 7 },
         34 => Shape::Word,
@@ -62,8 +63,9 @@ fn take_by(
         Shape::Byte => counting::take_byte(r, image, pad, v, ms, ss),
         Shape::Word => counting::take_word(r, image, pad, v, ms, ss),
         Shape::Code => counting::take_code(r, image, pad, v, ms, ss),
-        Shape::Data => counting::take_data(r, image, pad, v, ms, ss),
-        Shape::Pad => counting::send_pad(r, image, pad, v, ms, ss),
+        Shape::Data => data::take_data(r, image, pad, v, ms, ss),
+        Shape::Pad => data::send_pad(r, pad, ss),
+        Shape::Memory => data::send_memory(r),
         Shape::Any => take_any(r, image, pad, v, ms, ss),
     }
 }
