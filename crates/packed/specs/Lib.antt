@@ -9,7 +9,6 @@ pub mod Parts
 pub mod Takes
 pub mod Taking
 pub mod TakesLaw
-pub mod Parts
 pub mod Sends
 pub mod SendsLaw
 pub mod Judged

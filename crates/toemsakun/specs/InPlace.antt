@@ -6,17 +6,14 @@ use mathlib.Core.List.{List, [], _∷_, _++_, map-append, append-assoc}
 use mathlib.Core.Path.{_≡_, refl, _∙_, ap, sym}
 use lib.ListN.{length, take, drop, length-append, length-map}
 use lib.Seq.{take-at, drop-at}
-use Rattle.base.specs.Pick.{pick-both}
-use Rattle.chip.specs.Chip.{Whole, whole, romSlot, functionIn, functionSlot, memorySlot, switchSlot, levelTakes, takesOf, sendsOf}
+use Rattle.chip.specs.Chip.{Whole, whole, takesOf, sendsOf}
 use Rattle.chip.specs.Kinds.{imageSize, padSize}
 use Rattle.chip.specs.declared.Chip.{Chip}
-use Rattle.chip.specs.declared.ChipAfter.{ChipAfter}
-use Rattle.chip.specs.declared.Level.{Level}
-use Rattle.chip.specs.declared.Level.the-variants.{Waiting, Rom, FunctionCommand, Memory, Pio}
 use Rattle.line.specs.Layout.{chipsOf, imagesOf, padsOf}
 use Rattle.line.specs.Bridge.{actAt, act-at, bitAt, bit-at}
 use Rattle.line.specs.Line.{actOf}
-use Rattle.line.specs.Sizes.{act-sized}
+use Rattle.line.specs.Fitted.{Fitted, AllFitted, act-fitted}
+use Rattle.line.specs.Named.{act-named}
 use Rattle.line.specs.declared.Act.the-variants as act
 use Rattle.packed.specs.Packed.{recordSize, packed, unpacked, packedTable}
 use Rattle.packed.specs.Laws.{packed-length, table-length, unpacked-packed}
@@ -25,28 +22,11 @@ use Rattle.packed.specs.Sends.{sendsIn}
 use Rattle.packed.specs.SendsLaw.{sends-packed}
 use Rattle.packed.specs.Takes.{Taken, taken, takesIn}
 use Rattle.packed.specs.TakesLaw.{packedTaken, takes-packed}
-use Rattle.toemsakun.specs.Held.{Asked, AllAsked, Held}
+use Rattle.toemsakun.specs.Held.{Held}
 
 -- a slot leaves a chip's kind
-level-kind : (w : Whole) (v : Bool) (l : Level) → levelTakes w v l .chip .kind ≡ w .chip .kind
-unfolding romSlot functionSlot functionIn memorySlot switchSlot
-level-kind w v Waiting = refl
-level-kind w v (Rom s) = refl
-level-kind w v (FunctionCommand count bits) =
-    let same : ChipAfter → Type 0 = λ (t : ChipAfter). t .chip .kind ≡ w .chip .kind in
-    pick-both same _ _ _ refl (pick-both same _ _ _ refl (pick-both same _ _ _ refl refl))
-level-kind w v (Memory p) = refl
-level-kind w v (Pio p) = refl
-
 pub takes-kind : (v : Bool) (w : Whole) → takesOf v w .chip .kind ≡ w .chip .kind
-unfolding takesOf
-takes-kind v w = level-kind w v (w .chip .level)
-
-takes-asked : (v : Bool) (w : Whole) → Asked w → Asked (takesOf v w)
-takes-asked v w g =
-    let s = act-sized (act.Take v) w in
-    let k = takes-kind v w in
-    record { memory = s .0 ∙ g .memory ∙ ap imageSize (sym k); pad = s .1 ∙ g .pad ∙ ap padSize (sym k) }
+takes-kind v w = act-named (act.Take v) w .1
 
 -- the buffers of two lines, one after the other
 pub images-append : (P Q : List Whole) → imagesOf (P ++ Q) ≡ imagesOf P ++ imagesOf Q
@@ -57,13 +37,13 @@ pub pads-append : (P Q : List Whole) → padsOf (P ++ Q) ≡ padsOf P ++ padsOf 
 pads-append [] Q = refl
 pads-append (w ∷ P) Q = ap (λ (l : List ℕ). w .pad ++ l) (pads-append P Q) ∙ sym (append-assoc (w .pad) (padsOf P) (padsOf Q))
 
-pub asked-there : (P : List Whole) (w : Whole) (Q : List Whole) → AllAsked (P ++ w ∷ Q) → Asked w
-asked-there [] w Q (g, h) = g
-asked-there (u ∷ P) w Q (g, h) = asked-there P w Q h
+pub fitted-there : (P : List Whole) (w : Whole) (Q : List Whole) → AllFitted (P ++ w ∷ Q) → Fitted w
+fitted-there [] w Q (g, h) = g
+fitted-there (u ∷ P) w Q (g, h) = fitted-there P w Q h
 
-asked-put : (P : List Whole) (w u : Whole) (Q : List Whole) → Asked u → AllAsked (P ++ w ∷ Q) → AllAsked (P ++ u ∷ Q)
-asked-put [] w u Q k (g, h) = (k, h)
-asked-put (x ∷ P) w u Q k (g, h) = (g, asked-put P w u Q k h)
+fitted-put : (P : List Whole) (w u : Whole) (Q : List Whole) → Fitted u → AllFitted (P ++ w ∷ Q) → AllFitted (P ++ u ∷ Q)
+fitted-put [] w u Q k (g, h) = (k, h)
+fitted-put (x ∷ P) w u Q k (g, h) = (g, fitted-put P w u Q k h)
 
 -- the records of a line with a chip w after the chips P
 records : (P : List Whole) (w : Whole) (Q : List Whole) → packedTable (chipsOf (P ++ w ∷ Q)) ≡ packedTable (chipsOf P) ++ (packed (w .chip) ++ packedTable (chipsOf Q))
@@ -94,8 +74,8 @@ module _ (P : List Whole) (w : Whole) (Q : List Whole) (bs ms ss : List ℕ) (i 
   kind-there kind e = e ∙ ap (λ (l : List ℕ). unpacked l .kind) part-is ∙ ap (λ (c : Chip). c .kind) (unpacked-packed (w .chip))
 
   -- its parts of the buffers
-  own : Asked w
-  own = asked-there P w Q (h .asked)
+  own : Fitted w
+  own = fitted-there P w Q (h .fitted)
 
   images-are : ms ≡ imagesOf P ++ (w .memory ++ imagesOf Q)
   images-are = h .images ∙ images-append P (w ∷ Q)
@@ -156,7 +136,7 @@ module _ (P : List Whole) (w : Whole) (Q : List Whole) (bs ms ss : List ℕ) (i 
     held-there =
         record {
           few = let f = h .few in let k = length-append P (w ∷ Q) in let l = length-append P (u ∷ Q) in omega arith;
-          asked = asked-put P w u Q (takes-asked v w own) (h .asked);
+          fitted = fitted-put P w u Q (act-fitted (act.Take v) w own) (h .fitted);
           table = (λ j. (ap (λ (l : List ℕ). take (i * recordSize) l) bytes-are ∙ take-at (packedTable (chipsOf P)) _ (i * recordSize) before) j
               ++ (taken-is j .bytes ++ ((λ k. drop (one k) (from-there k)) ∙ drop-at (packed (w .chip)) _ recordSize (packed-length (w .chip))) j))
               ∙ sym (records P u Q);

@@ -21,8 +21,9 @@ use Rattle.packed.specs.Sends.{sendsIn}
 use Rattle.packed.specs.Takes.{taken, takesIn}
 use Rattle.toemsakun.specs.declared.slots.Range.{Range}
 use Rattle.toemsakun.specs.Slots.{Lined, lineIn, Waits, Outside}
-use Rattle.toemsakun.specs.Held.{AllAsked, Held, line-chips, lined-held, images-asked, pads-asked, held-count, held-size}
-use Rattle.toemsakun.specs.InPlace.{recordAt, images-append, pads-append, asked-there, kind-there, sends-there, held-there}
+use Rattle.line.specs.Fitted.{AllFitted, images-length, pads-length}
+use Rattle.toemsakun.specs.Held.{Held, line-chips, lined-held, held-count, held-size}
+use Rattle.toemsakun.specs.InPlace.{recordAt, images-append, pads-append, fitted-there, kind-there, sends-there, held-there}
 
 -- a chip that waits sends 1, and a slot leaves it
 waiting-sends : (w : Whole) → w .chip .level ≡ Waiting → sendsOf w ≡ true
@@ -57,9 +58,9 @@ chips-drop zero L = refl
 chips-drop (suc n) [] = refl
 chips-drop (suc n) (w ∷ L) = chips-drop n L
 
-asked-front : (P Q : List Whole) → AllAsked (P ++ Q) → AllAsked P
-asked-front [] Q g = tt
-asked-front (w ∷ P) Q (g, h) = (g, asked-front P Q h)
+fitted-front : (P Q : List Whole) → AllFitted (P ++ Q) → AllFitted P
+fitted-front [] Q g = tt
+fitted-front (w ∷ P) Q (g, h) = (g, fitted-front P Q h)
 
 -- a loop has passed P, still comes to R and leaves out Z
 pub record Reached (P R Z : List Whole) (bs ms ss : List ℕ) (past i image pad : ℕ) : Type 0 where
@@ -85,13 +86,13 @@ near P R Z bs ms ss past i image pad r =
     let place = r .place in
     let end = r .end in
     let z = held-size (P ++ (R ++ Z)) bs ms ss (r .held) in
-    let asked = asked-front P (R ++ Z) (r .held .asked) in
+    let fitted = fitted-front P (R ++ Z) (r .held .fitted) in
     let m = length-map P (λ (w : Whole). w .chip) in
     let whole = take-length (chipsOf P) in
     let a = images-most (length (chipsOf P)) (chipsOf P) (omega arith) in
     let b = pads-most (length (chipsOf P)) (chipsOf P) (omega arith) in
-    let x = sym (r .images) ∙ images-asked P asked ∙ ap (λ (cs : List Chip). imagesSize cs) (sym whole) in
-    let y = sym (r .pads) ∙ pads-asked P asked ∙ ap (λ (cs : List Chip). padsSize cs) (sym whole) in
+    let x = sym (r .images) ∙ images-length P fitted ∙ ap (λ (cs : List Chip). imagesSize cs) (sym whole) in
+    let y = sym (r .pads) ∙ pads-length P fitted ∙ ap (λ (cs : List Chip). padsSize cs) (sym whole) in
     record { within = omega arith; few = omega arith; size = omega arith; images = omega arith; pads = omega arith }
 
 -- one chip further, by the kind that is read there
@@ -100,7 +101,7 @@ module _ (P : List Whole) (w : Whole) (R Z : List Whole) (bs ms ss : List ℕ) (
       → Reached (P ++ (w ∷ [])) R Z bs ms ss past (i + 1) (image + size) (pad + room)
   further kind size room k a b =
       let is : kind ≡ w .chip .kind = kind-there P w (R ++ Z) bs ms ss i image pad (r .held) (r .place) (r .images) (r .pads) kind k in
-      let own = asked-there P w (R ++ Z) (r .held .asked) in
+      let own = fitted-there P w (R ++ Z) (r .held .fitted) in
       let size-is : size ≡ length (w .memory) = a ∙ ap imageSize is ∙ sym (own .memory) in
       let room-is : room ≡ length (w .pad) = b ∙ ap padSize is ∙ sym (own .pad) in
       let x = r .images in
@@ -167,7 +168,7 @@ module _ (g : Range) (bs ms ss : List ℕ) (h : Lined bs ms ss) (o : Outside g b
   pub parted : Parted g bs ms ss
   parted =
       let held = subst (λ (K : List Whole). Held K bs ms ss) (sym joined) all in
-      let asked = asked-front (take first L) (take span (drop first L) ++ drop span (drop first L)) (held .asked) in
+      let fitted = fitted-front (take first L) (take span (drop first L) ++ drop span (drop first L)) (held .fitted) in
       let count = held-count L bs ms ss all in
       let a = o .ordered in
       let b = o .within in
@@ -179,8 +180,8 @@ module _ (g : Range) (bs ms ss : List ℕ) (h : Lined bs ms ss) (o : Outside g b
         reached = record {
           held = held;
           place = length-take-le first L (omega arith);
-          images = images-asked (take first L) asked ∙ ap (λ (cs : List Chip). imagesSize cs) front-chips ∙ sym (o .image);
-          pads = pads-asked (take first L) asked ∙ ap (λ (cs : List Chip). padsSize cs) front-chips ∙ sym (o .pad);
+          images = images-length (take first L) fitted ∙ ap (λ (cs : List Chip). imagesSize cs) front-chips ∙ sym (o .image);
+          pads = pads-length (take first L) fitted ∙ ap (λ (cs : List Chip). padsSize cs) front-chips ∙ sym (o .pad);
           end = let k = length-take-le span (drop first L) (omega arith) in omega arith;
         };
         line = joined;

@@ -23,7 +23,7 @@ use Rattle.line.specs.declared.Survey.{Survey}
 use Rattle.packed.specs.Packed.{recordSize, packed, unpacked, sameBytes, isRecord, packedTable, unpackedFrom, unpackedTable, isTable}
 use Rattle.packed.specs.Judged.{stands}
 use Rattle.packed.specs.Laws.{from-length}
-use Rattle.packed.specs.Filling.{one-chip, one-judged}
+use Rattle.packed.specs.Filling.{one-chip, one-judged, rest-none}
 
 -- the chips of the records from i on
 abbrev pub chipsFrom : ℕ → ℕ → List ℕ → List Chip
@@ -76,15 +76,6 @@ pub pick-and : {A : Type 0} (t r : Bool) (a b : A) → pick (both t r) a b ≡ p
 unfolding both pick
 pick-and true r a b = refl
 pick-and false r a b = refl
-
--- n records are all the bytes there are, or not
-rest-none : (k : ℕ) (bs : List ℕ) → k ≤ length bs → sameBytes [] (drop k bs) ≡ eqb (length bs) k
-unfolding sameBytes
-rest-none k bs h = go (drop k bs) (length-drop k bs)
-  where
-    go : (l : List ℕ) → length l ≡ length bs - k → sameBytes [] l ≡ eqb (length bs) k
-    go [] e = sym (eq-eqb (length bs) k (omega arith))
-    go (y ∷ ys) e = sym (ne-eqb (length bs) k (λ (q : length bs ≡ k). omega arith))
 
 stands-is : (bs : List ℕ) (good : Bool) → good ≡ stands bs → good ≡ both (sameBytes (packed (unpacked bs)) bs) (inRange (unpacked bs))
 unfolding stands isRecord
