@@ -24,7 +24,7 @@ static void set_bit(uint8_t *bytes, size_t slot, unsigned bit)
     bytes[slot / 8] = (uint8_t)(others | bit << slot % 8);
 }
 
-/* So many bits from a slot on, from the first bit of what is given on; its other bits stay. */
+/* Copies so many bits, from a slot on, to the front of other bytes, whose other bits stay. */
 static void cut_out(uint8_t *out, const uint8_t *bytes, size_t first, size_t slots)
 {
     for (size_t i = 0; i < slots; i++)
@@ -87,6 +87,16 @@ static bool run_comes_to(const struct host *line, const struct history *history,
            memcmp(bits.bytes, given, size) == 0;
 }
 
+/* How many slots by tk_event have found a chip at each step. */
+static unsigned met[256];
+
+/* Counts the step of each chip. */
+static void note_steps(void)
+{
+    for (size_t at = 0; at < host.table_size; at += TK_RECORD_SIZE)
+        met[host.table[at + 15]]++;
+}
+
 /* Resets the line and puts bytes on it; as one run, as two that are cut anywhere, and by tk_event it comes to the same. */
 static void cut_anywhere(const char *name, const uint8_t *bytes, size_t size)
 {
@@ -103,6 +113,7 @@ static void cut_anywhere(const char *name, const uint8_t *bytes, size_t size)
         uint8_t past = cut % 2 == 0 ? 0xFF : 0;
         good = good && run_comes_to(&start, &history, 0, cut, past, &host) &&
                run_comes_to(&host, &history, cut, slots - cut, past, &end);
+        note_steps();
         put_slot(&host, &history, cut);
     }
     check(name, good && run_comes_to(&start, &history, 0, slots, 0, &end));
@@ -113,9 +124,10 @@ static void cut_anywhere(const char *name, const uint8_t *bytes, size_t size)
 #define ONES4 0xFF, 0xFF, 0xFF, 0xFF
 #define CODE(first) first, 0, 0, 0, 0, 0, 0, 0
 
-/* Sessions through every step of a chip, on a line of four with memories before and behind the one that is spoken to. */
+/* Sessions through every step, on a line of four with chips before and behind the one that is spoken to. */
 static void test_cuts(void)
 {
+    static const uint8_t steps[] = {0, 1, 2, 3, 4, 5, 16, 17, 18, 19, 20, 21, 22, 23, 24, 25, 26, 32, 33, 34, 35, 36};
     set_up(&host, "1212");
     for (size_t i = 0; i < host.images_size; i++)
         host.images[i] = (uint8_t)(i * 37 >> 2 | 0xC3);
@@ -138,6 +150,10 @@ static void test_cuts(void)
     CUT("cut: a code that no chip has", 0x55, CODE(9), ONES4);
     check("cut: the copies were carried out", host.images[TK_IMAGE_SIZE + 6] == 0x12 && host.images[0x02FE] == 0x42 &&
                                                   host.images[TK_IMAGE_SIZE + 0x02FF] == 0x24);
+    bool every = true;
+    for (size_t i = 0; i < sizeof steps; i++)
+        every = every && met[steps[i]] > 0;
+    check("cut: every step was met", every);
     check("cut: a latch was set", host.table[TK_RECORD_SIZE + 13] == 1);
 }
 
