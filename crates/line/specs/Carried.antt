@@ -25,7 +25,7 @@ use Rattle.line.specs.Sizes.{act-sized}
 use Rattle.line.specs.Bridge.{act-at, bit-at, regroup}
 use Rattle.line.specs.Prefix.{capped-is}
 use Rattle.line.specs.Refusals.{judged-fit}
-use Rattle.line.specs.Carrier.{firstSpot, spotAfter, over, firstSurvey, surveyChip, surveyed, verdictBy, runVerdictBy, planSeen, firstBus, putsAt, busWith, busOver, doesAt, turnOf, acts, happensBy, answerFor}
+use Rattle.line.specs.Carrier.{firstSpot, spotAfter, over, firstSurvey, surveyChip, surveyed, verdictWith, verdictBy, runVerdictBy, planSeen, firstBus, putsAt, busWith, busOver, doesAt, turnOf, acts, happensBy, answerFor}
 use Rattle.line.specs.Slots.{runFits, runVerdict}
 use Rattle.line.specs.declared.Act.{Act}
 use Rattle.line.specs.declared.Act.the-variants as act
@@ -162,28 +162,29 @@ module _ (chip n : ℕ) (cs : List Chip) (ms ss : List ℕ) (l : Survey) (h : Su
   unfolding tableInRange both
   many-range k = (simp (lt-leb n 16 k, pick-false), simp (lt-leb n 16 k, pick-false))
 
-  -- 8, then 5 by the sizes and what else it goes by
-  tests-are : (and : Bool → Bool)
-      → judge (tableTests (both (leb n 16) (l .within)) (and (both (eqb (length ms) (l .spot .image)) (eqb (length ss) (l .spot .pad))))) ≡ judge (tableTests (tableInRange n cs) (and (sizesFit n cs ms ss)))
-  tests-are and = go (leb n 16) refl
+  -- 8, then 5 by the sizes and by those that a run asks
+  tests-are : (more : Bool) → verdictWith l n (length ms) (length ss) more ≡ judge (tableTests (tableInRange n cs) (both (sizesFit n cs ms ss) more))
+  unfolding verdictWith
+  tests-are more = go (leb n 16) refl
     where
       none : (x y : Bool) → judge (tableTests false x) ≡ judge (tableTests false y)
       none x y = pick-false false _ _ refl ∙ sym (pick-false false _ _ refl)
 
       go : (b : Bool) → leb n 16 ≡ b
-          → judge (tableTests (both (leb n 16) (l .within)) (and (both (eqb (length ms) (l .spot .image)) (eqb (length ss) (l .spot .pad))))) ≡ judge (tableTests (tableInRange n cs) (and (sizesFit n cs ms ss)))
-      go true e = let few = leb-true n 16 e in λ j. judge (tableTests (few-range few j) (and (few-sizes few j)))
+          → judge (tableTests (both (leb n 16) (l .within)) (both (both (eqb (length ms) (l .spot .image)) (eqb (length ss) (l .spot .pad))) more)) ≡ judge (tableTests (tableInRange n cs) (both (sizesFit n cs ms ss) more))
+      go true e = let few = leb-true n 16 e in λ j. judge (tableTests (few-range few j) (both (few-sizes few j) more))
       go false e = let m = many-range (leb-false n 16 e) in
-          ap (λ (r : Bool). judge (tableTests r (and (both (eqb (length ms) (l .spot .image)) (eqb (length ss) (l .spot .pad)))))) (m .0) ∙ none _ _ ∙ sym (ap (λ (r : Bool). judge (tableTests r (and (sizesFit n cs ms ss)))) (m .1))
+          ap (λ (r : Bool). judge (tableTests r (both (both (eqb (length ms) (l .spot .image)) (eqb (length ss) (l .spot .pad))) more))) (m .0) ∙ none _ _
+          ∙ sym (ap (λ (r : Bool). judge (tableTests r (both (sizesFit n cs ms ss) more))) (m .1))
 
   pub stands-is : verdictBy l n (length ms) (length ss) ≡ verdictOf n cs ms ss
   unfolding verdictBy verdictOf
-  stands-is = tests-are (λ b. b)
+  stands-is = tests-are true ∙ ap (λ (b : Bool). judge (tableTests (tableInRange n cs) b)) (both-true (sizesFit n cs ms ss))
 
   -- the same of a run of slots
   pub run-stands-is : (slots : ℕ) (bits answers : List ℕ) → runVerdictBy l n (length ms) (length ss) slots (length bits) (length answers) ≡ runVerdict n cs slots bits answers ms ss
   unfolding runVerdictBy runVerdict
-  run-stands-is slots bits answers = tests-are (λ b. both b (runFits slots (length bits) (length answers)))
+  run-stands-is slots bits answers = tests-are (runFits slots (length bits) (length answers))
 
 -- the plan, by a survey
 planned : (n : ℕ) (cs : List Chip) (e : Event) (ms ss : List ℕ) (l : Survey) → Surveyed (e .chip) n cs l → (q : Verdict) → q ≡ verdictOf n cs ms ss

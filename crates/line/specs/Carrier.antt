@@ -61,15 +61,17 @@ surveyChip chip c s =
       spot = spotAfter (c .kind) (s .spot);
     }
 
--- what a table is judged to that was surveyed: it has n chips, and buffers of two sizes are lent with it
+-- what a table is judged to that was surveyed: it has n chips, buffers of two sizes are lent with it, and more sizes fit or do not
+unfoldable pub verdictWith : Survey → ℕ → ℕ → ℕ → Bool → Verdict
+verdictWith s n images pads more =
+    judge (tableTests (both (leb n 16) (s .within)) (both (both (eqb images (s .spot .image)) (eqb pads (s .spot .pad))) more))
+
 unfoldable pub verdictBy : Survey → ℕ → ℕ → ℕ → Verdict
-verdictBy s n images pads =
-    judge (tableTests (both (leb n 16) (s .within)) (both (eqb images (s .spot .image)) (eqb pads (s .spot .pad))))
+verdictBy s n images pads = verdictWith s n images pads true
 
 -- what a run of slots is judged to on it: bits and answers are of two sizes
 unfoldable pub runVerdictBy : Survey → ℕ → ℕ → ℕ → ℕ → ℕ → ℕ → Verdict
-runVerdictBy s n images pads slots bits answers =
-    judge (tableTests (both (leb n 16) (s .within)) (both (both (eqb images (s .spot .image)) (eqb pads (s .spot .pad))) (runFits slots bits answers)))
+runVerdictBy s n images pads slots bits answers = verdictWith s n images pads (runFits slots bits answers)
 
 -- what an event comes to on it
 unfoldable pub planSeen : Survey → ℕ → Event → ℕ → ℕ → Plan

@@ -22,7 +22,7 @@ ghost use Rattle.line.specs.Line.{hostOf};
 ghost use Rattle.line.specs.Event.{judge, tableTests, outsideFits, askedBy, planEvent, planBy};
 ghost use Rattle.line.specs.Slots.{runFits};
 ghost use Rattle.line.specs.Runs.{countOf};
-ghost use Rattle.line.specs.Carrier.{firstSpot, spotAfter, firstSurvey, surveyChip, verdictBy, runVerdictBy, planSeen, firstBus, putsAt, busWith, doesAt, turned, turnOf, happensBy, answerFor};
+ghost use Rattle.line.specs.Carrier.{firstSpot, spotAfter, firstSurvey, surveyChip, verdictWith, verdictBy, runVerdictBy, planSeen, firstBus, putsAt, busWith, doesAt, turned, turnOf, happensBy, answerFor};
 
 // Where the first chip stands.
 pub fn first_spot() -> Spot
@@ -92,7 +92,7 @@ pub fn survey_chip(c: Chip, s: Survey, chip: u32) -> Survey
     }
 }
 
-// A table and its buffers are judged: 8, then 5.
+// 8, then 5, by what a table and its buffers are tested for.
 fn judged(range: bool, sizes: bool) -> Verdict
     ensures { λ r. ⌜ r ≡ judge (tableTests range sizes) ⌝ }
 {
@@ -105,14 +105,22 @@ fn judged(range: bool, sizes: bool) -> Verdict
     Verdict::Refused(Refusal::OutOfRange)
 }
 
-// What a table of n chips is judged to that was surveyed: 8, then 5.
-pub fn verdict_by(s: Survey, n: usize, images: usize, pads: usize) -> Verdict
-    ensures { λ r. ⌜ r ≡ verdictBy s n images pads ⌝ }
+// What a table of n chips is judged to that was surveyed, where more sizes than those of its buffers fit or do not.
+fn verdict_with(s: Survey, n: usize, images: usize, pads: usize, more: bool) -> Verdict
+    ensures { λ r. ⌜ r ≡ verdictWith s n images pads more ⌝ }
 {
     let spot = s.spot;
     let few = base::are_both(n <= 16, s.within);
     let fit = base::are_both(images == spot.image, pads == spot.pad);
-    judged(few, fit)
+    let sizes = base::are_both(fit, more);
+    judged(few, sizes)
+}
+
+// What a table of n chips is judged to that was surveyed: 8, then 5.
+pub fn verdict_by(s: Survey, n: usize, images: usize, pads: usize) -> Verdict
+    ensures { λ r. ⌜ r ≡ verdictBy s n images pads ⌝ }
+{
+    verdict_with(s, n, images, pads, true)
 }
 
 // The sizes of bits and answers are what so many slots ask, and a run has as many.
@@ -138,12 +146,8 @@ pub fn run_verdict_by(
 ) -> Verdict
     ensures { λ r. ⌜ r ≡ runVerdictBy s n images pads slots bits answers ⌝ }
 {
-    let spot = s.spot;
-    let few = base::are_both(n <= 16, s.within);
-    let fit = base::are_both(images == spot.image, pads == spot.pad);
     let run = run_fits(slots, bits, answers);
-    let sizes = base::are_both(fit, run);
-    judged(few, sizes)
+    verdict_with(s, n, images, pads, run)
 }
 
 // Event 4 fits n chips, where the one that it names has a kind; any other event does.

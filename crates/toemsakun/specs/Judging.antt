@@ -10,10 +10,11 @@ use lib.Seq.{take-length}
 use borrow.Author.Tests.{lt-leb}
 use Rattle.base.specs.Pick.{pick, pick-true, pick-false, pick-same, pick-if}
 use Rattle.base.specs.Bits.{both}
+use Rattle.base.specs.Both.{both-true}
 use Rattle.chip.specs.declared.Chip.{Chip}
 use Rattle.line.specs.Event.{answered, outcome, judge, tableTests, verdictOf, allInRange, tableInRange, sizesFit, Outcome, planIn, planBy, planOf, doneOf, eventOf}
 use Rattle.line.specs.Layout.{lent, imagesSize, padsSize}
-use Rattle.line.specs.Carrier.{verdictBy, planSeen, happensBy, answerFor}
+use Rattle.line.specs.Carrier.{verdictWith, verdictBy, planSeen, happensBy, answerFor}
 use Rattle.line.specs.Carried.{walked, plan-walked, refused-done, happens-few}
 use Rattle.line.specs.declared.Answer.{Answer}
 use Rattle.line.specs.declared.Refusal.the-variants.{OutOfRange}
@@ -37,11 +38,12 @@ planBytes bs e ms ss = let cs = unpackedTable bs in pick (isTable bs) (planOf (l
 -- by a survey of chips whose fields lie in their ranges, and where one does not
 module _ (cs : List Chip) (e : Event) (ms ss : List ℕ) where
   seen-well : allInRange cs ≡ true → planSeen (surveyOf (e .chip) cs) (length cs) e (length ms) (length ss) ≡ planOf (length cs) cs e ms ss
-  unfolding planSeen planOf verdictBy verdictOf tableInRange sizesFit both
+  unfolding planSeen planOf verdictBy verdictWith verdictOf tableInRange sizesFit both
   seen-well h =
       let cut = sym (take-length cs) in
       let fine : true ≡ allInRange (take (length cs) cs) = sym h ∙ ap allInRange cut in
-      λ j. planBy (judge (tableTests (pick (leb (length cs) 16) (fine j) false) (both (eqb (length ms) (imagesSize (cut j))) (eqb (length ss) (padsSize (cut j)))))) (planIn (cut j) e)
+      ap (λ (b : Bool). planBy (judge (tableTests (both (leb (length cs) 16) true) b)) (planIn cs e)) (both-true (both (eqb (length ms) (imagesSize cs)) (eqb (length ss) (padsSize cs))))
+      ∙ λ j. planBy (judge (tableTests (pick (leb (length cs) 16) (fine j) false) (both (eqb (length ms) (imagesSize (cut j))) (eqb (length ss) (padsSize (cut j)))))) (planIn (cut j) e)
 
   seen-outside : allInRange cs ≡ false → refusedBy8 ≡ planOf (length cs) cs e ms ss
   unfolding planOf verdictOf tableInRange

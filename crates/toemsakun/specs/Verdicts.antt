@@ -13,7 +13,7 @@ use Rattle.base.specs.Bits.{both}
 use Rattle.base.specs.Both.{both-holds, true-both}
 use Rattle.chip.specs.declared.Chip.{Chip}
 use Rattle.line.specs.Event.{judge, tableTests, verdictOf, allInRange, tableInRange, sizesFit, Fits}
-use Rattle.line.specs.Carrier.{runVerdictBy}
+use Rattle.line.specs.Carrier.{verdictWith, runVerdictBy}
 use Rattle.line.specs.Layout.{imagesSize, padsSize}
 use Rattle.line.specs.Slots.{runFits}
 use Rattle.line.specs.Refusals.{fit, in-range-few, well-judged, held}
@@ -80,7 +80,7 @@ module _ (bs : List ℕ) (n : ℕ) (ok whole : Bool) (q : n ≡ length bs / reco
 
   pub verdict-found : (ms ss : List ℕ) (l : Survey) (slots bits answers : ℕ) (v : Verdict) → l ≡ surveyOf 0 (unpackedFrom n bs)
       → v ≡ pick whole (runVerdictBy l n (length ms) (length ss) slots bits answers) refused8 → v ≡ verdictBytes bs ms ss (runFits slots bits answers)
-  unfolding runVerdictBy
+  unfolding runVerdictBy verdictWith
   verdict-found ms ss l slots bits answers v s h =
       let fits = both (eqb (length ms) (l .spot .image)) (eqb (length ss) (l .spot .pad)) in
       let run = runFits slots bits answers in

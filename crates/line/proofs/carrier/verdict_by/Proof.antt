@@ -4,26 +4,16 @@ use Rattle.line.proofs.carrier.verdict_by.Statement.{statement}
 use Rattle.line.proofs.carrier.verdict_by.Tie as tie
 use Rattle.line.proofs.carrier.verdict_by.Reads as reads
 use Rattle.line.proofs.carrier.verdict_by.Lts as lts
-use Rattle.base.proofs.are_both.Reads as are-both-reads
-use Rattle.line.proofs.carrier.judged.Reads as judged-reads
+use Rattle.line.proofs.carrier.verdict_with.Reads as verdict-with-reads
 
--- src/carrier.rt:112:9
-are-both-requires : tie.Need-are-both-requires
-are-both-requires c κs = search needs
+-- src/carrier.rt:123:5
+verdict-with-requires : tie.Need-verdict-with-requires
+verdict-with-requires c κs = search needs
 
--- src/carrier.rt:113:9
-are-both-requires-2 : tie.Need-are-both-requires-2
-are-both-requires-2 c κs = search needs
-
--- src/carrier.rt:114:5
-judged-requires : tie.Need-judged-requires
-judged-requires c κs = search needs
-
--- src/carrier.rt:108:1
+-- src/carrier.rt:120:1
 returns : tie.Need-returns
 unfolding verdictBy
-returns c = cc
+returns c = c .verdict-with .ensures
 
 pub verdict-by-spec : {M : Type 1} → statement M
-verdict-by-spec =
-    tie.close (tie.spec are-both-requires are-both-requires-2 judged-requires returns)
+verdict-by-spec = tie.close (tie.spec verdict-with-requires returns)
