@@ -57,6 +57,16 @@ abbrev pub answersOn : List Event → Attached → List Answered
 answersOn [] l = []
 answersOn (e ∷ es) l = saysOf e l ∷ answersOn es (leavesOf e l)
 
+-- it leaves the table with the line that the history of the line leaves
+pub run-left : (es : List Event) (l : Attached) → Stands l → runOn es l ≡ withLine l (run es (lineFrom l))
+run-left [] l s = sym (put-back l s)
+run-left (e ∷ es) l s =
+    let M = run es (afterOf e (lineFrom l)) in
+    run-left es (leavesOf e l) (stands-after l e s)
+    ∙ ap (λ (K : List Whole). withLine (leavesOf e l) (run es K)) (line-after l e s)
+    ∙ ap (λ (k : Attached). withLine k M) (leaves-is l s e)
+    ∙ again l (afterOf e (lineFrom l)) M (after-length e (lineFrom l) ∙ line-length l s)
+
 -- it is the history of the line of whole chips: so each theorem about lines speaks of tables, images and scratchpads
 pub run-joined : (es : List Event) (l : Attached) → Stands l → lineFrom (runOn es l) ≡ run es (lineFrom l)
 run-joined [] l s = refl
