@@ -5,7 +5,7 @@ use mathlib.Core.List.{List, [], _∷_, _++_}
 use mathlib.Core.Path.{_≡_, refl, _∙_, ap, sym}
 use lib.ListN.{length}
 use Rattle.base.specs.Pick.{pick, pick-if}
-use Rattle.line.specs.Slots.{runFits, RunOutcome}
+use Rattle.line.specs.Slots.{runFits}
 use Rattle.line.specs.Refusals.{well-judged}
 use Rattle.line.specs.declared.Event.{Event}
 use Rattle.line.specs.declared.Verdict.{Verdict}
@@ -13,7 +13,7 @@ use Rattle.search.specs.Host.{Host, done, ask, play, searchHost}
 use Rattle.search.specs.Search.{Attached, saysOf, leavesOf, wire, searchBy, searchOf}
 use Rattle.histories.specs.Standing.{Stands}
 use Rattle.histories.specs.Joined.{runOn, stands-on}
-use Rattle.histories.specs.Slots.{slotsOn, leftByRun, eventsOfRun, IsHistory, slots-as-events, slots-refused}
+use Rattle.histories.specs.Slots.{slotsOn, leftByRun, eventsOfRun, slots-as-events, slots-refused}
 
 -- one history after another
 pub run-on-append : (es fs : List Event) (l : Attached) → runOn (es ++ fs) l ≡ runOn fs (runOn es l)
