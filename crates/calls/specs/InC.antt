@@ -23,7 +23,7 @@ use Rattle.histories.specs.Standing.{lineFrom}
 use Rattle.agreement.specs.Slice.{ofLent, codes-lent}
 use Rattle.agreement.specs.InC.{LentBytes, unpackedLent, searchIn, leavesBytes, leaves-bytes, searched-after}
 use Rattle.agreement.specs.AfterTroubleC.{StandsAsBytes, bytes-fit}
-use Rattle.calls.specs.Told.{lentAs}
+use Rattle.calls.specs.Told.{ToldSlots, toldSlots, NoCall, lentAs}
 use Rattle.calls.specs.Form.{Meets, Form, Well}
 
 -- what `tk_search` tells: how many codes it lists, or minus a refusal number; the list; and the counts
@@ -106,10 +106,14 @@ inC = record {
   answer = answerNumber;
   Listing = ToldInC;
   listing = told;
+  Slots = ToldSlots;
+  slots = toldSlots;
   PermitsEvent = PermitsEvent;
   PermitsSearch = PermitsSearch;
+  PermitsSlots = λ n bits out x a y. NoCall;
   event-is = event-is;
   search-is = search-is;
+  slots-is = λ n bits out x a y i p. absurd (p .none);
 }
 
 -- numbers below 256, as every `uint8_t` is, that neither 8 nor 5 refuses are such a table; its codes have 64 bits. That these are the bytes to

@@ -1,4 +1,5 @@
--- Demand 1, "a refused call changes no byte": of an event, and of a search refused by 8 or 5 ("both without an event, counts 0"), in each form.
+-- Demand 1, "a refused call changes no byte": of an event, of a search refused by 8 or 5 ("both without an event, counts 0"), and of a run of slots,
+-- in each form that has it.
 -- From C it holds of any bytes, a table or not. What refusal 4 tells and leaves is in Listed; what a refused card leaves, in RefusedCard.
 use Prim.Native.Nat.{ℕ, zero, suc}
 use native.Mathlib.Omega.{arith}
@@ -9,15 +10,18 @@ use lib.IntN.{ℤ, pos, negsuc}
 use Rattle.base.specs.Pick.{pick-false}
 use Rattle.line.specs.Event.{Answered, bit, refused}
 use Rattle.line.specs.Layout.{Lent}
+use Rattle.line.specs.Slots.{refused as refusedRun}
 use Rattle.line.specs.declared.Event.{Event}
 use Rattle.search.specs.Search.{Searched, complete, refused as refusedBy, Attached, leftBy, saysOf, leavesOf, Search, outcome, searchOf}
 use Rattle.packed.specs.Packed.{isTable}
 use Rattle.toemsakun.specs.Library.{answerNumber, EventLeft, eventBytes, searchNumber, searchBytes}
 use Rattle.refusals.specs.Event.{refused-leaves}
 use Rattle.refusals.specs.Search.{refused-eventless}
+use Rattle.refusals.specs.Slots.{refused-leaves as refused-run}
+use Rattle.histories.specs.Slots.{leftByRun}
 use Rattle.agreement.specs.Slice.{ofLent}
 use Rattle.agreement.specs.InC.{LentBytes, unpackedLent, packedLent, not-below, packed-again}
-use Rattle.calls.specs.Told.{Told, told}
+use Rattle.calls.specs.Told.{Told, told, ToldSlots, toldSlots}
 use Rattle.calls.specs.Plain as plain
 use Rattle.calls.specs.Slice as slice
 use Rattle.calls.specs.InC as inC
@@ -50,6 +54,15 @@ refused-search list l r a k n h p =
     let m = plain.search-is list l a k p in
     let g = sym (ap (λ (t : Told). t .answer) (m .tells)) ∙ h in
     (m .tells ∙ eventless-tells list l r n g, m .leaves ∙ eventless-stays list l r n g)
+
+-- THEOREM: so does `line::take_slots`, refused, and the answers
+pub refused-slots : (n : ℕ) (bits out : List ℕ) (l : Attached) (r : ℕ) (a : ToldSlots) (k : Attached) → a .answer ≡ refusedRun r → plain.PermitsSlots n bits out l a k
+    → (a ≡ record { answer = refusedRun r; answers = out }) × (k ≡ l)
+refused-slots n bits out l r a k h p =
+    let m = plain.slots-is n bits out l a k p in
+    let g = sym (ap (λ (t : ToldSlots). t .answer) (m .tells)) ∙ h in
+    let o = refused-run (l .count) (l .lent .chips) n bits out (l .lent .images) (l .lent .pads) r g in
+    (m .tells ∙ ap toldSlots o, m .leaves ∙ ap leftByRun o)
 
 -- THEOREM: so do `lent::take_event` and `lent::search_line`
 pub refused-event-lent : (e : Event) (x : Lent) (r : ℕ) (y : Lent) → slice.PermitsEvent e x (refused r) y → y ≡ x
