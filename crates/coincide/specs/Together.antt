@@ -110,6 +110,11 @@ pub toemsakun-tk-event : Settled toemsakun.tk_event.ended toemsakun.tk_event.Rea
 toemsakun-tk-event κs a x y v w p q =
     let r = p ∙ sym q in (λ i. r i .answer, λ i. (r i .table, (tt, (tt, (tt, (r i .images, (r i .pads, tt)))))))
 
+-- answer, table, answers, images and scratchpads
+pub toemsakun-tk-slots : Settled toemsakun.tk_slots.ended toemsakun.tk_slots.Reads.Learnt
+toemsakun-tk-slots κs a x y v w p q =
+    let r = p ∙ sym q in (λ i. r i .answer, λ i. (r i .table, (tt, (r i .answers, (tt, (r i .images, (r i .pads, tt)))))))
+
 -- answer, table, list, images, scratchpads and counts
 pub toemsakun-tk-search : Settled toemsakun.tk_search.ended toemsakun.tk_search.Reads.Learnt
 toemsakun-tk-search κs a x y v w p q =
