@@ -49,6 +49,6 @@ of-plain = customer plain
 pub of-slice : Customer slice
 of-slice = customer slice
 
--- `tk_event` and `tk_search`
+-- `tk_event`, `tk_search` and `tk_slots`
 pub from-c : Customer inC
 from-c = customer inC

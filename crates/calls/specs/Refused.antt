@@ -10,15 +10,15 @@ use lib.IntN.{ℤ, pos, negsuc}
 use Rattle.base.specs.Pick.{pick-false}
 use Rattle.line.specs.Event.{Answered, bit, refused}
 use Rattle.line.specs.Layout.{Lent}
-use Rattle.line.specs.Slots.{refused as refusedRun}
+use Rattle.line.specs.Slots.{Slotted, put, refused as refusedRun, RunOutcome, runOutcome}
 use Rattle.line.specs.declared.Event.{Event}
 use Rattle.search.specs.Search.{Searched, complete, refused as refusedBy, Attached, leftBy, saysOf, leavesOf, Search, outcome, searchOf}
 use Rattle.packed.specs.Packed.{isTable}
-use Rattle.toemsakun.specs.Library.{answerNumber, EventLeft, eventBytes, searchNumber, searchBytes}
+use Rattle.toemsakun.specs.Library.{answerNumber, EventLeft, eventBytes, slotsNumber, slotsBytes, searchNumber, searchBytes}
 use Rattle.refusals.specs.Event.{refused-leaves}
 use Rattle.refusals.specs.Search.{refused-eventless}
 use Rattle.refusals.specs.Slots.{refused-leaves as refused-run}
-use Rattle.histories.specs.Slots.{leftByRun}
+use Rattle.histories.specs.Slots.{slotsOn, leftByRun}
 use Rattle.agreement.specs.Slice.{ofLent}
 use Rattle.agreement.specs.InC.{LentBytes, unpackedLent, packedLent, not-below, packed-again}
 use Rattle.calls.specs.Told.{Told, told, ToldSlots, toldSlots}
@@ -126,5 +126,33 @@ refused-search-c list x n a y k h p = by (isTable (x .table)) refl
     by false q =
         let o = inC.search-bytes list x a y p ∙ pick-false (isTable (x .table)) _ _ q in (
           λ j. record { answer = h j; list = o j .list; resets = o j .resets; slots = o j .slots },
+          λ j. record { table = o j .table; images = o j .images; pads = o j .pads },
+        )
+
+-- THEOREM: so does `tk_slots` that answers a number below 0, and the answers
+pub refused-slots-c : (m : ℕ) (bits out : List ℕ) (x : LentBytes) (n : ℕ) (a : inC.ToldSlotsInC) (y : LentBytes) → a .answer ≡ negsuc n → inC.PermitsSlots m bits out x a y
+    → (a ≡ record { answer = negsuc n; answers = out }) × (y ≡ x)
+unfolding slotsBytes
+refused-slots-c m bits out x n a y h p = by (isTable (x .table)) refl
+  where
+    l : Attached
+    l = ofLent (unpackedLent x)
+
+    -- the table refuses it by a number
+    by-number : (s : Slotted) → slotsOn m bits out l .answer ≡ s → slotsNumber s ≡ negsuc n → slotsOn m bits out l ≡ runOutcome (refusedRun (suc n)) out (l .count) (l .lent)
+    by-number (put k) g e = absurd (not-below _ n e)
+    by-number (refusedRun zero) g e = absurd (not-below _ n e)
+    by-number (refusedRun (suc r)) g e =
+        let d : suc r ≡ suc n = ap depth e in
+        refused-run (l .count) (l .lent .chips) m bits out (l .lent .images) (l .lent .pads) (suc n) (g ∙ ap (λ (k : ℕ). refusedRun k) d)
+
+    by : (t : Bool) → isTable (x .table) ≡ t → (a ≡ record { answer = negsuc n; answers = out }) × (y ≡ x)
+    by true q =
+        let k = inC.slots-is m bits out x a y q p in
+        let o = by-number (slotsOn m bits out l .answer) refl (sym (ap (λ (t : inC.ToldSlotsInC). t .answer) (k .tells)) ∙ h) in
+        (k .tells ∙ ap inC.toldSlots o, same-bytes x y q (k .is-table) (k .leaves ∙ ap leftByRun o))
+    by false q =
+        let o = inC.slots-bytes m bits out x a y p ∙ pick-false (isTable (x .table)) _ _ q in (
+          λ j. record { answer = h j; answers = o j .answers },
           λ j. record { table = o j .table; images = o j .images; pads = o j .pads },
         )
