@@ -152,8 +152,8 @@ int32_t tk_event(uint8_t *table, size_t table_size, uint32_t event, uint32_t chi
  * places. Both have just the bytes that the slots ask: slots / 8, rounded up. Of the last byte, what lies past the run is
  * not looked at in bits, and is 0 in answers.
  *
- * Answers how many slots were put on the line: all of them. Line and bits are then as after so many calls of tk_event. A run
- * of no slots answers 0.
+ * Answers how many slots were put on the line: all of them. The line, and the bits in answers, are then those of so many
+ * calls of tk_event. A run of no slots answers 0.
  *
  * Refused by 8 or 5: nothing is changed, no byte of answers either.
  */

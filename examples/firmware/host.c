@@ -33,8 +33,9 @@ unsigned host_slot(struct host *host, unsigned bit)
 
 void host_run(struct host *host, const uint8_t *bits, uint8_t *answers, size_t bytes)
 {
-    tk_slots(host->table, host->table_size, bits, bytes, answers, bytes, 8 * bytes, host->images, host->images_size,
-             host->pads, host->pads_size);
+    if (tk_slots(host->table, host->table_size, bits, bytes, answers, bytes, 8 * bytes, host->images, host->images_size,
+                 host->pads, host->pads_size) < 0)
+        memset(answers, 0, bytes);
 }
 
 int32_t host_search(struct host *host, uint64_t *codes, size_t places)

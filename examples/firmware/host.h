@@ -60,7 +60,7 @@ unsigned host_slot(struct host *host, unsigned bit);
 
 /*
  * So many bytes in one run of slots, least significant bit first, at most TK_MOST_SLOTS / 8 of them: what the host writes,
- * and what the line came to. To read is to write FFh.
+ * and what the line came to; 0 where the line refuses the run. To read is to write FFh.
  */
 void host_run(struct host *host, const uint8_t *bits, uint8_t *answers, size_t bytes);
 

@@ -16,9 +16,8 @@
 #include "random.h"
 #include "sessions.h"
 
-/* The slots of a line, after which another is set up; and of the longest run. */
+/* The slots of a line, after which another is set up. */
 #define LINE_SLOTS 20000
-#define MOST_RUN 65535
 
 uint64_t random_state;
 
@@ -27,7 +26,7 @@ static struct line by_runs, by_events;
 static uint8_t table_before[sizeof by_runs.table];
 
 /* The run that is being filled, and at how many slots it is cut. */
-static uint8_t bits[(MOST_RUN + 7) / 8];
+static uint8_t bits[(TK_MOST_SLOTS + 7) / 8];
 static size_t filled, cut;
 
 /* What has been put on all lines, and on this one. */
@@ -93,7 +92,7 @@ static size_t any_cut(void)
 {
     switch (below(16)) {
     case 0:
-        return MOST_RUN;
+        return TK_MOST_SLOTS;
     case 1:
     case 2:
         return 8 * (1 + below(64));

@@ -8,9 +8,6 @@
 _Static_assert(sizeof(struct chip) == TK_RECORD_SIZE, "a chip is as long as its record");
 _Static_assert(__BYTE_ORDER__ == __ORDER_LITTLE_ENDIAN__, "numbers in a record have the low byte first");
 
-/* The slots of the longest run. */
-#define MOST_SLOTS 65535
-
 /* ---- a line in structs */
 
 /* A slot in which the host writes a bit: its value, which every chip then takes. */
@@ -181,7 +178,7 @@ int32_t plain_slots(uint8_t *table, size_t table_size, const uint8_t *bits, size
     int32_t refusal = plain_line_take(&line, table, table_size, images, images_size, pads, pads_size);
     if (refusal < 0)
         return refusal;
-    if (slots > MOST_SLOTS || bits_size != (slots + 7) / 8 || answers_size != bits_size)
+    if (slots > TK_MOST_SLOTS || bits_size != (slots + 7) / 8 || answers_size != bits_size)
         return -TK_WRONG_SIZE;
     for (size_t at = 0; at < bits_size; at++)
         answers[at] = byte_of_slots(&line, bits[at], slots - 8 * at);
