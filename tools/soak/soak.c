@@ -53,7 +53,8 @@ static void differs(const char *what, const char *call)
     print_bytes("table before", table_before, by_runs.table_size);
     print_bytes("table by tk_slots", by_runs.table, by_runs.table_size);
     print_bytes("table by tk_event", by_events.table, by_events.table_size);
-    printf("to repeat it on a line of its own: tools/soak/run %" PRIu64 " %" PRIu64 "\n", enough, line_seed);
+    printf("to repeat it on a line of its own, with --plain or LIBRARY as now: tools/soak/run %" PRIu64 " %" PRIu64 "\n", enough,
+           line_seed);
     exit(1);
 }
 
