@@ -10,7 +10,7 @@ use denote.Triple.Clauses.{atExit}
 use Rattle.base.specs.Pick.{pick}
 use Rattle.chip.specs.declared.Chip.{Chip}
 use Rattle.line.specs.Event.{Answered, answered, verdictOf, Outcome, outcome, planOf, doneOf, eventOf}
-use Rattle.line.specs.Slots.{put, slotted, RunOutcome, runOutcome, runVerdict, runBy, slotsOf}
+use Rattle.line.specs.Slots.{slotted, runOutcome, runVerdict, runBy, slotsOf}
 use Rattle.line.specs.declared.Event.{Event}
 use Rattle.line.specs.declared.Answer.{Answer}
 use Rattle.line.specs.declared.Answer.the-variants as answer

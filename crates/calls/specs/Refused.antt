@@ -10,7 +10,7 @@ use lib.IntN.{ℤ, pos, negsuc}
 use Rattle.base.specs.Pick.{pick-false}
 use Rattle.line.specs.Event.{Answered, bit, refused}
 use Rattle.line.specs.Layout.{Lent}
-use Rattle.line.specs.Slots.{Slotted, put, refused as refusedRun, RunOutcome, runOutcome}
+use Rattle.line.specs.Slots.{Slotted, put, refused as refusedRun, runOutcome}
 use Rattle.line.specs.declared.Event.{Event}
 use Rattle.search.specs.Search.{Searched, complete, refused as refusedBy, Attached, leftBy, saysOf, leavesOf, Search, outcome, searchOf}
 use Rattle.packed.specs.Packed.{isTable}

@@ -1,6 +1,6 @@
 -- The functions that hand back or change several things at once, which one equation of their contract gives: two outcomes that the contract
 -- permits are the same. With them the functions whose answer is an enum, which a contract names by its number and values.
-use mathlib.Core.Path.{_≡_, refl, _∙_, ap, sym}
+use mathlib.Core.Path.{refl, _∙_, ap, sym}
 use Rattle.card.specs.Card.{SetUp}
 use Rattle.line.specs.Event.{Outcome}
 use Rattle.line.specs.Slots.{RunOutcome}

@@ -7,7 +7,7 @@ use mathlib.Core.List.{List, [], _∷_, _++_, map}
 use mathlib.Core.Path.{_≡_, refl, _∙_, ap, sym}
 use lib.Dec.{leb}
 use lib.ListN.{length, take, drop, getD, length-append, length-drop, take-append-drop}
-use lib.Seq.{length-take-le, take-at, drop-at}
+use lib.Seq.{length-take-le, take-at}
 use borrow.Author.Tests.{le-leb, eq-eqb}
 use Rattle.base.specs.Pick.{pick, pick-true, pick-if}
 use Rattle.base.specs.Both.{both-holds}

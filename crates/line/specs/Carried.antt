@@ -5,14 +5,14 @@ use native.Mathlib.Nat.{zero-add}
 use mathlib.Core.Bool.{Bool, true, false, true≢false}
 use mathlib.Core.List.{List, [], _∷_, _++_, map, append-assoc}
 use mathlib.Core.Path.{_≡_, refl, _∙_, ap, sym}
-use lib.Dec.{eqb, ltb, leb}
+use lib.Dec.{eqb, leb}
 use borrow.Author.Tests.{leb-true, leb-false, eq-eqb, ne-eqb, le-leb, lt-leb}
 use lib.ListN.{length, take, drop, getD, set, take-append-drop, length-drop, length-append}
-use lib.Seq.{take-at, drop-at, getD-at, set-at, set-getD, length-take-le}
+use lib.Seq.{getD-at, set-at, set-getD, length-take-le}
 use Rattle.base.specs.Pick.{pick, pick-true, pick-false}
 use Rattle.base.specs.Bits.{both}
 use Rattle.base.specs.Both.{both-assoc, both-true, true-both}
-use Rattle.chip.specs.Chip.{Whole, whole, sendsOf, outsideChip, outsideOf}
+use Rattle.chip.specs.Chip.{Whole, whole, outsideChip, outsideOf}
 use Rattle.chip.specs.Range.{inRange}
 use Rattle.chip.specs.Kinds.{imageMost, padMost, imageSize, padSize}
 use Rattle.chip.specs.Limits.{image-small, pad-small}
@@ -27,10 +27,8 @@ use Rattle.line.specs.Prefix.{capped-is}
 use Rattle.line.specs.Refusals.{judged-fit}
 use Rattle.line.specs.Carrier.{firstSpot, spotAfter, over, firstSurvey, surveyChip, surveyed, verdictWith, verdictBy, runVerdictBy, planSeen, firstBus, putsAt, busWith, busOver, doesAt, turnOf, acts, happensBy, answerFor}
 use Rattle.line.specs.Slots.{runFits, runVerdict}
-use Rattle.line.specs.declared.Act.{Act}
 use Rattle.line.specs.declared.Act.the-variants as act
 use Rattle.line.specs.declared.Answer.{Answer}
-use Rattle.line.specs.declared.Answer.the-variants as answer
 use Rattle.line.specs.declared.Event.{Event}
 use Rattle.line.specs.declared.Refusal.{Refusal}
 use Rattle.line.specs.declared.Verdict.{Verdict}

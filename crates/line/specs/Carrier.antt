@@ -3,8 +3,8 @@ use Prim.Native.Nat.{ℕ, zero, suc, _+_, _-_, _<_, _≤_}
 use native.Mathlib.Omega.{arith}
 use mathlib.Core.Bool.{Bool, true, false}
 use mathlib.Core.List.{List}
-use mathlib.Core.Path.{_≡_, _∙_, ap, sym}
-use lib.Dec.{eqb, ltb, leb}
+use mathlib.Core.Path.{_≡_}
+use lib.Dec.{eqb, leb}
 use lib.ListN.{getD, set}
 use Rattle.base.specs.Along.{along}
 use Rattle.base.specs.Pick.{pick}

@@ -1,11 +1,11 @@
 -- Laws: a run of slots on a table and its buffers, of which the line is carried from slot to slot.
-use Prim.Native.Nat.{ℕ, _+_, _%_, _/_, _*_, _<_, _≤_}
+use Prim.Native.Nat.{ℕ, _+_, _*_, _≤_}
 use native.Mathlib.Omega.{arith}
 use mathlib.Core.Bool.{Bool}
 use mathlib.Core.List.{List, [], _∷_, _++_}
 use mathlib.Core.Path.{_≡_, refl, _∙_, ap, sym}
 use lib.Dec.{eqb, leb}
-use lib.ListN.{length, take, drop, take-append-drop, length-append, length-drop, length-map}
+use lib.ListN.{length, take, drop, take-append-drop, length-append, length-map}
 use lib.Seq.{take-at, drop-at, length-take-le}
 use borrow.Author.Tests.{leb-true, eqb-true}
 use Rattle.base.specs.Along.{along}
@@ -19,16 +19,13 @@ use Rattle.line.specs.Event.{Fits, tableInRange, sizesFit}
 use Rattle.line.specs.Fitted.{AllFitted, split-fitted, map-fitted, length-chips, images-length, pads-length, split-joined}
 use Rattle.line.specs.Prefix.{capped-is, length-split}
 use Rattle.line.specs.Refusals.{chips-split, images-split, pads-split, fit, held}
-use Rattle.line.specs.Carrier.{firstSpot, busOver, acts, surveyed, runVerdictBy}
-use Rattle.line.specs.Carried.{slot-walked, table-surveyed, run-stands-is}
-use Rattle.line.specs.Slots.{bitsOf, bitsIn, bytesFrom, hostBits, runOn, bytesAsked, runFits, runVerdict, put, refused, slotted, RunOutcome, runOutcome, runBy}
-use Rattle.line.specs.Runs.{run-length, InByte, byte-start, byte-next, byte-end, Running, running-start, running-next, running-end, countOf}
+use Rattle.line.specs.Carrier.{firstSpot, busOver, acts}
+use Rattle.line.specs.Carried.{slot-walked}
+use Rattle.line.specs.Slots.{bitsOf, bitsIn, bytesFrom, hostBits, runOn, bytesAsked, runFits, runVerdict, put, RunOutcome, runOutcome, runBy}
+use Rattle.line.specs.Runs.{run-length, InByte, Running}
 use Rattle.line.specs.declared.Act.the-variants as act
 use Rattle.line.specs.declared.Plan.the-variants as plan
 use Rattle.line.specs.declared.Refusal.the-variants.{OutOfRange, WrongSize}
-use Rattle.line.specs.declared.SlotsAnswer.{SlotsAnswer}
-use Rattle.line.specs.declared.SlotsAnswer.the-variants as answer
-use Rattle.line.specs.declared.Survey.{Survey}
 use Rattle.line.specs.declared.Verdict.{Verdict}
 use Rattle.line.specs.declared.Verdict.the-variants as verdict
 

@@ -8,8 +8,8 @@ use mathlib.Core.Bool.{Bool, true, false}
 use mathlib.Core.List.{List, [], _∷_, _++_, append-assoc, append-nil}
 use mathlib.Core.Path.{_≡_, refl, _∙_, ap, sym, subst}
 use lib.Dec.{eqb, ltb}
-use lib.ListN.{length, take, drop, getD, set, length-append, length-drop, length-set, drop-of-length-le}
-use lib.Seq.{take-at, drop-at, drop-cons, take-suc-set, drop-set-lt, take-all, length-take-le}
+use lib.ListN.{length, take, drop, getD, set, length-set, drop-of-length-le}
+use lib.Seq.{take-at, drop-at, drop-cons, take-suc-set, take-all}
 use borrow.Author.Tests.{ltb-true, ltb-false}
 use Rattle.base.specs.Pick.{pick, pick-true, pick-false, pick-if}
 use Rattle.chip.specs.Chip.{Whole}
@@ -81,7 +81,7 @@ module _ (bits count : ℕ) (L₀ : List Whole) (i host sum worth : ℕ) (L : Li
       twice : (n : ℕ) → 2 * 2 ^ n ≡ 2 ^ (n + 1)
       twice n = sym (ap (λ (m : ℕ). 2 ^ m) (add-one n) ∙ pow-succ' 2 n)
 
-  -- the bits hs a number, which a byte holds
+  -- the bits as a number, which a byte holds
   pub byte-end : count ≤ i → (sum ≡ numberFrom 1 (runOn (bitsOf count bits) L₀ .bits)) × (L ≡ runOn (bitsOf count bits) L₀ .line) × (sum < 256)
   byte-end h =
       let w = g .within in
@@ -148,7 +148,7 @@ host-next left x xs =
     ∙ sym (append-nil (bitsOf left x)) ∙ ap (λ (k : ℕ). bitsOf left x ++ take k (bitsIn xs)) (sym z))
     (λ h. take-over left (bitsOf 8 x) (bitsIn xs) h)
 
--- the bits of a byte, and those of the next ones, hs bytes: only the last byte of a run has fewer than eight
+-- the bits of a byte, and those of the next ones, as bytes: only the last byte of a run has fewer than eight
 bytes-next : (n left : ℕ) (hs bs : List Bool) → length hs ≡ countOf left → length bs ≤ left - countOf left → bytesFrom (suc n) (hs ++ bs) ≡ numberFrom 1 hs ∷ bytesFrom n bs
 bytes-next n left hs bs = count-cases (λ k. length hs ≡ k → length bs ≤ left - k → bytesFrom (suc n) (hs ++ bs) ≡ numberFrom 1 hs ∷ bytesFrom n bs) left
     (λ h e f. last bs (omega arith) hs (omega arith))

@@ -1,5 +1,6 @@
 // The event, chip by chip, for whoever carries a table, wherever its chips stand: each is surveyed, then the event is
-// planned, then each puts its bit on the bus, then each has its turn. A carrier walks its own form and decides nothing.
+// planned, then each puts its bit on the bus, then each has its turn. A carrier walks its own form and decides nothing. A
+// run of slots is judged here too, and its bytes are put together.
 use crate::Act;
 use crate::Answer;
 use crate::Bus;
@@ -123,7 +124,7 @@ pub fn verdict_by(s: Survey, n: usize, images: usize, pads: usize) -> Verdict
     verdict_with(s, n, images, pads, true)
 }
 
-// The sizes of bits and answers are what so many slots ask, and a run has as many.
+// A run may have so many slots, and bits and answers are of the sizes that they ask.
 pub fn run_fits(slots: usize, bits: usize, answers: usize) -> bool
     ensures { λ r. ⌜ r ≡ runFits slots bits answers ⌝ }
 {

@@ -15,7 +15,7 @@ ghost use Rattle.line.specs.Event.{Fits};
 ghost use Rattle.line.specs.Slots.{bitsOf, numberFrom, runOn, slotted, runOutcome, runVerdict, runBy, slotsOf, hostBits, bytesFrom, bytesAsked};
 
 // Up to eight slots, whose host bits are the first of a byte.
-pub fn run_byte(t: Table, bits: u8, count: usize, ms: &mut [u8], ss: &mut [u8]) -> ByteRan
+fn run_byte(t: Table, bits: u8, count: usize, ms: &mut [u8], ss: &mut [u8]) -> ByteRan
     requires { ⌜ Fits (t .n) (t .chips) (now ms) (now ss) ⌝ }
     requires { ⌜ count ≤ 8 ⌝ }
     ensures { λ r. ⌜ r .byte ≡ numberFrom 1 (runOn (bitsOf count bits) (lineOf (t .n) (t .chips) (now (ms .entry)) (now (ss .entry))) .bits) ⌝ }
@@ -44,7 +44,7 @@ pub fn run_byte(t: Table, bits: u8, count: usize, ms: &mut [u8], ss: &mut [u8]) 
 }
 
 // All slots of a run, on a table and buffers that stand well, with bits and answers of the sizes that they ask.
-pub fn run_all(
+fn run_all(
     t: Table,
     bits: &[u8],
     slots: usize,
@@ -74,7 +74,7 @@ pub fn run_all(
 }
 
 // The slots of a run by its verdict.
-pub fn run_by(
+fn run_by(
     judged: Verdict,
     t: Table,
     bits: &[u8],

@@ -1,4 +1,4 @@
--- include/toemsakun.h, the table of steps, by numbers alone: which chips can be in a step, and the most that w, a, b and c then hold.
+-- Form: include/toemsakun.h's table of steps, by numbers alone: which chips can be in a step, and the most that w, a, b and c then hold.
 use Prim.Native.Nat.{ℕ}
 use mathlib.Core.Bool.{Bool, true}
 use lib.Dec.{eqb, ltb, leb}

@@ -7,7 +7,7 @@ use lib.Dec.{leb}
 use lib.ListN.{length, take, drop, getD, set, length-set, drop-of-length-le}
 use lib.Seq.{split-at, set-split, take-at, drop-at, length-take-le}
 use borrow.Author.Tests.{le-leb}
-use Rattle.base.specs.Pick.{pick, pick-true}
+use Rattle.base.specs.Pick.{pick-true}
 use Rattle.chip.specs.declared.Chip.{Chip}
 use Rattle.chip.specs.With.{noChip}
 use Rattle.packed.specs.Packed.{recordSize, packed, unpacked, packedTable, unpackedTable, putRecord}

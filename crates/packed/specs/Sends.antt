@@ -1,4 +1,4 @@
--- include/toemsakun.h, the table of steps: what a record's chip sends in a slot, read from the bytes in their place.
+-- Form: what a record's chip sends in a slot, read from the bytes in their place, by include/toemsakun.h's table of steps.
 use Prim.Native.Nat.{ℕ, _+_, _*_}
 use mathlib.Core.Bool.{Bool, true, not}
 use mathlib.Core.List.{List}

@@ -1,5 +1,4 @@
 -- Law: a chip whose record names step 0 waits for a reset.
-use Prim.Native.Nat.{ℕ}
 use mathlib.Core.Bool.{true, true≢false}
 use mathlib.Core.Path.{_≡_, refl, sym}
 use lib.Dec.{eqb}

@@ -7,7 +7,7 @@ use mathlib.Core.Path.{_≡_, refl, _∙_, ap, sym}
 use lib.IntN.{pos}
 use lib.ListN.{length, take, drop}
 use lib.Seq.{drop-length}
-use Rattle.base.specs.Pick.{pick, pick-true, pick-false}
+use Rattle.base.specs.Pick.{pick-true, pick-false}
 use Rattle.chip.specs.Chip.{Whole}
 use Rattle.chip.specs.declared.Chip.{Chip}
 use Rattle.line.specs.Line.{valueOf, afterBy}
@@ -24,7 +24,7 @@ use Rattle.line.specs.declared.Refusal.{Refusal}
 use Rattle.line.specs.declared.Refusal.the-variants.{OutOfRange}
 use Rattle.line.specs.declared.Verdict.{Verdict}
 use Rattle.line.specs.declared.Verdict.the-variants as verdict
-use Rattle.packed.specs.Packed.{packedTable, unpackedTable, isTable}
+use Rattle.packed.specs.Packed.{unpackedTable, isTable}
 use Rattle.packed.specs.Laws.{table-is}
 use Rattle.toemsakun.specs.Judging.{refusedBy8, planBytes}
 use Rattle.toemsakun.specs.Library.{minus, eventLeft, answerNumber, packedOutcome, eventBytes, slotsLeft, packedRun, slotsBytes}

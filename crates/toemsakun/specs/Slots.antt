@@ -1,4 +1,4 @@
--- Forms: a table's bytes with its buffers as a line of whole chips, and a range outside which every chip waits.
+-- Form: a table's bytes with its buffers as a line of whole chips, and a range outside which every chip waits.
 use Prim.Native.Nat.{ℕ, _≤_}
 use mathlib.Core.List.{List, [], _∷_}
 use mathlib.Core.Path.{_≡_}

@@ -67,9 +67,6 @@ module _ (bs : List ℕ) (n : ℕ) (ok whole : Bool) (q : n ≡ length bs / reco
       let count = chips-count bs n q in
       whole-is bs n q ok whole j w ∙ ap (both (isTable bs)) (sym (in-range-is cs (omega arith)))
 
-  pub judged-table : whole ≡ true → (isTable bs ≡ true) × (tableInRange (length cs) cs ≡ true) × (n ≡ length cs)
-  judged-table e = let h = both-holds (isTable bs) (tableInRange (length cs) cs) (sym judged-is ∙ e) in (h .0, h .1, chips-count bs n q)
-
   -- the verdict of the code
   verdict-judged : (ms ss : List ℕ) (fits run : Bool) (v : Verdict) → fits ≡ sizesFit (length cs) cs ms ss
       → v ≡ judge (tableTests whole (both fits run)) → v ≡ verdictBytes bs ms ss run
