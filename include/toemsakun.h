@@ -2,8 +2,8 @@
  * A 1-Wire line with up to 16 chips on it, DS28EC20 memories and DS2413 switches, for firmware to be tried against.
  *
  * The caller owns all memory. It lends a table (one record for each chip), the memory images and the scratchpads of the
- * chips, and for a search a list. Nothing is kept between calls, and nothing is allocated: several lines may live side by
- * side, one call at a time on each.
+ * chips, for a run of slots its bits and room for the answers, and for a search a list. Nothing is kept between calls, and
+ * nothing is allocated: several lines may live side by side, one call at a time on each.
  *
  * Link with libtoemsakun.a (x86-64). See examples/firmware for a whole host.
  *
@@ -28,6 +28,7 @@ extern "C" {
 #define TK_PAD_SIZE 32            /* the scratchpad of one DS28EC20 */
 #define TK_MOST_IMAGES_SIZE 41984 /* the images of a line of 16 memories: no line asks more */
 #define TK_MOST_PADS_SIZE 512     /* the scratchpads of a line of 16 memories: no line asks more */
+#define TK_MOST_SLOTS 65535       /* slots in one run */
 #define TK_CODE_SLOTS 200         /* slots that a search puts on the line for each code it lists */
 
 /* The kinds of a chip. A DS2413 has no image and no scratchpad. */
@@ -44,13 +45,14 @@ extern "C" {
 /*
  * Refusals. A result below 0 is minus one of these numbers; 0 or more is the answer. Where several hold, the first in this
  * order is given: of a card's record 3 for fewer than 4 bytes left, then 2, then 3 for its length or a cut body, then 1;
- * of an event 8, 5, 6, 7; of a search 8, 5, 4.
+ * of an event 8, 5, 6, 7; of a run 8, 5; of a search 8, 5, 4.
  */
 #define TK_TOO_MANY 1       /* card: a 17th record, or more records than the table has places */
 #define TK_UNKNOWN_KIND 2   /* card: a kind that is neither 1 nor 2 */
 #define TK_WRONG_LENGTH 3   /* card: a record that is cut short, or whose length is not 10 */
 #define TK_TOO_FEW_PLACES 4 /* search: fewer places than codes on the line; the list is full */
-#define TK_WRONG_SIZE 5     /* images or scratchpads have another size than the table asks */
+#define TK_WRONG_SIZE 5     /* images or scratchpads have another size than the table asks; of a run, more slots than
+                               TK_MOST_SLOTS, or bits or answers of another size than the slots ask */
 #define TK_NO_SUCH_EVENT 6  /* an event over 4 */
 #define TK_NO_SUCH_LEVELS 7 /* event 4 names no DS2413 of the line, or levels over 3 */
 #define TK_OUT_OF_RANGE 8   /* the table is no table: see below */
@@ -140,6 +142,23 @@ int32_t tk_card(const uint8_t *card, size_t card_size, uint8_t *table, size_t ta
  */
 int32_t tk_event(uint8_t *table, size_t table_size, uint32_t event, uint32_t chip, uint32_t levels, uint8_t *images,
                  size_t images_size, uint8_t *pads, size_t pads_size);
+
+/*
+ * A run of slots: a byte, a code, a page, all that a host writes or reads before it looks at what came back. Where slots
+ * follow one another this is the call to make, and not tk_event for each: the table is judged once for the whole run.
+ *
+ * bits has what the host writes in the order of the line, the first bit as bit 0 of byte 0, so that a byte is 8 slots as it
+ * stands; a read slot is a 1, so that bytes are read by as many bytes FFh. The bits on the bus come into answers in the same
+ * places. Both have just the bytes that the slots ask: slots / 8, rounded up. Of the last byte, what lies past the run is
+ * not looked at in bits, and is 0 in answers.
+ *
+ * Answers how many slots were put on the line: all of them. The line, and the bits in answers, are then those of so many
+ * calls of tk_event. A run of no slots answers 0.
+ *
+ * Refused by 8 or 5: nothing is changed, no byte of answers either.
+ */
+int32_t tk_slots(uint8_t *table, size_t table_size, const uint8_t *bits, size_t bits_size, uint8_t *answers,
+                 size_t answers_size, size_t slots, uint8_t *images, size_t images_size, uint8_t *pads, size_t pads_size);
 
 /*
  * Search: lists each code on the line once, in branch order (bit 0 first, 0 before 1). A code is a number whose bit 0 is

@@ -31,6 +31,13 @@ unsigned host_slot(struct host *host, unsigned bit)
     return host_event(host, bit ? TK_WRITE_1 : TK_WRITE_0, 0, 0) == 1;
 }
 
+void host_run(struct host *host, const uint8_t *bits, uint8_t *answers, size_t bytes)
+{
+    if (tk_slots(host->table, host->table_size, bits, bytes, answers, bytes, 8 * bytes, host->images, host->images_size,
+                 host->pads, host->pads_size) < 0)
+        memset(answers, 0, bytes);
+}
+
 int32_t host_search(struct host *host, uint64_t *codes, size_t places)
 {
     uint64_t resets, slots;
@@ -42,39 +49,46 @@ int32_t host_search(struct host *host, uint64_t *codes, size_t places)
 
 void host_write(struct host *host, uint8_t byte)
 {
-    for (int i = 0; i < 8; i++)
-        host_slot(host, byte >> i & 1);
+    uint8_t answer;
+    host_run(host, &byte, &answer, 1);
 }
 
 uint8_t host_read(struct host *host)
 {
-    unsigned byte = 0;
-    for (int i = 0; i < 8; i++)
-        byte |= host_slot(host, 1) << i;
-    return (uint8_t)byte;
+    const uint8_t ones = 0xFF;
+    uint8_t byte;
+    host_run(host, &ones, &byte, 1);
+    return byte;
 }
+
+/* The bytes of the next run: a page at most. */
+static size_t next_run(size_t left) { return left < PAGE_SIZE ? left : PAGE_SIZE; }
 
 /* Writes bytes, and adds them to a CRC-16. */
 static uint16_t write_bytes(struct host *host, const uint8_t *bytes, size_t size, uint16_t crc)
 {
-    for (size_t i = 0; i < size; i++)
-        host_write(host, bytes[i]);
+    uint8_t answers[PAGE_SIZE];
+    for (size_t at = 0; at < size; at += PAGE_SIZE)
+        host_run(host, bytes + at, answers, next_run(size - at));
     return crc16(crc, bytes, size);
 }
 
 /* Reads bytes, and adds them to a CRC-16. */
 static uint16_t read_bytes(struct host *host, uint8_t *bytes, size_t size, uint16_t crc)
 {
-    for (size_t i = 0; i < size; i++)
-        bytes[i] = host_read(host);
+    uint8_t ones[PAGE_SIZE];
+    memset(ones, 0xFF, sizeof ones);
+    for (size_t at = 0; at < size; at += PAGE_SIZE)
+        host_run(host, ones, bytes + at, next_run(size - at));
     return crc16(crc, bytes, size);
 }
 
 /* Reads a CRC-16, which comes inverted and low byte first; true where it is this one. */
 static bool crc_agrees(struct host *host, uint16_t crc)
 {
-    unsigned low = host_read(host), high = host_read(host);
-    return (low | high << 8) == (uint16_t)~crc;
+    uint8_t sent[2];
+    read_bytes(host, sent, sizeof sent, 0);
+    return (sent[0] | sent[1] << 8) == (uint16_t)~crc;
 }
 
 bool host_match(struct host *host, const uint8_t code[CODE_SIZE])
@@ -148,9 +162,10 @@ bool host_switch(struct host *host, const uint8_t code[CODE_SIZE], uint8_t latch
     if (!host_match(host, code))
         return false;
     write_bytes(host, bytes, sizeof bytes, 0);
-    bool confirmed = host_read(host) == 0xAA;
-    *status = host_read(host);
-    return confirmed;
+    uint8_t sent[2];
+    read_bytes(host, sent, sizeof sent, 0);
+    *status = sent[1];
+    return sent[0] == 0xAA;
 }
 
 uint16_t crc16(uint16_t crc, const uint8_t *bytes, size_t size)

@@ -1,6 +1,6 @@
 /*
- * A 1-Wire host on a modelled line. In firmware the lower half (host_reset, host_slot) drives a pin; here it calls the
- * library, and all above it stays as it is. host_set_up, host_event and host_search belong to the model: firmware brings
+ * A 1-Wire host on a modelled line. In firmware the lower half (host_reset, host_slot, host_run) drives a pin; here it calls
+ * the library, and all above it stays as it is. host_set_up, host_event and host_search belong to the model: firmware brings
  * its own search. host_set_up has shown that the line is not refused, so a slot always has a bit.
  */
 #ifndef HOST_H
@@ -57,6 +57,12 @@ bool host_reset(struct host *host);
 
 /* One slot in which the host writes a bit; what the line came to. A read slot writes 1. */
 unsigned host_slot(struct host *host, unsigned bit);
+
+/*
+ * So many bytes in one run of slots, least significant bit first, at most TK_MOST_SLOTS / 8 of them: what the host writes,
+ * and what the line came to; 0 where the line refuses the run. To read is to write FFh.
+ */
+void host_run(struct host *host, const uint8_t *bits, uint8_t *answers, size_t bytes);
 
 /* Writes a byte, least significant bit first. */
 void host_write(struct host *host, uint8_t byte);

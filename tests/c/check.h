@@ -27,5 +27,6 @@ void test_cards(void);
 void test_refusals(void);
 void test_cases(void);
 void test_records(void);
+void test_slots(void);
 
 #endif

@@ -9,50 +9,26 @@
  *   C       card, table                                    tk_card (4), offset (8), table
  *   L       table, images, pads: the line from here on     tk_images_size (8), tk_pads_size (8)
  *   E       event (4), chip (4), levels (4)                tk_event (4), the line
+ *   R       slots (8), bits, answers as they are before    tk_slots (4), answers, the line
  *   F       list, its size 8 times the places              tk_search (4), resets (8), slots (8), list, the line
  *   M                                                      images
  *
  * "The line" is the table, the pads and the FNV-1a sum of the images (8). The line that L gave stays until the next L (C
  * puts another table in its place), so that a tester also sees what builds up over calls. L comes first. Each lent piece
- * ends where a page without access begins, so that a read or write
- * past its end stops the program; what lies before it is looked at after each call. The input's end ends the program; a
- * fault in the input, or a write outside the pieces, ends it with status 2.
+ * ends where a page without access begins; what lies before it is looked at after each call. The input's end ends the
+ * program; a fault in the input, a write before a piece, or one into a piece that is lent to be read, ends it with status 2.
  */
 #include <stdio.h>
 #include <stdlib.h>
 #include <string.h>
-#include <sys/mman.h>
-#include <unistd.h>
 
+#include "pieces.h"
 #include "toemsakun.h"
-
-/* The most bytes of a piece. */
-#define ROOM 65536
-/* What stands before a piece, and so many bytes of it. */
-#define GUARD 0xA7
-#define GUARDS 256
-
-/* A lent piece: its size, and its bytes at the end of its pages. */
-struct piece {
-    uint8_t *end;
-    uint8_t *bytes;
-    size_t size;
-};
 
 static void fail(const char *what)
 {
     fprintf(stderr, "driver: %s\n", what);
     exit(2);
-}
-
-/* Pages for a piece, with one without access after them. */
-static struct piece new_piece(void)
-{
-    size_t page = (size_t)sysconf(_SC_PAGESIZE), all = ROOM + page;
-    uint8_t *start = mmap(NULL, all + page, PROT_READ | PROT_WRITE, MAP_PRIVATE | MAP_ANONYMOUS, -1, 0);
-    if (start == MAP_FAILED || mprotect(start + all, page, PROT_NONE) != 0)
-        fail("no memory");
-    return (struct piece){start + all, start + all, 0};
 }
 
 static void get(void *bytes, size_t size)
@@ -86,20 +62,18 @@ static void put_number(uint64_t number, size_t size)
 /* Takes a piece from the input. */
 static void get_piece(struct piece *piece)
 {
-    piece->size = (size_t)get_number(4);
-    if (piece->size > ROOM)
+    size_t size = (size_t)get_number(4);
+    if (size > ROOM)
         fail("a piece is too large");
-    piece->bytes = piece->end - piece->size;
-    get(piece->bytes, piece->size);
-    memset(piece->bytes - GUARDS, GUARD, GUARDS);
+    resize(piece, size);
+    get(piece->bytes, size);
 }
 
 /* Ends the program where something before a piece was written. */
 static void look_before(const struct piece *piece)
 {
-    for (size_t i = 1; i <= GUARDS; i++)
-        if (piece->bytes[-(ptrdiff_t)i] != GUARD)
-            fail("a call wrote before a piece");
+    if (!kept_before(piece))
+        fail("a call wrote before a piece");
 }
 
 static void put_piece(const struct piece *piece)
@@ -109,7 +83,25 @@ static void put_piece(const struct piece *piece)
     put(piece->bytes, piece->size);
 }
 
-static struct piece table, images, pads, card, list;
+/* What a piece that is lent to be read held before the call. */
+static uint8_t copy[ROOM];
+
+/* Takes such a piece from the input. */
+static void get_to_read(struct piece *piece)
+{
+    get_piece(piece);
+    memcpy(copy, piece->bytes, piece->size);
+}
+
+/* Ends the program where it is not as it was. */
+static void look_at_read(const struct piece *piece)
+{
+    look_before(piece);
+    if (memcmp(copy, piece->bytes, piece->size) != 0)
+        fail("a call wrote into a piece that is lent to be read");
+}
+
+static struct piece table, images, pads, card, list, bits, answers;
 
 /* Writes the line: table, pads, sum of the images. */
 static void put_line(void)
@@ -123,17 +115,14 @@ static void put_line(void)
     put_number(sum, 8);
 }
 
-/* C: set-up from a card, which must stay as it was. */
+/* C: set-up from a card. */
 static void do_card(void)
 {
-    static uint8_t copy[ROOM];
     size_t offset = SIZE_MAX;
-    get_piece(&card);
+    get_to_read(&card);
     get_piece(&table);
-    memcpy(copy, card.bytes, card.size);
     int32_t answer = tk_card(card.bytes, card.size, table.bytes, table.size, &offset);
-    if (memcmp(copy, card.bytes, card.size) != 0)
-        fail("a call wrote into the card");
+    look_at_read(&card);
     put_number((uint32_t)answer, 4);
     put_number(offset, 8);
     put_piece(&table);
@@ -156,6 +145,20 @@ static void do_event(void)
     int32_t answer =
         tk_event(table.bytes, table.size, event, chip, levels, images.bytes, images.size, pads.bytes, pads.size);
     put_number((uint32_t)answer, 4);
+    put_line();
+}
+
+/* R: a run of slots. */
+static void do_slots(void)
+{
+    size_t slots = (size_t)get_number(8);
+    get_to_read(&bits);
+    get_piece(&answers);
+    int32_t answer = tk_slots(table.bytes, table.size, bits.bytes, bits.size, answers.bytes, answers.size, slots,
+                              images.bytes, images.size, pads.bytes, pads.size);
+    look_at_read(&bits);
+    put_number((uint32_t)answer, 4);
+    put_piece(&answers);
     put_line();
 }
 
@@ -182,6 +185,8 @@ int main(void)
     pads = new_piece();
     card = new_piece();
     list = new_piece();
+    bits = new_piece();
+    answers = new_piece();
     for (int letter; (letter = getchar()) != EOF; fflush(stdout)) {
         switch (letter) {
         case 'S':
@@ -195,6 +200,9 @@ int main(void)
             break;
         case 'E':
             do_event();
+            break;
+        case 'R':
+            do_slots();
             break;
         case 'F':
             do_search();

@@ -1,4 +1,4 @@
-/* Events and searches: the empty line, each refusal by its number, and that a refused call changes no byte. */
+/* Events, runs and searches: the empty line, each refusal by its number, and that a refused call changes no byte. */
 #include "check.h"
 
 static struct host host, before;
@@ -9,6 +9,17 @@ static bool event_refused(uint32_t event, uint32_t chip, uint32_t levels, int32_
 {
     before = host;
     return host_event(&host, event, chip, levels) == -refusal && memcmp(&host, &before, sizeof host) == 0;
+}
+
+/* Whether a run of 16 slots is refused by a number and every lent byte stays, those of the answers too. */
+static bool run_refused(int32_t refusal)
+{
+    static const uint8_t bits[2] = {0xCC, 0x0F}, any[2] = {0x3C, 0xA5};
+    uint8_t answers[2] = {0x3C, 0xA5};
+    before = host;
+    return tk_slots(host.table, host.table_size, bits, 2, answers, 2, 16, host.images, host.images_size, host.pads,
+                    host.pads_size) == -refusal &&
+           memcmp(&host, &before, sizeof host) == 0 && memcmp(answers, any, sizeof any) == 0;
 }
 
 /* Searches with so many places; the list holds other numbers before. */
@@ -29,11 +40,11 @@ static bool search_refused(int32_t refusal)
            memcmp(list, list_before, sizeof list) == 0;
 }
 
-/* Whether reset, power on and search are all refused by a number. */
+/* Whether reset, power on, run and search are all refused by a number. */
 static bool all_refused(int32_t refusal)
 {
     return event_refused(TK_RESET, 0, 0, refusal) && event_refused(TK_POWER_ON, 0, 0, refusal) &&
-           event_refused(99, 99, 99, refusal) && search_refused(refusal);
+           event_refused(99, 99, 99, refusal) && run_refused(refusal) && search_refused(refusal);
 }
 
 static void test_empty_line(void)
@@ -140,6 +151,7 @@ static void test_table_lengths(void)
     check("16 switches answer a reset", tk_event(table, 16 * TK_RECORD_SIZE, TK_RESET, 0, 0, none, 0, none, 0) == 0);
     memcpy(table, copy, sizeof table);
     check("8: 17 records", tk_event(table, sizeof table, TK_RESET, 0, 0, none, 0, none, 0) == -TK_OUT_OF_RANGE);
+    check("8: 17 records, a run", tk_slots(table, sizeof table, none, 0, none, 0, 0, none, 0, none, 0) == -TK_OUT_OF_RANGE);
     check("8: 17 records stay", memcmp(table, copy, sizeof table) == 0);
 }
 

@@ -45,6 +45,7 @@ int main(void)
     test_refusals();
     test_cases();
     test_records();
+    test_slots();
     printf("%d passed, %d failed\n", passed, failed);
     return failed != 0;
 }

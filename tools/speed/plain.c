@@ -160,3 +160,28 @@ int32_t plain_event(uint8_t *table, size_t table_size, uint32_t event, uint32_t 
         memcpy(table, line.chips, table_size);
     return answer;
 }
+
+/* Up to eight slots, whose host bits stand in a byte: their values in a byte. */
+static uint8_t byte_of_slots(struct plain_line *line, uint8_t bits, size_t slots)
+{
+    unsigned values = 0;
+    for (size_t i = 0; i < slots && i < 8; i++)
+        values |= (unsigned)plain_line_event(line, bits >> i & 1, 0, 0) << i;
+    return (uint8_t)values;
+}
+
+int32_t plain_slots(uint8_t *table, size_t table_size, const uint8_t *bits, size_t bits_size, uint8_t *answers,
+                    size_t answers_size, size_t slots, uint8_t *images, size_t images_size, uint8_t *pads,
+                    size_t pads_size)
+{
+    struct plain_line line;
+    int32_t refusal = plain_line_take(&line, table, table_size, images, images_size, pads, pads_size);
+    if (refusal < 0)
+        return refusal;
+    if (slots > TK_MOST_SLOTS || bits_size != (slots + 7) / 8 || answers_size != bits_size)
+        return -TK_WRONG_SIZE;
+    for (size_t at = 0; at < bits_size; at++)
+        answers[at] = byte_of_slots(&line, bits[at], slots - 8 * at);
+    memcpy(table, line.chips, table_size);
+    return (int32_t)slots;
+}

@@ -15,6 +15,9 @@ size_t plain_pads_size(const uint8_t *table, size_t table_size);
 int32_t plain_card(const uint8_t *card, size_t card_size, uint8_t *table, size_t table_size, size_t *offset);
 int32_t plain_event(uint8_t *table, size_t table_size, uint32_t event, uint32_t chip, uint32_t levels, uint8_t *images,
                     size_t images_size, uint8_t *pads, size_t pads_size);
+int32_t plain_slots(uint8_t *table, size_t table_size, const uint8_t *bits, size_t bits_size, uint8_t *answers,
+                    size_t answers_size, size_t slots, uint8_t *images, size_t images_size, uint8_t *pads,
+                    size_t pads_size);
 int32_t plain_search(uint8_t *table, size_t table_size, uint64_t *list, size_t places, uint8_t *images,
                      size_t images_size, uint8_t *pads, size_t pads_size, uint64_t *resets, uint64_t *slots);
 
@@ -24,6 +27,7 @@ int32_t plain_search(uint8_t *table, size_t table_size, uint64_t *list, size_t p
 #define tk_pads_size plain_pads_size
 #define tk_card plain_card
 #define tk_event plain_event
+#define tk_slots plain_slots
 #define tk_search plain_search
 #endif
 

@@ -77,7 +77,7 @@ codes-fit (c ∷ cs) small =
 pub bytes-fit : (b : LentBytes) → StandsAsBytes b → Codes (codesIn (unpackedLent b .chips))
 bytes-fit b s = codes-fit (unpackedLent b .chips) (rw (table-is (b .table) (s .table)) (s .bytes))
 
--- M-111 of `tk_search`: after any calls of it and of `tk_event`, as before them
+-- M-111 of `tk_search`: after any calls of it, of `tk_event` and of `tk_slots`, as before them
 pub list-after-trouble-c : (cs : List Call) (list : List ℕ) (b : LentBytes) → StandsAsBytes b → SameSearchInC (searchIn list (runBytes cs b)) (searchIn list b)
 list-after-trouble-c cs list b s =
     let p = searched-after cs list b (s .table) in

@@ -9,8 +9,9 @@ use Rattle.line.specs.Layout.{Lent, lent}
 use Rattle.search.specs.Search.{searchOf}
 use Rattle.packed.specs.Packed.{packedTable, unpackedTable, isTable}
 use Rattle.packed.specs.Laws.{unpacked-table, table-is, of-table}
-use Rattle.toemsakun.specs.Library.{eventBytes, SearchLeft, packedSearch, searchBytes}
-use Rattle.histories.specs.Calls.{Call, event-call, search-call, leavesCall}
+use Rattle.toemsakun.specs.Library.{eventBytes, SlotsLeft, slotsBytes, SearchLeft, packedSearch, searchBytes}
+use Rattle.histories.specs.Calls.{Call, event-call, search-call, slots-call, leavesCall}
+use Rattle.agreement.specs.Slots.{slots-packed}
 use Rattle.agreement.specs.Slice.{ofLent, leavesLent, runLent, leaves-lent}
 
 -- a table lent as bytes, with its buffers
@@ -30,10 +31,15 @@ packedLent x = record { table = packedTable (x .chips); images = x .images; pads
 abbrev pub searchIn : List ℕ → LentBytes → SearchLeft
 searchIn list b = searchBytes (b .table) list (b .images) (b .pads)
 
--- what `tk_event` and `tk_search` leave, and what one call after another leaves
+-- `tk_slots`
+abbrev pub slotsIn : ℕ → List ℕ → List ℕ → LentBytes → SlotsLeft
+slotsIn n bits out b = slotsBytes (b .table) bits out n (b .images) (b .pads)
+
+-- what `tk_event`, `tk_search` and `tk_slots` leave, and what one call after another leaves
 abbrev pub leavesBytes : Call → LentBytes → LentBytes
 leavesBytes (event-call e) b = let o = eventBytes (b .table) e (b .images) (b .pads) in record { table = o .table; images = o .images; pads = o .pads }
 leavesBytes (search-call list) b = let o = searchIn list b in record { table = o .table; images = o .images; pads = o .pads }
+leavesBytes (slots-call n bits out) b = let o = slotsIn n bits out b in record { table = o .table; images = o .images; pads = o .pads }
 
 abbrev pub runBytes : List Call → LentBytes → LentBytes
 runBytes [] b = b
@@ -56,6 +62,7 @@ call-packed : (c : Call) (x : Lent) → leavesBytes c (packedLent x) ≡ packedL
 unfolding eventBytes
 call-packed (event-call e) x = rw (pick-true (isTable (packedTable (x .chips))) _ _ (of-table _ (x .chips) refl .0), unpacked-table (x .chips))
 call-packed (search-call list) x = ap (λ (o : SearchLeft). record { table = o .table; images = o .images; pads = o .pads }) (search-packed list x)
+call-packed (slots-call n bits out) x = ap (λ (o : SlotsLeft). record { table = o .table; images = o .images; pads = o .pads }) (slots-packed (x .chips) n bits out (x .images) (x .pads))
 
 run-packed : (cs : List Call) (x : Lent) → runBytes cs (packedLent x) ≡ packedLent (runLent cs x)
 run-packed [] x = refl

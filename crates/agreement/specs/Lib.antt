@@ -1,4 +1,5 @@
 pub mod Agree
+pub mod Slots
 pub mod Slice
 pub mod InC
 pub mod AfterTroubleLent

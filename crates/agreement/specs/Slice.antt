@@ -8,13 +8,15 @@ use lib.Seq.{take-length}
 use Rattle.chip.specs.declared.Chip.{Chip}
 use Rattle.line.specs.Event.{eventOf}
 use Rattle.line.specs.Layout.{Lent, split}
+use Rattle.line.specs.Slots.{slotsOf}
 use Rattle.line.specs.Prefix.{event-holds}
 use Rattle.line.specs.Refusals.{chips-split}
 use Rattle.search.specs.Prefix.{search-has}
 use Rattle.search.specs.Search.{Attached, attached, leavesOf, searchOf}
 use Rattle.histories.specs.Histories.{codesOf}
 use Rattle.histories.specs.Standing.{lineFrom, codes-chips}
-use Rattle.histories.specs.Calls.{Call, event-call, search-call, leavesCall, callsOn}
+use Rattle.histories.specs.Calls.{Call, event-call, search-call, slots-call, leavesCall, callsOn}
+use Rattle.agreement.specs.Slots.{slots-hold}
 
 -- a lent slice of chips with its buffers, as the table that it is: each place holds a chip
 abbrev pub ofLent : Lent → Attached
@@ -24,10 +26,12 @@ ofLent x = attached (length (x .chips)) (x .chips) (x .images) (x .pads)
 abbrev pub codesIn : List Chip → List ℕ
 codesIn cs = map (λ (c : Chip). c .code) cs
 
--- what `lent::take_event` and `lent::search_line` leave, and what one call after another leaves
+-- what `lent::take_event` and `lent::search_line` leave, and a run of slots, of which the lent form has no function: the library for C has it, on
+-- the bytes of such a slice; and what one call after another leaves
 abbrev pub leavesLent : Call → Lent → Lent
 leavesLent (event-call e) x = eventOf (length (x .chips)) (x .chips) e (x .images) (x .pads) .lent
 leavesLent (search-call list) x = searchOf list (ofLent x) .line .lent
+leavesLent (slots-call n bits out) x = slotsOf (length (x .chips)) (x .chips) n bits out (x .images) (x .pads) .lent
 
 abbrev pub runLent : List Call → Lent → Lent
 runLent [] x = x
@@ -43,6 +47,9 @@ leaves-lent (search-call list) x =
     let n = length (x .chips) in
     let k = search-has n n (omega arith) list (ofLent x) (record { chips = refl; places = refl }) in
     λ j. record { count = (k .places ∙ sym (k .chips)) j; lent = leavesLent (search-call list) x }
+leaves-lent (slots-call n bits out) x =
+    let k = slots-hold (length (x .chips)) (x .chips) (omega arith) n bits out (x .images) (x .pads) in
+    λ j. record { count = (k .places ∙ sym (k .chips)) j; lent = leavesLent (slots-call n bits out) x }
 
 pub run-lent : (cs : List Call) (x : Lent) → ofLent (runLent cs x) ≡ callsOn cs (ofLent x)
 run-lent [] x = refl

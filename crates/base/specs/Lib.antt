@@ -3,6 +3,7 @@ pub mod Exactly
 pub mod Bits
 pub mod Low
 pub mod Rules
+pub mod Parts
 pub mod Fill
 pub mod Both
 pub mod Same

@@ -15,6 +15,12 @@ pub pick-false {ℓ} : {A : Type ℓ} (t : Bool) (a b : A) → t ≡ false → p
 unfolding pick
 pick-false t a b e = rw e
 
+-- a choice between one and the same
+pub pick-same {ℓ} : {A : Type ℓ} (t : Bool) (a : A) → pick t a a ≡ a
+unfolding pick
+pick-same true a = refl
+pick-same false a = refl
+
 -- a function of a choice is the choice of what it gives
 pub pick-of {ℓ ℓ′} : {A : Type ℓ} {B : Type ℓ′} (f : A → B) (t : Bool) (a b : A) → f (pick t a b) ≡ pick t (f a) (f b)
 unfolding pick

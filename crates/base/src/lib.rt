@@ -2,6 +2,7 @@
 ghost use mathlib.Core.Path.{_≡_};
 ghost use lib.ListN.{length, getD, set, replicate};
 ghost use Rattle.base.specs.Bits.{bitOf, same, both, filled};
+ghost use Rattle.base.specs.Parts.{partByte, putInPart};
 
 // Bit k of a number; past the 64th there is none.
 pub fn bit_of(n: u64, k: u8) -> bool
@@ -66,5 +67,35 @@ pub fn fill(s: &mut [u8], b: u8)
     while i < s.len() {
         s[i] = b;
         i += 1;
+    }
+}
+
+// The byte i of the part of a slice that begins at an offset and has a size; 0 past its end, and where it does not lie in
+// the slice.
+pub fn part_byte(s: &[u8], at: usize, size: usize, i: usize) -> u8
+    ensures { λ r. ⌜ r ≡ partByte (now (s .entry)) at size i ⌝ }
+{
+    if at <= s.len() {
+        if size <= s.len() - at {
+            if i < size {
+                return s[at + i];
+            }
+            return 0;
+        }
+        return 0;
+    }
+    0
+}
+
+// A byte put at i into such a part; past its end, and where it does not lie in the slice, nothing is put.
+pub fn put_in_part(s: &mut [u8], at: usize, size: usize, i: usize, b: u8)
+    ensures { λ r. ⌜ now (s .exit) ≡ putInPart (now (s .entry)) at size i b ⌝ }
+{
+    if at <= s.len() {
+        if size <= s.len() - at {
+            if i < size {
+                s[at + i] = b;
+            }
+        }
     }
 }

@@ -2,6 +2,7 @@
 -- "A refused call changes no byte" is in Refused, form by form.
 use Rattle.calls.specs.Form.{Form, StandsOn, stands-on}
 use Rattle.calls.specs.Wired.{SlotsShowAnd, ResetsShowPresence, OthersAnswer1, slots-show-and, resets-show-presence, others-answer-1}
+use Rattle.calls.specs.Runs.{RunsAreEvents, runs-are-events}
 use Rattle.calls.specs.Listed.{ListsCodes, lists-codes}
 use Rattle.calls.specs.Protected.{Protects, OnlyFall, protects, only-fall}
 use Rattle.calls.specs.Recovered.{Recovers, recovers}
@@ -16,6 +17,8 @@ pub record Customer (F : Form) : Type 2 where
   pub slots : SlotsShowAnd F
   pub resets : ResetsShowPresence F
   pub others : OthersAnswer1 F
+  -- a run of slots is the history of its slot events
+  pub runs : RunsAreEvents F
   -- "the search lists each code once, in branch order"
   pub lists : ListsCodes F
   -- "Protected blocks never change, and in EPROM mode no bit rises."
@@ -31,13 +34,14 @@ customer F = record {
   slots = slots-show-and F;
   resets = resets-show-presence F;
   others = others-answer-1 F;
+  runs = runs-are-events F;
   lists = lists-codes F;
   protects = protects F;
   only-fall = only-fall F;
   recovers = recovers F;
 }
 
--- `line::take_event` and `search::search_line`
+-- `line::take_event`, `search::search_line` and `line::take_slots`
 pub of-plain : Customer plain
 of-plain = customer plain
 
@@ -45,6 +49,6 @@ of-plain = customer plain
 pub of-slice : Customer slice
 of-slice = customer slice
 
--- `tk_event` and `tk_search`
+-- `tk_event`, `tk_search` and `tk_slots`
 pub from-c : Customer inC
 from-c = customer inC

@@ -1,14 +1,16 @@
--- Calls by contract: a caller asks events and searches of what it lends, one after the other, each with an outcome that the contract of the
+-- Calls by contract: a caller asks events, searches and runs of slots of what it lends, one after the other, each with an outcome that the contract of the
 -- function called permits, the next on what the last left. A table is lent in one of three forms (Plain, Slice, InC), and what is said
 -- here holds of each.
 use Prim.Native.Nat.{ℕ}
 use mathlib.Core.List.{List, [], _∷_}
 use mathlib.Core.Path.{_≡_, refl, _∙_, ap}
 use Rattle.line.specs.Event.{Answered}
+use Rattle.line.specs.Slots.{RunOutcome}
 use Rattle.line.specs.declared.Event.{Event}
 use Rattle.search.specs.Search.{Attached, saysOf, leavesOf, Search, searchOf}
 use Rattle.histories.specs.Standing.{Stands}
-use Rattle.histories.specs.Calls.{Call, event-call, search-call, leavesCall, callsOn, stands-calls}
+use Rattle.histories.specs.Slots.{slotsOn, leftByRun}
+use Rattle.histories.specs.Calls.{Call, event-call, search-call, slots-call, leavesCall, callsOn, stands-calls}
 
 -- what a call told and left is what was to be told and left, and what it left is a table
 pub record Meets {A : Type 0} (told due : A) (left owed : Attached) (IsTable : Type 0) : Type 0 where
@@ -29,24 +31,33 @@ pub record Form : Type 3 where
   -- what a search tells its caller beside the line: answer, number, list and counts
   pub Listing : Type 0
   pub listing : Search → Listing
-  -- the contract permits that an event, and a search with a list, tells this and leaves that
+  -- what a run of slots tells its caller beside the line: its answer, and the bytes of answers
+  pub Slots : Type 0
+  pub slots : RunOutcome → Slots
+  -- the contract permits that an event, a search with a list, and a run of so many slots with the host's bits and a place for the answers tells
+  -- this and leaves that
   pub PermitsEvent : Event → Loan → Answer → Loan → Type 2
   pub PermitsSearch : List ℕ → Loan → Listing → Loan → Type 2
+  pub PermitsSlots : ℕ → List ℕ → List ℕ → Loan → Slots → Loan → Type 2
   -- what it permits is what document 01 says of the table
   pub event-is : (e : Event) (x : Loan) (a : Answer) (y : Loan) → IsTable x → PermitsEvent e x a y
       → Meets a (answer (saysOf e (table x))) (table y) (leavesOf e (table x)) (IsTable y)
   pub search-is : (list : List ℕ) (x : Loan) (a : Listing) (y : Loan) → IsTable x → PermitsSearch list x a y
       → Meets a (listing (searchOf list (table x))) (table y) (searchOf list (table x) .line) (IsTable y)
+  pub slots-is : (n : ℕ) (bits out : List ℕ) (x : Loan) (a : Slots) (y : Loan) → IsTable x → PermitsSlots n bits out x a y
+      → Meets a (slots (slotsOn n bits out (table x))) (table y) (leftByRun (slotsOn n bits out (table x))) (IsTable y)
 
 -- a call, with what it told
 pub data CallTold (F : Form) : Type 0 where
   event-told : Event → F .Answer → CallTold F
   search-told : List ℕ → F .Listing → CallTold F
+  slots-told : ℕ → List ℕ → List ℕ → F .Slots → CallTold F
 
 -- the contract of the function called permits that it leaves y of x
 abbrev pub Permits : (F : Form) → CallTold F → F .Loan → F .Loan → Type 2
 Permits F (event-told e a) x y = F .PermitsEvent e x a y
 Permits F (search-told list a) x y = F .PermitsSearch list x a y
+Permits F (slots-told n bits out a) x y = F .PermitsSlots n bits out x a y
 
 -- calls one after the other, from x to y
 pub data Ran (F : Form) : List (CallTold F) → F .Loan → F .Loan → Type 2 where
@@ -57,6 +68,7 @@ pub data Ran (F : Form) : List (CallTold F) → F .Loan → F .Loan → Type 2 w
 abbrev pub callOf : {F : Form} → CallTold F → Call
 callOf (event-told e a) = event-call e
 callOf (search-told list a) = search-call list
+callOf (slots-told n bits out a) = slots-call n bits out
 
 abbrev pub callsOf : {F : Form} → List (CallTold F) → List Call
 callsOf [] = []
@@ -77,6 +89,7 @@ module _ (F : Form) where
   permits-leaves : (c : CallTold F) {x y : F .Loan} → F .IsTable x → Permits F c x y → Leaves y (leavesCall (callOf c) (F .table x))
   permits-leaves (event-told e a) {x} {y} i p = let m = F .event-is e x a y i p in record { table = m .leaves; is-table = m .is-table }
   permits-leaves (search-told list a) {x} {y} i p = let m = F .search-is list x a y i p in record { table = m .leaves; is-table = m .is-table }
+  permits-leaves (slots-told n bits out a) {x} {y} i p = let m = F .slots-is n bits out x a y i p in record { table = m .leaves; is-table = m .is-table }
 
   -- by calls one after the other
   pub ran-leaves : {cs : List (CallTold F)} {x y : F .Loan} → F .IsTable x → Ran F cs x y → Leaves y (callsOn (callsOf cs) (F .table x))

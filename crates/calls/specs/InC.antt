@@ -1,4 +1,4 @@
--- The library for C: a table as bytes. A call is one of `tk_event` or of `tk_search`, with an outcome that its own contract permits.
+-- The library for C: a table as bytes. A call is one of `tk_event`, of `tk_search` or of `tk_slots`, with an outcome that its own contract permits.
 use Prim.Native.Nat.{ℕ}
 use mathlib.Core.Bool.{true}
 use mathlib.Core.List.{List, []}
@@ -8,20 +8,24 @@ use denote.Ref.{RefT}
 use denote.Triple.Clauses.{atExit}
 use lib.IntN.{ℤ}
 use Rattle.base.specs.Pick.{pick-true}
+use Rattle.line.specs.Slots.{RunOutcome}
 use Rattle.line.specs.declared.Event.{Event}
 use Rattle.search.specs.Search.{saysOf, leavesOf, Search, searchOf}
 use Rattle.packed.specs.Packed.{isTable}
-use Rattle.toemsakun.specs.Library.{answerNumber, EventLeft, eventLeft, eventBytes, searchNumber, SearchLeft, searchLeft, searchBytes}
+use Rattle.toemsakun.specs.Library.{answerNumber, EventLeft, eventLeft, eventBytes, slotsNumber, SlotsLeft, slotsLeft, slotsBytes, searchNumber, SearchLeft, searchLeft, searchBytes}
 use Rattle.toemsakun.proofs.tk_event as tk-event
 use Rattle.toemsakun.proofs.tk_event.Reads as tk-event-reads
 use Rattle.toemsakun.proofs.tk_search as tk-search
 use Rattle.toemsakun.proofs.tk_search.Reads as tk-search-reads
-use Rattle.histories.specs.Calls.{event-call, search-call}
+use Rattle.toemsakun.proofs.tk_slots as tk-slots
+use Rattle.toemsakun.proofs.tk_slots.Reads as tk-slots-reads
+use Rattle.histories.specs.Slots.{slotsOn, leftByRun}
+use Rattle.histories.specs.Calls.{event-call, search-call, slots-call}
 use Rattle.histories.specs.Below.{Codes}
 use Rattle.histories.specs.Histories.{codesOf}
 use Rattle.histories.specs.Standing.{lineFrom}
 use Rattle.agreement.specs.Slice.{ofLent, codes-lent}
-use Rattle.agreement.specs.InC.{LentBytes, unpackedLent, searchIn, leavesBytes, leaves-bytes, searched-after}
+use Rattle.agreement.specs.InC.{LentBytes, unpackedLent, searchIn, slotsIn, leavesBytes, leaves-bytes, searched-after}
 use Rattle.agreement.specs.AfterTroubleC.{StandsAsBytes, bytes-fit}
 use Rattle.calls.specs.Told.{lentAs}
 use Rattle.calls.specs.Form.{Meets, Form, Well}
@@ -97,6 +101,47 @@ search-is list x a y q p =
       is-table = ap (λ (b : LentBytes). isTable (b .table)) k ∙ l .1;
     }
 
+-- what `tk_slots` tells: how many slots it put on the line, or minus a refusal number; and the answers
+pub record ToldSlotsInC : Type 0 where
+  pub answer : ℤ
+  pub answers : List ℕ
+
+abbrev pub toldSlots : RunOutcome → ToldSlotsInC
+toldSlots o = record { answer = slotsNumber (o .answer); answers = o .answers }
+
+-- `tk_slots`, likewise
+pub record PermitsSlots (n : ℕ) (bits out : List ℕ) (x : LentBytes) (a : ToldSlotsInC) (y : LentBytes) : Type 2 where
+  pub κs : Lfts 5
+  pub table : RefT (List ℕ)
+  pub host : RefT (List ℕ)
+  pub answers : RefT (List ℕ)
+  pub images : RefT (List ℕ)
+  pub pads : RefT (List ℕ)
+  pub from-table : table .now ≡ x .table
+  pub from-host : host .now ≡ bits
+  pub from-answers : answers .now ≡ out
+  pub from-images : images .now ≡ x .images
+  pub from-pads : pads .now ≡ x .pads
+  pub permits : tk-slots-reads.Learnt κs (table, (host, (answers, (n, (images, (pads, tt)))))) (a .answer)
+      (atExit tk-slots.ended κs (table, (host, (answers, (n, (images, (pads, tt)))))) (y .table, (tt, (a .answers, (tt, (y .images, (y .pads, tt)))))))
+
+pub slots-bytes : (n : ℕ) (bits out : List ℕ) (x : LentBytes) (a : ToldSlotsInC) (y : LentBytes) → PermitsSlots n bits out x a y
+    → slotsLeft (a .answer) (a .answers) (y .table) (y .images) (y .pads) ≡ slotsIn n bits out x
+slots-bytes n bits out x a y p = p .permits ∙ λ i. slotsBytes (p .from-table i) (p .from-host i) (p .from-answers i) n (p .from-images i) (p .from-pads i)
+
+pub slots-is : (n : ℕ) (bits out : List ℕ) (x : LentBytes) (a : ToldSlotsInC) (y : LentBytes) → isTable (x .table) ≡ true → PermitsSlots n bits out x a y
+    → Meets a (toldSlots (slotsOn n bits out (ofLent (unpackedLent x)))) (ofLent (unpackedLent y)) (leftByRun (slotsOn n bits out (ofLent (unpackedLent x)))) (isTable (y .table) ≡ true)
+unfolding slotsBytes
+slots-is n bits out x a y q p =
+    let o = slots-bytes n bits out x a y p in
+    let l = leaves-bytes (slots-call n bits out) x q in
+    let k : y ≡ leavesBytes (slots-call n bits out) x = ap (λ (z : SlotsLeft). record { table = z .table; images = z .images; pads = z .pads }) o in
+    record {
+      tells = ap (λ (z : SlotsLeft). record { answer = z .answer; answers = z .answers }) (o ∙ pick-true (isTable (x .table)) _ _ q);
+      leaves = ap (λ (b : LentBytes). ofLent (unpackedLent b)) k ∙ l .0;
+      is-table = ap (λ (b : LentBytes). isTable (b .table)) k ∙ l .1;
+    }
+
 abbrev pub inC : Form
 inC = record {
   Loan = LentBytes;
@@ -106,10 +151,14 @@ inC = record {
   answer = answerNumber;
   Listing = ToldInC;
   listing = told;
+  Slots = ToldSlotsInC;
+  slots = toldSlots;
   PermitsEvent = PermitsEvent;
   PermitsSearch = PermitsSearch;
+  PermitsSlots = PermitsSlots;
   event-is = event-is;
   search-is = search-is;
+  slots-is = slots-is;
 }
 
 -- numbers below 256, as every `uint8_t` is, that neither 8 nor 5 refuses are such a table; its codes have 64 bits. That these are the bytes to
@@ -138,6 +187,24 @@ some-search κs list x =
       slots = lentAs 0;
       from-table = refl;
       from-places = refl;
+      from-images = refl;
+      from-pads = refl;
+      permits = refl;
+    }
+
+pub some-slots : Lfts 5 → (n : ℕ) (bits out : List ℕ) (x : LentBytes) → let o = slotsIn n bits out x in
+    PermitsSlots n bits out x (record { answer = o .answer; answers = o .answers }) (leavesBytes (slots-call n bits out) x)
+some-slots κs n bits out x =
+    record {
+      κs = κs;
+      table = lentAs (x .table);
+      host = lentAs bits;
+      answers = lentAs out;
+      images = lentAs (x .images);
+      pads = lentAs (x .pads);
+      from-table = refl;
+      from-host = refl;
+      from-answers = refl;
       from-images = refl;
       from-pads = refl;
       permits = refl;

@@ -4,6 +4,7 @@ pub mod Plain
 pub mod Slice
 pub mod InC
 pub mod Events
+pub mod Runs
 pub mod Refused
 pub mod Wired
 pub mod Listed

@@ -1,4 +1,5 @@
--- The plain form: a table by value. A call is one of `line::take_event` or of `search::search_line`, with an outcome that its own contract permits.
+-- The plain form: a table by value. A call is one of `line::take_event`, of `search::search_line` or of `line::take_slots`, with an outcome that its
+-- own contract permits.
 use Prim.Native.Nat.{ℕ}
 use mathlib.Core.Bool.{Bool, true, false}
 use mathlib.Core.List.{List}
@@ -9,9 +10,12 @@ use denote.Triple.Clauses.{atExit}
 use Rattle.base.specs.Pick.{pick}
 use Rattle.chip.specs.declared.Chip.{Chip}
 use Rattle.line.specs.Event.{Answered, answered, verdictOf, Outcome, outcome, planOf, doneOf, eventOf}
+use Rattle.line.specs.Slots.{slotted, runOutcome, runVerdict, runBy, slotsOf}
 use Rattle.line.specs.declared.Event.{Event}
 use Rattle.line.specs.declared.Answer.{Answer}
 use Rattle.line.specs.declared.Answer.the-variants as answer
+use Rattle.line.specs.declared.SlotsAnswer.{SlotsAnswer}
+use Rattle.line.specs.declared.SlotsAnswer.the-variants as slots
 use Rattle.line.specs.declared.Plan.{Plan}
 use Rattle.line.specs.declared.Plan.the-variants as plan
 use Rattle.line.specs.declared.Verdict.{Verdict}
@@ -19,13 +23,16 @@ use Rattle.line.specs.declared.Verdict.the-variants as verdict
 use Rattle.line.specs.declared.Table.{Table}
 use Rattle.line.proofs.take_event as take-event
 use Rattle.line.proofs.take_event.Reads as take-event-reads
+use Rattle.line.proofs.take_slots as take-slots
+use Rattle.line.proofs.take_slots.Reads as take-slots-reads
 use Rattle.search.proofs.search_line as search-line
 use Rattle.search.proofs.search_line.Reads as search-line-reads
 use Rattle.search.specs.Search.{Attached, attached, leftBy, saysOf, leavesOf, searched, Search, outcome as found, completeOr4, searchBy, searchOf}
 use Rattle.search.specs.declared.SearchAnswer.{SearchAnswer}
 use Rattle.search.specs.declared.SearchAnswer.the-variants as search
 use Rattle.search.specs.declared.Found.{Found}
-use Rattle.calls.specs.Told.{Told, told, lentAs}
+use Rattle.histories.specs.Slots.{slotsOn, leftByRun}
+use Rattle.calls.specs.Told.{Told, told, ToldSlots, toldSlots, lentAs}
 use Rattle.calls.specs.Form.{Meets, Form}
 
 -- a caller's table, by value
@@ -77,6 +84,30 @@ search-is list l a k p =
     ∙ λ i. searchOf (p .from-places i) (attached (l .count) (l .lent .chips) (p .from-images i) (p .from-pads i)) in
     record { tells = ap told o; leaves = ap (λ (x : Search). x .line) o; is-table = tt }
 
+-- `line::take_slots`, likewise
+pub record PermitsSlots (n : ℕ) (bits out : List ℕ) (l : Attached) (a : ToldSlots) (k : Attached) : Type 2 where
+  pub κs : Lfts 4
+  pub host : RefT (List ℕ)
+  pub answers : RefT (List ℕ)
+  pub images : RefT (List ℕ)
+  pub pads : RefT (List ℕ)
+  pub from-host : host .now ≡ bits
+  pub from-answers : answers .now ≡ out
+  pub from-images : images .now ≡ l .lent .images
+  pub from-pads : pads .now ≡ l .lent .pads
+  pub answer : SlotsAnswer
+  pub permits : take-slots-reads.Learnt κs (tableOf l, (host, (n, (answers, (images, (pads, tt)))))) (record { answer = answer; table = tableOf k })
+      (atExit take-slots.ended κs (tableOf l, (host, (n, (answers, (images, (pads, tt)))))) (tt, (tt, (tt, (a .answers, (k .lent .images, (k .lent .pads, tt)))))))
+  pub tells : a .answer ≡ slotted answer
+
+pub slots-is : (n : ℕ) (bits out : List ℕ) (l : Attached) (a : ToldSlots) (k : Attached) → PermitsSlots n bits out l a k
+    → Meets a (toldSlots (slotsOn n bits out l)) k (leftByRun (slotsOn n bits out l)) Unit
+slots-is n bits out l a k p =
+    let o : runOutcome (a .answer) (a .answers) (k .count) (k .lent) ≡ slotsOn n bits out l
+    = (λ i. runOutcome (p .tells i) (a .answers) (k .count) (k .lent)) ∙ p .permits
+    ∙ λ i. slotsOf (l .count) (l .lent .chips) n (p .from-host i) (p .from-answers i) (p .from-images i) (p .from-pads i) in
+    record { tells = ap toldSlots o; leaves = ap leftByRun o; is-table = tt }
+
 abbrev pub plain : Form
 plain = record {
   Loan = Attached;
@@ -86,13 +117,17 @@ plain = record {
   answer = λ a. a;
   Listing = Told;
   listing = told;
+  Slots = ToldSlots;
+  slots = toldSlots;
   PermitsEvent = PermitsEvent;
   PermitsSearch = PermitsSearch;
+  PermitsSlots = PermitsSlots;
   event-is = λ e l a k i p. event-is e l a k p;
   search-is = λ list l a k i p. search-is list l a k p;
+  slots-is = λ n bits out l a k i p. slots-is n bits out l a k p;
 }
 
--- the answer that an event comes to, and the one of a search
+-- the answer that an event comes to, and those of a search and of a run
 answer-for : (p : Plan) (n : ℕ) (cs : List Chip) (ms ss : List ℕ) → (a : Answer) × (answered a ≡ doneOf p n cs ms ss .answer)
 answer-for (plan.Refused r) n cs ms ss = (answer.Refused r, refl)
 answer-for (plan.Slot b) n cs ms ss = (answer.Bit _, refl)
@@ -108,6 +143,10 @@ complete-for false = (search.TooFewPlaces, refl)
 search-for : (v : Verdict) (list : List ℕ) (l : Attached) → (a : SearchAnswer) × (searched a ≡ searchBy v list l .answer)
 search-for verdict.Well list l = complete-for _
 search-for (verdict.Refused r) list l = (search.Refused r, refl)
+
+slots-for : (v : Verdict) (n : ℕ) (cs : List Chip) (m : ℕ) (bits out ms ss : List ℕ) → (a : SlotsAnswer) × (slotted a ≡ runBy v n cs m bits out ms ss .answer)
+slots-for verdict.Well n cs m bits out ms ss = (slots.Put _, refl)
+slots-for (verdict.Refused r) n cs m bits out ms ss = (slots.Refused r, refl)
 
 -- THEOREM: every call has an outcome that its contract permits, whatever is lent and however long it lives
 pub some-event : Lfts 2 → (e : Event) (l : Attached) → PermitsEvent e l (saysOf e l) (leavesOf e l)
@@ -146,4 +185,24 @@ some-search κs list l =
       number = refl;
       resets = refl;
       slots = refl;
+    }
+
+pub some-slots : Lfts 4 → (n : ℕ) (bits out : List ℕ) (l : Attached) → PermitsSlots n bits out l (toldSlots (slotsOn n bits out l)) (leftByRun (slotsOn n bits out l))
+unfolding slotsOf
+some-slots κs n bits out l =
+    let o = slotsOn n bits out l in
+    let q = slots-for (runVerdict (l .count) (l .lent .chips) n bits out (l .lent .images) (l .lent .pads)) (l .count) (l .lent .chips) n bits out (l .lent .images) (l .lent .pads) in
+    record {
+      κs = κs;
+      host = lentAs bits;
+      answers = lentAs out;
+      images = lentAs (l .lent .images);
+      pads = lentAs (l .lent .pads);
+      from-host = refl;
+      from-answers = refl;
+      from-images = refl;
+      from-pads = refl;
+      answer = q .0;
+      permits = λ j. runOutcome (q .1 j) (o .answers) (o .count) (o .lent);
+      tells = sym (q .1);
     }

@@ -1,4 +1,5 @@
--- Demand 1, "a refused call changes no byte": of an event, and of a search refused by 8 or 5 ("both without an event, counts 0"), in each form.
+-- Demand 1, "a refused call changes no byte": of an event, of a search refused by 8 or 5 ("both without an event, counts 0"), and of a run of slots,
+-- in each form that has it.
 -- From C it holds of any bytes, a table or not. What refusal 4 tells and leaves is in Listed; what a refused card leaves, in RefusedCard.
 use Prim.Native.Nat.{ℕ, zero, suc}
 use native.Mathlib.Omega.{arith}
@@ -9,15 +10,18 @@ use lib.IntN.{ℤ, pos, negsuc}
 use Rattle.base.specs.Pick.{pick-false}
 use Rattle.line.specs.Event.{Answered, bit, refused}
 use Rattle.line.specs.Layout.{Lent}
+use Rattle.line.specs.Slots.{Slotted, put, refused as refusedRun, runOutcome}
 use Rattle.line.specs.declared.Event.{Event}
 use Rattle.search.specs.Search.{Searched, complete, refused as refusedBy, Attached, leftBy, saysOf, leavesOf, Search, outcome, searchOf}
 use Rattle.packed.specs.Packed.{isTable}
-use Rattle.toemsakun.specs.Library.{answerNumber, EventLeft, eventBytes, searchNumber, searchBytes}
+use Rattle.toemsakun.specs.Library.{answerNumber, EventLeft, eventBytes, slotsNumber, slotsBytes, searchNumber, searchBytes}
 use Rattle.refusals.specs.Event.{refused-leaves}
 use Rattle.refusals.specs.Search.{refused-eventless}
+use Rattle.refusals.specs.Slots.{refused-leaves as refused-run}
+use Rattle.histories.specs.Slots.{slotsOn, leftByRun}
 use Rattle.agreement.specs.Slice.{ofLent}
 use Rattle.agreement.specs.InC.{LentBytes, unpackedLent, packedLent, not-below, packed-again}
-use Rattle.calls.specs.Told.{Told, told}
+use Rattle.calls.specs.Told.{Told, told, ToldSlots, toldSlots}
 use Rattle.calls.specs.Plain as plain
 use Rattle.calls.specs.Slice as slice
 use Rattle.calls.specs.InC as inC
@@ -50,6 +54,15 @@ refused-search list l r a k n h p =
     let m = plain.search-is list l a k p in
     let g = sym (ap (λ (t : Told). t .answer) (m .tells)) ∙ h in
     (m .tells ∙ eventless-tells list l r n g, m .leaves ∙ eventless-stays list l r n g)
+
+-- THEOREM: so does `line::take_slots`, refused, and the answers
+pub refused-slots : (n : ℕ) (bits out : List ℕ) (l : Attached) (r : ℕ) (a : ToldSlots) (k : Attached) → a .answer ≡ refusedRun r → plain.PermitsSlots n bits out l a k
+    → (a ≡ record { answer = refusedRun r; answers = out }) × (k ≡ l)
+refused-slots n bits out l r a k h p =
+    let m = plain.slots-is n bits out l a k p in
+    let g = sym (ap (λ (t : ToldSlots). t .answer) (m .tells)) ∙ h in
+    let o = refused-run (l .count) (l .lent .chips) n bits out (l .lent .images) (l .lent .pads) r g in
+    (m .tells ∙ ap toldSlots o, m .leaves ∙ ap leftByRun o)
 
 -- THEOREM: so do `lent::take_event` and `lent::search_line`
 pub refused-event-lent : (e : Event) (x : Lent) (r : ℕ) (y : Lent) → slice.PermitsEvent e x (refused r) y → y ≡ x
@@ -113,5 +126,33 @@ refused-search-c list x n a y k h p = by (isTable (x .table)) refl
     by false q =
         let o = inC.search-bytes list x a y p ∙ pick-false (isTable (x .table)) _ _ q in (
           λ j. record { answer = h j; list = o j .list; resets = o j .resets; slots = o j .slots },
+          λ j. record { table = o j .table; images = o j .images; pads = o j .pads },
+        )
+
+-- THEOREM: so does `tk_slots` that answers a number below 0, and the answers
+pub refused-slots-c : (m : ℕ) (bits out : List ℕ) (x : LentBytes) (n : ℕ) (a : inC.ToldSlotsInC) (y : LentBytes) → a .answer ≡ negsuc n → inC.PermitsSlots m bits out x a y
+    → (a ≡ record { answer = negsuc n; answers = out }) × (y ≡ x)
+unfolding slotsBytes
+refused-slots-c m bits out x n a y h p = by (isTable (x .table)) refl
+  where
+    l : Attached
+    l = ofLent (unpackedLent x)
+
+    -- the table refuses it by a number
+    by-number : (s : Slotted) → slotsOn m bits out l .answer ≡ s → slotsNumber s ≡ negsuc n → slotsOn m bits out l ≡ runOutcome (refusedRun (suc n)) out (l .count) (l .lent)
+    by-number (put k) g e = absurd (not-below _ n e)
+    by-number (refusedRun zero) g e = absurd (not-below _ n e)
+    by-number (refusedRun (suc r)) g e =
+        let d : suc r ≡ suc n = ap depth e in
+        refused-run (l .count) (l .lent .chips) m bits out (l .lent .images) (l .lent .pads) (suc n) (g ∙ ap (λ (k : ℕ). refusedRun k) d)
+
+    by : (t : Bool) → isTable (x .table) ≡ t → (a ≡ record { answer = negsuc n; answers = out }) × (y ≡ x)
+    by true q =
+        let k = inC.slots-is m bits out x a y q p in
+        let o = by-number (slotsOn m bits out l .answer) refl (sym (ap (λ (t : inC.ToldSlotsInC). t .answer) (k .tells)) ∙ h) in
+        (k .tells ∙ ap inC.toldSlots o, same-bytes x y q (k .is-table) (k .leaves ∙ ap leftByRun o))
+    by false q =
+        let o = inC.slots-bytes m bits out x a y p ∙ pick-false (isTable (x .table)) _ _ q in (
+          λ j. record { answer = h j; answers = o j .answers },
           λ j. record { table = o j .table; images = o j .images; pads = o j .pads },
         )

@@ -25,7 +25,7 @@ use Rattle.search.specs.Search.{Attached, saysOf, leavesOf, searchOf}
 use Rattle.histories.specs.Histories.{noWhole, at, answerOf, afterOf, run}
 use Rattle.histories.specs.Standing.{Stands, lineFrom, says-is, line-after, stands-after}
 use Rattle.histories.specs.Joined.{run-joined}
-use Rattle.histories.specs.Calls.{eventsOf, Call, event-call, search-call, leavesCall, eventsOfCall, eventsOfCalls, call-runs, stands-calls}
+use Rattle.histories.specs.Calls.{eventsOf, Call, event-call, search-call, slots-call, leavesCall, eventsOfCall, eventsOfCalls, call-runs, stands-calls}
 use Rattle.histories.specs.Sent.{bitsFrom}
 use Rattle.histories.specs.Fed.{fed}
 use Rattle.histories.specs.AtSlots.{AtSlot}
@@ -170,11 +170,12 @@ module _ (i : ℕ) where
   pub search-copies-nothing : (places : ℕ) (l : Attached) → Stands l → NoCopy i (eventsOf (searchHost places) l) (lineFrom l)
   search-copies-nothing places l s = idles-table (searchHost places) l s (passes-idle (capped places) 0 [] (lineFrom l))
 
--- chip i carries out no copy in some calls: in none of the events among them, since no search carries one out
+-- chip i carries out no copy in some calls: in none of the events and runs of slots among them, since no search carries one out
 abbrev pub NoCopyIn : ℕ → List Call → Attached → Type 0
 NoCopyIn i [] l = Unit
 NoCopyIn i (event-call e ∷ cs) l = NoCopy i (e ∷ []) (lineFrom l) × NoCopyIn i cs (leavesOf e l)
 NoCopyIn i (search-call list ∷ cs) l = NoCopyIn i cs (searchOf list l .line)
+NoCopyIn i (slots-call n bits out ∷ cs) l = NoCopy i (eventsOfCall (slots-call n bits out) l) (lineFrom l) × NoCopyIn i cs (leavesCall (slots-call n bits out) l)
 
 -- one history after another
 no-copy-append : (i : ℕ) (xs ys : List Event) (L : List Whole) → NoCopy i xs L → NoCopy i ys (run xs L) → NoCopy i (xs ++ ys) L
@@ -196,3 +197,4 @@ pub no-copy-in : (i : ℕ) (cs : List Call) (l : Attached) → Stands l → NoCo
 no-copy-in i [] l s n = tt
 no-copy-in i (event-call e ∷ cs) l s (p, r) = call-idle i (event-call e) cs l s p (λ t. no-copy-in i cs (leavesOf e l) t r)
 no-copy-in i (search-call list ∷ cs) l s n = call-idle i (search-call list) cs l s (search-copies-nothing i (length list) l s) (λ t. no-copy-in i cs (searchOf list l .line) t n)
+no-copy-in i (slots-call n bits out ∷ cs) l s (p, r) = call-idle i (slots-call n bits out) cs l s p (λ t. no-copy-in i cs (leavesCall (slots-call n bits out) l) t r)

@@ -24,7 +24,7 @@ use Rattle.lent.proofs.search_line as search-line
 use Rattle.lent.specs.declared.Told.{Told as Returned}
 use Rattle.search.specs.Search.{attached, leftBy, saysOf, leavesOf, searched, Search, outcome as found, searchOf}
 use Rattle.agreement.specs.Slice.{ofLent}
-use Rattle.calls.specs.Told.{Told, told}
+use Rattle.calls.specs.Told.{Told, told, ToldSlots, toldSlots, NoCall}
 use Rattle.calls.specs.Form.{Meets, Form}
 
 -- what a promise speaks over: memory, and the routines that run in it
@@ -94,6 +94,7 @@ search-is list x a y p =
     ∙ λ i. searchOf (p .from-places i) (attached (length (p .from-chips i)) (p .from-chips i) (p .from-images i) (p .from-pads i)) in
     record { tells = ap told o; leaves = ap (λ (z : Search). z .line) o; is-table = tt }
 
+-- the lent form has no function for a run of slots: nothing is permitted as such a call, so that there is none among calls on a slice
 abbrev pub slice : Form
 slice = record {
   Loan = Lent;
@@ -103,8 +104,12 @@ slice = record {
   answer = λ a. a;
   Listing = Told;
   listing = told;
+  Slots = ToldSlots;
+  slots = toldSlots;
   PermitsEvent = PermitsEvent;
   PermitsSearch = PermitsSearch;
+  PermitsSlots = λ n bits out x a y. NoCall;
   event-is = λ e x a y i p. event-is e x a y p;
   search-is = λ list x a y i p. search-is list x a y p;
+  slots-is = λ n bits out x a y i p. absurd (p .none);
 }

@@ -1,11 +1,15 @@
--- What an event answers is found again from 01's number or bus bit for it: two answers with the same are the same.
+-- What an event answers is found again from 01's number or bus bit for it, and what a run of slots answers from 01's number or how many
+-- slots it put: two answers with the same are the same.
 use Prim.Native.Nat.{ℕ}
 use mathlib.Core.Path.{_≡_, refl, _∙_, ap, sym}
 use lib.Dec.{eqb}
 use Rattle.base.specs.Pick.{pick}
 use Rattle.line.specs.Event.{Answered, bit, refused, numberOf, answered}
+use Rattle.line.specs.Slots.{Slotted, put, refused as refusedRun, slotted}
 use Rattle.line.specs.declared.Answer.{Answer}
 use Rattle.line.specs.declared.Answer.the-variants as answer
+use Rattle.line.specs.declared.SlotsAnswer.{SlotsAnswer}
+use Rattle.line.specs.declared.SlotsAnswer.the-variants as run
 use Rattle.line.specs.declared.Refusal.{Refusal}
 use Rattle.line.specs.declared.Refusal.the-variants.{OutOfRange, WrongSize, NoSuchEvent, NoSuchOutside}
 
@@ -32,3 +36,16 @@ answer-from (answer.Refused r) = ap (λ (x : Refusal). answer.Refused x) (refusa
 
 pub answered-once : (a b : Answer) → answered a ≡ answered b → a ≡ b
 answered-once a b e = sym (answer-from a) ∙ ap answerFrom e ∙ answer-from b
+
+-- the answer of a run, likewise
+runFrom : Slotted → SlotsAnswer
+runFrom (put n) = run.Put n
+runFrom (refusedRun r) = run.Refused (refusalFrom r)
+
+run-from : (a : SlotsAnswer) → runFrom (slotted a) ≡ a
+unfolding runFrom
+run-from (run.Put n) = refl
+run-from (run.Refused r) = ap (λ (x : Refusal). run.Refused x) (refusal-from r)
+
+pub slotted-once : (a b : SlotsAnswer) → slotted a ≡ slotted b → a ≡ b
+slotted-once a b e = sym (run-from a) ∙ ap runFrom e ∙ run-from b

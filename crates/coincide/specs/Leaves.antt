@@ -32,6 +32,12 @@ base-put-at κs a x y v w p q = (refl, λ i. ((p ∙ sym q) i, w .1))
 pub base-fill : Settled base.fill.ended base.fill.Reads.Learnt
 base-fill κs a x y v w p q = (refl, λ i. ((p ∙ sym q) i, w .1))
 
+pub base-part-byte : Settled base.part_byte.ended base.part_byte.Reads.Learnt
+base-part-byte κs a x y v w p q = (p ∙ sym q, refl)
+
+pub base-put-in-part : Settled base.put_in_part.ended base.put_in_part.Reads.Learnt
+base-put-in-part κs a x y v w p q = (refl, λ i. ((p ∙ sym q) i, w .1))
+
 -- crc
 
 pub crc-bit8 : Settled crc.bit8.ended crc.bit8.Reads.Learnt

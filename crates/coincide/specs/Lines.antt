@@ -117,6 +117,12 @@ line-carrier-survey-chip κs a x y v w p q = (p ∙ sym q, refl)
 pub line-carrier-verdict-by : Settled line.carrier.verdict_by.ended line.carrier.verdict_by.Reads.Learnt
 line-carrier-verdict-by κs a x y v w p q = (p ∙ sym q, refl)
 
+pub line-carrier-run-fits : Settled line.carrier.run_fits.ended line.carrier.run_fits.Reads.Learnt
+line-carrier-run-fits κs a x y v w p q = (p ∙ sym q, refl)
+
+pub line-carrier-run-verdict-by : Settled line.carrier.run_verdict_by.ended line.carrier.run_verdict_by.Reads.Learnt
+line-carrier-run-verdict-by κs a x y v w p q = (p ∙ sym q, refl)
+
 pub line-carrier-outside-fits : Settled line.carrier.outside_fits.ended line.carrier.outside_fits.Reads.Learnt
 line-carrier-outside-fits κs a x y v w p q = (p ∙ sym q, refl)
 
@@ -149,6 +155,12 @@ line-carrier-outside-if κs a x y v w p q = (p ∙ sym q, refl)
 
 pub line-carrier-answer-of : Settled line.carrier.answer_of.ended line.carrier.answer_of.Reads.Learnt
 line-carrier-answer-of κs a x y v w p q = (p ∙ sym q, refl)
+
+pub line-carrier-next-count : Settled line.carrier.next_count.ended line.carrier.next_count.Reads.Learnt
+line-carrier-next-count κs a x y v w p q = (p ∙ sym q, refl)
+
+pub line-carrier-with-bit : Settled line.carrier.with_bit.ended line.carrier.with_bit.Reads.Learnt
+line-carrier-with-bit κs a x y v w p q = (p ∙ sym q, refl)
 
 pub line-bit-at : Settled line.bit_at.ended line.bit_at.Reads.Learnt
 line-bit-at κs a x y v w p q = (p ∙ sym q, refl)

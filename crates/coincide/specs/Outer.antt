@@ -26,6 +26,15 @@ lent-record-set-outside M 𝓤 H A mem run κs a g x y v w = two-facts 𝓤 _ _ 
 
 -- packed
 
+pub packed-kind-of : Settled packed.kind_of.ended packed.kind_of.Reads.Learnt
+packed-kind-of κs a x y v w p q = (p ∙ sym q, refl)
+
+pub packed-waits : Settled packed.waits.ended packed.waits.Reads.Learnt
+packed-waits κs a x y v w p q = (p ∙ sym q, refl)
+
+pub packed-stands : Settled packed.stands.ended packed.stands.Reads.Learnt
+packed-stands κs a x y v w p q = (p ∙ sym q, refl)
+
 pub packed-pack : Settled packed.pack.ended packed.pack.Reads.Learnt
 packed-pack κs a x y v w p q = (p ∙ sym q, refl)
 
@@ -37,6 +46,9 @@ packed-is-packed κs a x y v w p q = (p ∙ sym q, refl)
 
 pub packed-put-record : Settled packed.put_record.ended packed.put_record.Reads.Learnt
 packed-put-record κs a x y v w p q = (refl, λ i. ((p ∙ sym q) i, w .1))
+
+pub packed-sends : Settled packed.sends.ended packed.sends.Reads.Learnt
+packed-sends κs a x y v w p q = (p ∙ sym q, refl)
 
 pub packed-table-of : Settled packed.table_of.ended packed.table_of.Reads.Learnt
 packed-table-of κs a x y v w p q = (p ∙ sym q, refl)

@@ -1,16 +1,18 @@
 -- The functions that hand back or change several things at once, which one equation of their contract gives: two outcomes that the contract
 -- permits are the same. With them the functions whose answer is an enum, which a contract names by its number and values.
-use mathlib.Core.Path.{_≡_, refl, _∙_, ap, sym}
+use mathlib.Core.Path.{refl, _∙_, ap, sym}
 use Rattle.card.specs.Card.{SetUp}
 use Rattle.line.specs.Event.{Outcome}
+use Rattle.line.specs.Slots.{RunOutcome}
 use Rattle.search.specs.Search.{Search}
 use Rattle.memory.proofs as memory
 use Rattle.chip.proofs as chip
 use Rattle.line.proofs as line
 use Rattle.card.proofs as card
 use Rattle.search.proofs as search
+use Rattle.packed.proofs as packed
 use Rattle.toemsakun.proofs as toemsakun
-use Rattle.coincide.specs.Answered.{answered-once}
+use Rattle.coincide.specs.Answered.{answered-once, slotted-once}
 use Rattle.coincide.specs.Carded.{carded-once}
 use Rattle.coincide.specs.Searched.{searched-once}
 use Rattle.coincide.specs.Settled.{Settled}
@@ -46,6 +48,15 @@ line-take-event κs a x y v w p q =
     let s = answered-once (x .answer) (y .answer) (ap (λ (o : Outcome). o .answer) r) in (
       λ i. record { answer = s i; table = record { n = r i .count; chips = r i .lent .chips } },
       λ i. (tt, (tt, (r i .lent .images, (r i .lent .pads, tt)))),
+    )
+
+-- answer and table; answers, images and scratchpads
+pub line-take-slots : Settled line.take_slots.ended line.take_slots.Reads.Learnt
+line-take-slots κs a x y v w p q =
+    let r = p ∙ sym q in
+    let s = slotted-once (x .answer) (y .answer) (ap (λ (o : RunOutcome). o .answer) r) in (
+      λ i. record { answer = s i; table = record { n = r i .count; chips = r i .lent .chips } },
+      λ i. (tt, (tt, (tt, (r i .answers, (r i .lent .images, (r i .lent .pads, tt)))))),
     )
 
 -- answer and table
@@ -86,6 +97,10 @@ search-search-line κs a x y v w p q =
       λ i. (tt, (r i .list, (r i .line .lent .images, (r i .line .lent .pads, tt)))),
     )
 
+-- record, images and scratchpads
+pub packed-takes : Settled packed.takes.ended packed.takes.Reads.Learnt
+packed-takes κs a x y v w p q = let r = p ∙ sym q in (refl, λ i. (r i .bytes, (tt, (tt, (tt, (r i .images, (r i .pads, tt)))))))
+
 -- answer, table and offset
 pub toemsakun-tk-card : Settled toemsakun.tk_card.ended toemsakun.tk_card.Reads.Learnt
 toemsakun-tk-card κs a x y v w p q = let r = p ∙ sym q in (λ i. r i .answer, λ i. (tt, (r i .table, (r i .offset, tt))))
@@ -94,6 +109,11 @@ toemsakun-tk-card κs a x y v w p q = let r = p ∙ sym q in (λ i. r i .answer,
 pub toemsakun-tk-event : Settled toemsakun.tk_event.ended toemsakun.tk_event.Reads.Learnt
 toemsakun-tk-event κs a x y v w p q =
     let r = p ∙ sym q in (λ i. r i .answer, λ i. (r i .table, (tt, (tt, (tt, (r i .images, (r i .pads, tt)))))))
+
+-- answer, table, answers, images and scratchpads
+pub toemsakun-tk-slots : Settled toemsakun.tk_slots.ended toemsakun.tk_slots.Reads.Learnt
+toemsakun-tk-slots κs a x y v w p q =
+    let r = p ∙ sym q in (λ i. r i .answer, λ i. (r i .table, (tt, (r i .answers, (tt, (r i .images, (r i .pads, tt)))))))
 
 -- answer, table, list, images, scratchpads and counts
 pub toemsakun-tk-search : Settled toemsakun.tk_search.ended toemsakun.tk_search.Reads.Learnt

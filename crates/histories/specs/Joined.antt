@@ -13,8 +13,9 @@ use Rattle.search.specs.Host.{Host, done, ask, Played, played, more, resetsOf, 
 use Rattle.line.specs.Refusals.{well-judged}
 use Rattle.line.specs.declared.Verdict.{Verdict}
 use Rattle.search.specs.Search.{Attached, saysOf, leavesOf, wire, fromPlayed, searchBy, searchOf}
+use Rattle.line.specs.Fitted.{length-chips}
 use Rattle.histories.specs.Histories.{answerOf, afterOf, run, answers, lineWire}
-use Rattle.histories.specs.Standing.{Stands, lineFrom, withLine, line-length, put-back, says-is, leaves-is, stands-after, line-after, after-length, length-chips}
+use Rattle.histories.specs.Standing.{Stands, lineFrom, withLine, line-length, put-back, says-is, leaves-is, stands-after, line-after, after-length}
 
 -- a table in which a line was replaced twice holds the second
 again : (l : Attached) (L K : List Whole) → length L ≡ l .count → withLine (withLine l L) K ≡ withLine l K
@@ -55,6 +56,16 @@ runOn (e ∷ es) l = runOn es (leavesOf e l)
 abbrev pub answersOn : List Event → Attached → List Answered
 answersOn [] l = []
 answersOn (e ∷ es) l = saysOf e l ∷ answersOn es (leavesOf e l)
+
+-- it leaves the table with the line that the history of the line leaves
+pub run-left : (es : List Event) (l : Attached) → Stands l → runOn es l ≡ withLine l (run es (lineFrom l))
+run-left [] l s = sym (put-back l s)
+run-left (e ∷ es) l s =
+    let M = run es (afterOf e (lineFrom l)) in
+    run-left es (leavesOf e l) (stands-after l e s)
+    ∙ ap (λ (K : List Whole). withLine (leavesOf e l) (run es K)) (line-after l e s)
+    ∙ ap (λ (k : Attached). withLine k M) (leaves-is l s e)
+    ∙ again l (afterOf e (lineFrom l)) M (after-length e (lineFrom l) ∙ line-length l s)
 
 -- it is the history of the line of whole chips: so each theorem about lines speaks of tables, images and scratchpads
 pub run-joined : (es : List Event) (l : Attached) → Stands l → lineFrom (runOn es l) ≡ run es (lineFrom l)

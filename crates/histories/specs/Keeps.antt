@@ -26,6 +26,7 @@ use Rattle.chip.specs.declared.Chip.{Chip}
 use Rattle.chip.specs.declared.Level.{Level}
 use Rattle.chip.specs.declared.Level.the-variants.{Waiting, Rom, FunctionCommand, Memory, Pio}
 use Rattle.line.specs.Line.{actOf}
+use Rattle.line.specs.Named.{Named, act-named}
 use Rattle.line.specs.Sizes.{act-sized}
 use Rattle.line.specs.declared.Act.{Act}
 use Rattle.line.specs.declared.Act.the-variants.{Take, Reset, PowerOn}
@@ -120,25 +121,6 @@ outside-in-range l w k h =
           (both-true′ _ _ (both-holds (leb (w .chip .switch .latches) 3) (leb (w .chip .switch .outside) 3) (h .pins) .0) (le-leb l 3 k)) (h .pins);
       place = h .place;
     }
-
--- code and kind stay
-abbrev pub Named : Whole → Whole → Type 0
-Named w u = (u .chip .code ≡ w .chip .code) × (u .chip .kind ≡ w .chip .kind)
-
-level-named : (w : Whole) (v : Bool) (l : Level) → Named w (levelTakes w v l)
-unfolding romSlot functionSlot functionIn memorySlot switchSlot
-level-named w v Waiting = (refl, refl)
-level-named w v (Rom s) = (refl, refl)
-level-named w v (FunctionCommand count bits) = pick-both (λ (t : ChipAfter). (t .chip .code ≡ w .chip .code) × (t .chip .kind ≡ w .chip .kind)) _ _ _ (refl, refl)
-    (pick-both (λ (t : ChipAfter). (t .chip .code ≡ w .chip .code) × (t .chip .kind ≡ w .chip .kind)) _ _ _ (refl, refl) (pick-both (λ (t : ChipAfter). (t .chip .code ≡ w .chip .code) × (t .chip .kind ≡ w .chip .kind)) _ _ _ (refl, refl) (refl, refl)))
-level-named w v (Memory p) = (refl, refl)
-level-named w v (Pio p) = (refl, refl)
-
-pub act-named : (a : Act) (w : Whole) → Named w (actOf a w)
-unfolding takesOf resetOf resetChip powerOnOf powerOnChip switchInRange
-act-named (Take v) w = level-named w v (w .chip .level)
-act-named Reset w = (refl, refl)
-act-named PowerOn w = (refl, refl)
 
 pub outside-named : (l : ℕ) (w : Whole) → Named w (outsideOf l w)
 unfolding outsideOf outsideChip

@@ -19,7 +19,8 @@ use Rattle.line.specs.declared.Act.the-variants.{Take, Reset, PowerOn}
 use Rattle.search.specs.Search.{Attached}
 use Rattle.histories.specs.Histories.{noWhole, at, codesOf, kindsOf, afterOf, run}
 use Rattle.histories.specs.Range.{Clear, clear-bit}
-use Rattle.histories.specs.Keeps.{Named, act-named, outside-named}
+use Rattle.line.specs.Named.{Named, act-named}
+use Rattle.histories.specs.Keeps.{outside-named}
 use Rattle.histories.specs.Standing.{AllGood, Stands, lineFrom, line-good, at-chip, after-length}
 use Rattle.histories.specs.Joined.{runOn, run-joined}
 use Rattle.histories.specs.Calls.{Call, callsOn, eventsOfCalls, calls-run, stands-calls}
@@ -101,7 +102,7 @@ run-length (e ∷ es) L = run-length es (afterOf e L) ∙ after-length e L
 pub run-on-codes : (es : List Event) (l : Attached) → Stands l → codesOf (lineFrom (runOn es l)) ≡ codesOf (lineFrom l)
 run-on-codes es l s = ap codesOf (run-joined es l s) ∙ run-codes es (lineFrom l)
 
--- and so do calls with searches among them
+-- and so do calls with searches and runs of slots among them
 pub calls-codes : (cs : List Call) (l : Attached) → Stands l → codesOf (lineFrom (callsOn cs l)) ≡ codesOf (lineFrom l)
 calls-codes cs l s = ap (λ (k : Attached). codesOf (lineFrom k)) (calls-run cs l s) ∙ run-on-codes (eventsOfCalls cs l) l s
 

@@ -7,7 +7,7 @@ use mathlib.Core.List.{List, [], _∷_, _++_, map}
 use mathlib.Core.Path.{_≡_, refl, _∙_, ap, sym}
 use lib.Dec.{leb}
 use lib.ListN.{length, take, drop, getD, length-append, length-drop, take-append-drop}
-use lib.Seq.{length-take-le, take-at, drop-at}
+use lib.Seq.{length-take-le, take-at}
 use borrow.Author.Tests.{le-leb, eq-eqb}
 use Rattle.base.specs.Pick.{pick, pick-true, pick-if}
 use Rattle.base.specs.Both.{both-holds}
@@ -19,6 +19,7 @@ use Rattle.line.specs.Line.{valueOf, actOf, outsideAt, afterBy}
 use Rattle.line.specs.Layout.{imagesSize, padsSize, split, chipsOf, imagesOf, padsOf, lent, lineOf, lentFrom}
 use Rattle.chip.specs.With.{noChip}
 use Rattle.line.specs.Event.{allInRange, tableInRange, sizesFit, planIn, planBy, planOf, planOn, answerBy, doneOf, eventOf}
+use Rattle.line.specs.Fitted.{AllFitted, length-chips, images-length, pads-length, split-joined}
 use Rattle.line.specs.Refusals.{chips-split, images-split, pads-split, fit, in-range-few, well-judged, Comes, slot, reset, power-on, outside, refused, comes}
 use Rattle.line.specs.Prefix.{length-split, length-after}
 use Rattle.line.specs.declared.Event.{Event}
@@ -158,40 +159,21 @@ module _ (l : Attached) (s : Stands l) where
   leaves-is e =
       done-leaves (planOf (l .count) (l .lent .chips) e (l .lent .images) (l .lent .pads)) ∙ ap (λ (p : Plan). withLine l (afterBy p (lineFrom l))) (plan-same e)
 
--- what a good line asks for
-pub length-chips : (L : List Whole) → length (chipsOf L) ≡ length L
-length-chips [] = refl
-length-chips (w ∷ L) = ap suc (length-chips L)
-
-images-length : (L : List Whole) → AllGood L → length (imagesOf L) ≡ imagesSize (chipsOf L)
-images-length [] g = refl
-images-length (w ∷ L) (g, h) = let a = images-length L h in let b = g .memory in simp length-append (omega arith)
-
-pads-length : (L : List Whole) → AllGood L → length (padsOf L) ≡ padsSize (chipsOf L)
-pads-length [] g = refl
-pads-length (w ∷ L) (g, h) = let a = pads-length L h in let b = g .pad in simp length-append (omega arith)
+-- a good line has the memories and scratchpads that its kinds ask for
+good-fitted : (L : List Whole) → AllGood L → AllFitted L
+good-fitted [] g = tt
+good-fitted (w ∷ L) (g, h) = (record { memory = g .memory; pad = g .pad }, good-fitted L h)
 
 chips-in-range : (L : List Whole) → AllGood L → allInRange (chipsOf L) ≡ true
 chips-in-range [] g = refl
 chips-in-range (w ∷ L) (g, h) = both-true′ _ _ (range-in (w .chip) (g .range)) (chips-in-range L h)
-
-split-joined : (L : List Whole) → AllGood L → split (chipsOf L) (imagesOf L) (padsOf L) ≡ L
-split-joined [] g = refl
-split-joined (w ∷ L) (g, h) =
-    (simp (
-      take-at (w .memory) (imagesOf L) (imageSize (w .chip .kind)) (g .memory),
-      take-at (w .pad) (padsOf L) (padSize (w .chip .kind)) (g .pad),
-      drop-at (w .memory) (imagesOf L) (imageSize (w .chip .kind)) (g .memory),
-      drop-at (w .pad) (padsOf L) (padSize (w .chip .kind)) (g .pad),
-    ))
-    ∙ ap (λ (k : List Whole). w ∷ k) (split-joined L h)
 
 module _ (l : Attached) (s : Stands l) (L : List Whole) (g : AllGood L) (k : length L ≡ l .count) where
   chips-first : take (l .count) (chipsOf L ++ drop (l .count) (l .lent .chips)) ≡ chipsOf L
   chips-first = take-at (chipsOf L) (drop (l .count) (l .lent .chips)) (l .count) (length-chips L ∙ k)
 
   pub line-with : lineFrom (withLine l L) ≡ L
-  line-with = ap (λ (c : List Chip). split c (imagesOf L) (padsOf L)) chips-first ∙ split-joined L g
+  line-with = ap (λ (c : List Chip). split c (imagesOf L) (padsOf L)) chips-first ∙ split-joined L (good-fitted L g)
 
   pub stands-with : Stands (withLine l L)
   unfolding tableInRange sizesFit
@@ -199,8 +181,8 @@ module _ (l : Attached) (s : Stands l) (L : List Whole) (g : AllGood L) (k : len
       record {
         range = pick-true (leb (l .count) 16) _ false (le-leb (l .count) 16 (in-range-few (l .count) (l .lent .chips) (s .range))) ∙ ap allInRange chips-first ∙ chips-in-range L g;
         sizes = both-true′ _ _
-            (eq-eqb (length (imagesOf L)) (imagesSize (take (l .count) (chipsOf L ++ drop (l .count) (l .lent .chips)))) (images-length L g ∙ ap imagesSize (sym chips-first)))
-            (eq-eqb (length (padsOf L)) (padsSize (take (l .count) (chipsOf L ++ drop (l .count) (l .lent .chips)))) (pads-length L g ∙ ap padsSize (sym chips-first)));
+            (eq-eqb (length (imagesOf L)) (imagesSize (take (l .count) (chipsOf L ++ drop (l .count) (l .lent .chips)))) (images-length L (good-fitted L g) ∙ ap imagesSize (sym chips-first)))
+            (eq-eqb (length (padsOf L)) (padsSize (take (l .count) (chipsOf L ++ drop (l .count) (l .lent .chips)))) (pads-length L (good-fitted L g) ∙ ap padsSize (sym chips-first)));
         places = let a = length-chips L in simp length-append (omega arith);
       }
 

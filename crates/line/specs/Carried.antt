@@ -5,14 +5,14 @@ use native.Mathlib.Nat.{zero-add}
 use mathlib.Core.Bool.{Bool, true, false, true≢false}
 use mathlib.Core.List.{List, [], _∷_, _++_, map, append-assoc}
 use mathlib.Core.Path.{_≡_, refl, _∙_, ap, sym}
-use lib.Dec.{eqb, ltb, leb}
+use lib.Dec.{eqb, leb}
 use borrow.Author.Tests.{leb-true, leb-false, eq-eqb, ne-eqb, le-leb, lt-leb}
 use lib.ListN.{length, take, drop, getD, set, take-append-drop, length-drop, length-append}
-use lib.Seq.{take-at, drop-at, getD-at, set-at, set-getD, length-take-le}
+use lib.Seq.{getD-at, set-at, set-getD, length-take-le}
 use Rattle.base.specs.Pick.{pick, pick-true, pick-false}
 use Rattle.base.specs.Bits.{both}
 use Rattle.base.specs.Both.{both-assoc, both-true, true-both}
-use Rattle.chip.specs.Chip.{Whole, whole, sendsOf, outsideChip, outsideOf}
+use Rattle.chip.specs.Chip.{Whole, whole, outsideChip, outsideOf}
 use Rattle.chip.specs.Range.{inRange}
 use Rattle.chip.specs.Kinds.{imageMost, padMost, imageSize, padSize}
 use Rattle.chip.specs.Limits.{image-small, pad-small}
@@ -25,11 +25,10 @@ use Rattle.line.specs.Sizes.{act-sized}
 use Rattle.line.specs.Bridge.{act-at, bit-at, regroup}
 use Rattle.line.specs.Prefix.{capped-is}
 use Rattle.line.specs.Refusals.{judged-fit}
-use Rattle.line.specs.Carrier.{firstSpot, spotAfter, over, firstSurvey, surveyChip, surveyed, verdictBy, planSeen, firstBus, putsAt, busWith, busOver, doesAt, turnOf, acts, happensBy, answerFor}
-use Rattle.line.specs.declared.Act.{Act}
+use Rattle.line.specs.Carrier.{firstSpot, spotAfter, over, firstSurvey, surveyChip, surveyed, verdictWith, verdictBy, runVerdictBy, planSeen, firstBus, putsAt, busWith, busOver, doesAt, turnOf, acts, happensBy, answerFor}
+use Rattle.line.specs.Slots.{runFits, runVerdict}
 use Rattle.line.specs.declared.Act.the-variants as act
 use Rattle.line.specs.declared.Answer.{Answer}
-use Rattle.line.specs.declared.Answer.the-variants as answer
 use Rattle.line.specs.declared.Event.{Event}
 use Rattle.line.specs.declared.Refusal.{Refusal}
 use Rattle.line.specs.declared.Verdict.{Verdict}
@@ -149,22 +148,41 @@ module _ (chip n : ℕ) (cs : List Chip) (ms ss : List ℕ) (l : Survey) (h : Su
   pub pads-are : n ≤ 16 → l .spot .pad ≡ padsSize (take n cs)
   pads-are few = ap (λ (x : Survey). x .spot .pad) (look-is few) ∙ zero-add _
 
-  few-stands : n ≤ 16 → verdictBy l n (length ms) (length ss) ≡ verdictOf n cs ms ss
-  unfolding verdictBy verdictOf tableInRange sizesFit both
-  few-stands few =
-      λ j. judge (tableTests (pick (leb n 16) ((ap (λ (x : Survey). x .within) (look-is few) ∙ true-both (allInRange (take n cs))) j) false)
-      (both (eqb (length ms) (images-are few j)) (eqb (length ss) (pads-are few j))))
+  few-range : n ≤ 16 → both (leb n 16) (l .within) ≡ tableInRange n cs
+  unfolding tableInRange both
+  few-range few = λ j. pick (leb n 16) ((ap (λ (x : Survey). x .within) (look-is few) ∙ true-both (allInRange (take n cs))) j) false
 
-  many-stands : 16 < n → verdictBy l n (length ms) (length ss) ≡ verdictOf n cs ms ss
-  unfolding verdictBy verdictOf tableInRange both
-  many-stands k = simp (lt-leb n 16 k, pick-false)
+  few-sizes : n ≤ 16 → both (eqb (length ms) (l .spot .image)) (eqb (length ss) (l .spot .pad)) ≡ sizesFit n cs ms ss
+  unfolding sizesFit
+  few-sizes few = λ j. both (eqb (length ms) (images-are few j)) (eqb (length ss) (pads-are few j))
+
+  many-range : 16 < n → (both (leb n 16) (l .within) ≡ false) × (tableInRange n cs ≡ false)
+  unfolding tableInRange both
+  many-range k = (simp (lt-leb n 16 k, pick-false), simp (lt-leb n 16 k, pick-false))
+
+  -- 8, then 5 by the sizes and by those that a run asks
+  tests-are : (more : Bool) → verdictWith l n (length ms) (length ss) more ≡ judge (tableTests (tableInRange n cs) (both (sizesFit n cs ms ss) more))
+  unfolding verdictWith
+  tests-are more = go (leb n 16) refl
+    where
+      none : (x y : Bool) → judge (tableTests false x) ≡ judge (tableTests false y)
+      none x y = pick-false false _ _ refl ∙ sym (pick-false false _ _ refl)
+
+      go : (b : Bool) → leb n 16 ≡ b
+          → judge (tableTests (both (leb n 16) (l .within)) (both (both (eqb (length ms) (l .spot .image)) (eqb (length ss) (l .spot .pad))) more)) ≡ judge (tableTests (tableInRange n cs) (both (sizesFit n cs ms ss) more))
+      go true e = let few = leb-true n 16 e in λ j. judge (tableTests (few-range few j) (both (few-sizes few j) more))
+      go false e = let m = many-range (leb-false n 16 e) in
+          ap (λ (r : Bool). judge (tableTests r (both (both (eqb (length ms) (l .spot .image)) (eqb (length ss) (l .spot .pad))) more))) (m .0) ∙ none _ _
+          ∙ sym (ap (λ (r : Bool). judge (tableTests r (both (sizesFit n cs ms ss) more))) (m .1))
 
   pub stands-is : verdictBy l n (length ms) (length ss) ≡ verdictOf n cs ms ss
-  stands-is = go (leb n 16) refl
-    where
-      go : (b : Bool) → leb n 16 ≡ b → verdictBy l n (length ms) (length ss) ≡ verdictOf n cs ms ss
-      go true e = few-stands (leb-true n 16 e)
-      go false e = many-stands (leb-false n 16 e)
+  unfolding verdictBy verdictOf
+  stands-is = tests-are true ∙ ap (λ (b : Bool). judge (tableTests (tableInRange n cs) b)) (both-true (sizesFit n cs ms ss))
+
+  -- the same of a run of slots
+  pub run-stands-is : (slots : ℕ) (bits answers : List ℕ) → runVerdictBy l n (length ms) (length ss) slots (length bits) (length answers) ≡ runVerdict n cs slots bits answers ms ss
+  unfolding runVerdictBy runVerdict
+  run-stands-is slots bits answers = tests-are (runFits slots (length bits) (length answers))
 
 -- the plan, by a survey
 planned : (n : ℕ) (cs : List Chip) (e : Event) (ms ss : List ℕ) (l : Survey) → Surveyed (e .chip) n cs l → (q : Verdict) → q ≡ verdictOf n cs ms ss
@@ -352,10 +370,13 @@ module _ (n k : ℕ) (cs : List Chip) (ms ss : List ℕ) where
     both-are : (d : Plan) (M : List Whole) → allDone (doneBy d (busOf d L)) 0 L ≡ M → (v : Bool) → valued d ≡ v → acts d (valued d) k 0 firstSpot cs ms ss ≡ lentFrom n cs M
     both-are d M h v e = acted-is d (valued d) ∙ ap (λ (b : Bool). lentFrom n cs (allDone (doneBy d b) 0 L)) (valued-is d) ∙ ap (λ (K : List Whole). lentFrom n cs K) h
 
+    -- a slot: the bit on the bus, and the line that it leaves
+    pub slot-walked : (b : Bool) → (valued (plan.Slot b) ≡ valueOf b L) × (acts (plan.Slot b) (valued (plan.Slot b)) k 0 firstSpot cs ms ss ≡ lentFrom n cs (afterBy (plan.Slot b) L))
+    slot-walked b = (valued-is (plan.Slot b), both-are (plan.Slot b) _ (done-map (actOf (act.Take (busOf (plan.Slot b) L))) 0 L) _ refl)
+
     fine-walked : (d : Plan) → walked d ≡ doneOf d n cs ms ss
     fine-walked (plan.Refused r) = refused-walked r
-    fine-walked (plan.Slot b) =
-        λ j. outcome (bit (valued-is (plan.Slot b) j)) n (both-are (plan.Slot b) _ (done-map (actOf (act.Take (busOf (plan.Slot b) L))) 0 L) _ refl j)
+    fine-walked (plan.Slot b) = λ j. outcome (bit (slot-walked b .0 j)) n (slot-walked b .1 j)
     fine-walked plan.Reset = λ j. outcome (bit (valued-is plan.Reset j)) n (both-are plan.Reset _ (done-map (actOf act.Reset) 0 L) _ refl j)
     fine-walked plan.PowerOn = λ j. outcome (bit ((valued-is plan.PowerOn ∙ bus-one L) j)) n (both-are plan.PowerOn _ (done-map (actOf act.PowerOn) 0 L) _ refl j)
     fine-walked (plan.Outside i x) =

@@ -3,8 +3,8 @@ use Prim.Native.Nat.{ℕ, zero, suc, _+_, _-_, _<_, _≤_}
 use native.Mathlib.Omega.{arith}
 use mathlib.Core.Bool.{Bool, true, false}
 use mathlib.Core.List.{List}
-use mathlib.Core.Path.{_≡_, _∙_, ap, sym}
-use lib.Dec.{eqb, ltb, leb}
+use mathlib.Core.Path.{_≡_}
+use lib.Dec.{eqb, leb}
 use lib.ListN.{getD, set}
 use Rattle.base.specs.Along.{along}
 use Rattle.base.specs.Pick.{pick}
@@ -18,6 +18,7 @@ use Rattle.chip.specs.With.{noChip}
 use Rattle.line.specs.Event.{judge, tableTests, planEvent, planBy}
 use Rattle.line.specs.Layout.{Lent, lent}
 use Rattle.line.specs.Line.{actOf, hostOf}
+use Rattle.line.specs.Slots.{runFits}
 use Rattle.line.specs.declared.Act.the-variants as act
 use Rattle.line.specs.declared.Answer.{Answer}
 use Rattle.line.specs.declared.Answer.the-variants as answer
@@ -60,10 +61,17 @@ surveyChip chip c s =
       spot = spotAfter (c .kind) (s .spot);
     }
 
--- what a table is judged to that was surveyed: it has n chips, and buffers of two sizes are lent with it
+-- what a table is judged to that was surveyed: it has n chips, buffers of two sizes are lent with it, and more sizes fit or do not
+unfoldable pub verdictWith : Survey → ℕ → ℕ → ℕ → Bool → Verdict
+verdictWith s n images pads more =
+    judge (tableTests (both (leb n 16) (s .within)) (both (both (eqb images (s .spot .image)) (eqb pads (s .spot .pad))) more))
+
 unfoldable pub verdictBy : Survey → ℕ → ℕ → ℕ → Verdict
-verdictBy s n images pads =
-    judge (tableTests (both (leb n 16) (s .within)) (both (eqb images (s .spot .image)) (eqb pads (s .spot .pad))))
+verdictBy s n images pads = verdictWith s n images pads true
+
+-- what a run of slots is judged to on it: bits and answers are of two sizes
+unfoldable pub runVerdictBy : Survey → ℕ → ℕ → ℕ → ℕ → ℕ → ℕ → Verdict
+runVerdictBy s n images pads slots bits answers = verdictWith s n images pads (runFits slots bits answers)
 
 -- what an event comes to on it
 unfoldable pub planSeen : Survey → ℕ → Event → ℕ → ℕ → Plan

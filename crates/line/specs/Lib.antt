@@ -2,7 +2,10 @@ pub mod Line
 pub mod Layout
 pub mod Event
 pub mod Events
+pub mod Slots
 pub mod Sizes
+pub mod Named
+pub mod Fitted
 pub mod Bridge
 pub mod Loops
 pub mod Tables
@@ -10,3 +13,5 @@ pub mod Carrier
 pub mod Refusals
 pub mod Prefix
 pub mod Carried
+pub mod Runs
+pub mod RunTables

@@ -78,7 +78,7 @@ presence [] = refl
 presence (w ∷ L) = bus-zero L
 
 -- a test that did not refuse holds
-held : (t : Bool) (q : Verdict) (r : Refusal) → verdict.Well ≡ pick t q (verdict.Refused r) → (t ≡ true) × (verdict.Well ≡ q)
+pub held : (t : Bool) (q : Verdict) (r : Refusal) → verdict.Well ≡ pick t q (verdict.Refused r) → (t ≡ true) × (verdict.Well ≡ q)
 unfolding pick
 held true q r e = (refl, e)
 held false q r e = absurd (other e)

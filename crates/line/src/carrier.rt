@@ -1,11 +1,13 @@
 // The event, chip by chip, for whoever carries a table, wherever its chips stand: each is surveyed, then the event is
-// planned, then each puts its bit on the bus, then each has its turn. A carrier walks its own form and decides nothing.
+// planned, then each puts its bit on the bus, then each has its turn. A carrier walks its own form and decides nothing. A
+// run of slots is judged here too, and its bytes are put together.
 use crate::Act;
 use crate::Answer;
 use crate::Bus;
 use crate::Event;
 use crate::Plan;
 use crate::Refusal;
+use crate::SLOTS_MOST;
 use crate::Spot;
 use crate::Survey;
 use crate::Turned;
@@ -14,12 +16,14 @@ use crate::loops;
 use chip::Chip;
 ghost use mathlib.Core.Bool.{true};
 ghost use mathlib.Core.Path.{_≡_};
-ghost use Prim.Native.Nat.{_≤_};
+ghost use Prim.Native.Nat.{_+_, _≤_};
 ghost use Rattle.base.specs.Pick.{pick};
 ghost use Rattle.chip.specs.Chip.{whole, outsideChip};
 ghost use Rattle.line.specs.Line.{hostOf};
-ghost use Rattle.line.specs.Event.{outsideFits, askedBy, planEvent, planBy};
-ghost use Rattle.line.specs.Carrier.{firstSpot, spotAfter, firstSurvey, surveyChip, verdictBy, planSeen, firstBus, putsAt, busWith, doesAt, turned, turnOf, happensBy, answerFor};
+ghost use Rattle.line.specs.Event.{judge, tableTests, outsideFits, askedBy, planEvent, planBy};
+ghost use Rattle.line.specs.Slots.{runFits};
+ghost use Rattle.line.specs.Runs.{countOf};
+ghost use Rattle.line.specs.Carrier.{firstSpot, spotAfter, firstSurvey, surveyChip, verdictWith, verdictBy, runVerdictBy, planSeen, firstBus, putsAt, busWith, doesAt, turned, turnOf, happensBy, answerFor};
 
 // Where the first chip stands.
 pub fn first_spot() -> Spot
@@ -89,20 +93,62 @@ pub fn survey_chip(c: Chip, s: Survey, chip: u32) -> Survey
     }
 }
 
-// What a table of n chips is judged to that was surveyed: 8, then 5.
-pub fn verdict_by(s: Survey, n: usize, images: usize, pads: usize) -> Verdict
-    ensures { λ r. ⌜ r ≡ verdictBy s n images pads ⌝ }
+// 8, then 5, by what a table and its buffers are tested for.
+fn judged(range: bool, sizes: bool) -> Verdict
+    ensures { λ r. ⌜ r ≡ judge (tableTests range sizes) ⌝ }
 {
-    let spot = s.spot;
-    let few = base::are_both(n <= 16, s.within);
-    let fit = base::are_both(images == spot.image, pads == spot.pad);
-    if few {
-        if fit {
+    if range {
+        if sizes {
             return Verdict::Well;
         }
         return Verdict::Refused(Refusal::WrongSize);
     }
     Verdict::Refused(Refusal::OutOfRange)
+}
+
+// What a table of n chips is judged to that was surveyed, where more sizes than those of its buffers fit or do not.
+fn verdict_with(s: Survey, n: usize, images: usize, pads: usize, more: bool) -> Verdict
+    ensures { λ r. ⌜ r ≡ verdictWith s n images pads more ⌝ }
+{
+    let spot = s.spot;
+    let few = base::are_both(n <= 16, s.within);
+    let fit = base::are_both(images == spot.image, pads == spot.pad);
+    let sizes = base::are_both(fit, more);
+    judged(few, sizes)
+}
+
+// What a table of n chips is judged to that was surveyed: 8, then 5.
+pub fn verdict_by(s: Survey, n: usize, images: usize, pads: usize) -> Verdict
+    ensures { λ r. ⌜ r ≡ verdictBy s n images pads ⌝ }
+{
+    verdict_with(s, n, images, pads, true)
+}
+
+// A run may have so many slots, and bits and answers are of the sizes that they ask.
+pub fn run_fits(slots: usize, bits: usize, answers: usize) -> bool
+    ensures { λ r. ⌜ r ≡ runFits slots bits answers ⌝ }
+{
+    if slots <= SLOTS_MOST {
+        let asked = (slots + 7) / 8;
+        return base::are_both(bits == asked, answers == asked);
+    }
+    false
+}
+
+// What a run of slots is judged to on a table of n chips that was surveyed: 8, then 5.
+pub fn run_verdict_by(
+    s: Survey,
+    n: usize,
+    images: usize,
+    pads: usize,
+    slots: usize,
+    bits: usize,
+    answers: usize,
+) -> Verdict
+    ensures { λ r. ⌜ r ≡ runVerdictBy s n images pads slots bits answers ⌝ }
+{
+    let run = run_fits(slots, bits, answers);
+    verdict_with(s, n, images, pads, run)
 }
 
 // Event 4 fits n chips, where the one that it names has a kind; any other event does.
@@ -293,4 +339,21 @@ pub fn answer_of(plan: Plan, value: bool) -> Answer
             outside: _,
         } => Answer::Bit(value),
     }
+}
+
+// How many slots of a run the next byte has, of those that are left.
+pub fn next_count(left: usize) -> usize
+    ensures { λ r. ⌜ r ≡ countOf left ⌝ }
+{
+    if left < 8 { left } else { 8 }
+}
+
+// The number of the bits so far with one bit more, which is worth so much.
+pub fn with_bit(sum: u16, bit: bool, worth: u16) -> u32
+    ensures { λ r. ⌜ r ≡ sum + pick bit worth 0 ⌝ }
+{
+    if bit {
+        return (sum as u32) + (worth as u32);
+    }
+    sum as u32
 }

@@ -7,11 +7,13 @@ pub use judged::pads_asked;
 
 pub mod carrier;
 mod loops;
+mod runs;
 pub mod tables;
 
 use chip::Chip;
 pub use loops::act_at;
 pub use loops::bit_at;
+pub use runs::take_slots;
 ghost use mathlib.Core.Path.{_≡_};
 ghost use Prim.Native.Nat.{_≤_};
 ghost use Rattle.line.specs.Layout.{lent, capped};
@@ -22,6 +24,9 @@ pub const IMAGES_MOST: usize = 41984;
 
 // The most bytes of scratchpads that a table asks for.
 pub const PADS_MOST: usize = 512;
+
+// The most slots of a run.
+pub const SLOTS_MOST: usize = 65535;
 
 // The table: the first n places hold the attached chips.
 pub struct Table {
@@ -63,6 +68,24 @@ pub enum Verdict {
 // What an event answers, and the table that it leaves.
 pub struct Happened {
     pub answer: Answer,
+    pub table: Table,
+}
+
+// What a run of slots answers: how many were put on the line, or a refusal.
+pub enum SlotsAnswer {
+    Put(usize),
+    Refused(Refusal),
+}
+
+// What a run of slots answers, and the table that it leaves.
+pub struct Ran {
+    pub answer: SlotsAnswer,
+    pub table: Table,
+}
+
+// Up to eight slots of a run: the bits on the bus as a byte, and the table that they leave.
+pub struct ByteRan {
+    pub byte: u8,
     pub table: Table,
 }
 

@@ -85,7 +85,7 @@ list-after-trouble es list l s fits =
     one-list list (searchOf list (runOn es l)) (searchOf list l)
     (same-codes-same-list list list (runOn es l) l (stands-on es l s) s (rw e fits) (equal-members _ _ e) refl)
 
--- Earlier searches are such events: the same after any calls, events and searches. A search that was broken off is no call of its own: it
+-- Earlier searches are such events: the same after any calls, events, searches and runs of slots. A search that was broken off is no call of its own: it
 -- is events alone.
 pub list-after-calls : (cs : List Call) (list : List ℕ) (l : Attached) → Stands l → Codes (codesOf (lineFrom l))
     → SameSearch (searchOf list (callsOn cs l)) (searchOf list l)

@@ -16,7 +16,7 @@ use Rattle.chip.specs.Level.{takes-in, sends-in}
 use Rattle.chip.specs.declared.Level.{Level}
 use Rattle.chip.specs.declared.Level.the-variants.{Waiting, Rom, FunctionCommand}
 use Rattle.line.specs.declared.Act.the-variants.{Take}
-use Rattle.histories.specs.Keeps.{act-named}
+use Rattle.line.specs.Named.{act-named}
 use Rattle.histories.specs.Fed.{fed, sendsNothing}
 use Rattle.histories.specs.Sent.{bitsFrom}
 

@@ -104,7 +104,7 @@ module _ (n : ℕ) (bs : List ℕ) (cs₀ cs : List Chip) (i : ℕ) (ok : Bool) 
       (sym (take-append-drop n cs) ∙ (λ j. firsts j ++ stays j), rw z at judged)
 
 -- n records are all the bytes there are, or not
-rest-none : (k : ℕ) (bs : List ℕ) → k ≤ length bs → sameBytes [] (drop k bs) ≡ eqb (length bs) k
+pub rest-none : (k : ℕ) (bs : List ℕ) → k ≤ length bs → sameBytes [] (drop k bs) ≡ eqb (length bs) k
 unfolding sameBytes
 rest-none k bs h = go (drop k bs) (length-drop k bs)
   where

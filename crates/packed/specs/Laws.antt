@@ -16,11 +16,11 @@ use Rattle.packed.specs.Step.{flag-back, step, levelPacked, levelUnpacke
 use Rattle.packed.specs.Packed.{recordSize, packed, unpacked, sameBytes, isRecord, packedTable, unpackedFrom, unpackedTable, isTable}
 
 -- a number is found again from its bytes
-abbrev fromBytes : ℕ → ℕ → ℕ
+abbrev pub fromBytes : ℕ → ℕ → ℕ
 fromBytes zero x = x
 fromBytes (suc n) x = x % 256 + 256 * fromBytes n (x / 256)
 
-number-back : (n x : ℕ) → fromBytes n x ≡ x
+pub number-back : (n x : ℕ) → fromBytes n x ≡ x
 number-back zero x = refl
 number-back (suc n) x =
     let e = number-back n (x / 256) in

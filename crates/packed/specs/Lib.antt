@@ -4,3 +4,16 @@ pub mod Laws
 pub mod Loops
 pub mod Filling
 pub mod Places
+pub mod Within
+pub mod Parts
+pub mod Takes
+pub mod Taking
+pub mod TakesLaw
+pub mod Sends
+pub mod SendsLaw
+pub mod Judged
+pub mod Waiting
+pub mod Limits
+pub mod LimitsLaw
+pub mod LevelLimits
+pub mod JudgedLaw

@@ -7,7 +7,7 @@ use lib.Dec.{leb}
 use lib.ListN.{length, take, drop, getD, set, length-set, drop-of-length-le}
 use lib.Seq.{split-at, set-split, take-at, drop-at, length-take-le}
 use borrow.Author.Tests.{le-leb}
-use Rattle.base.specs.Pick.{pick, pick-true}
+use Rattle.base.specs.Pick.{pick-true}
 use Rattle.chip.specs.declared.Chip.{Chip}
 use Rattle.chip.specs.With.{noChip}
 use Rattle.packed.specs.Packed.{recordSize, packed, unpacked, packedTable, unpackedTable, putRecord}
@@ -56,6 +56,14 @@ module _ (cs : List Chip) (i : ℕ) (h : i < length cs) where
       ∙ sym (with c)
       ∙ ap (λ (l : List Chip). packedTable l) (sym (set-split cs i c h))
 
+-- a record put over another
+pub put-packed : (c d : Chip) → putRecord c (packed d) ≡ packed c
+unfolding putRecord
+put-packed c d =
+    let l = packed-length d in
+    pick-true (leb recordSize (length (packed d))) _ _ (le-leb recordSize (length (packed d)) (omega arith))
+    ∙ ap (λ (k : List ℕ). packed c ++ k) (drop-of-length-le (packed d) {i = recordSize} (omega arith)) ∙ append-nil (packed c)
+
 -- the same of bytes that are a table, as the code lends a part of them
 module _ (bs : List ℕ) (t : Table16 bs) (i : ℕ) (h : i < length (unpackedTable bs)) where
   part : take (i * recordSize + recordSize - i * recordSize) (drop (i * recordSize) bs) ≡ packed (getD (unpackedTable bs) i noChip)
@@ -69,13 +77,7 @@ module _ (bs : List ℕ) (t : Table16 bs) (i : ℕ) (h : i < length (unpackedTab
   -- the bytes with another record at a place are the table with another chip there
   module _ (c : Chip) (x : List ℕ) (e : x ≡ putRecord c (take (i * recordSize + recordSize - i * recordSize) (drop (i * recordSize) bs))) where
     put-is : x ≡ packed c
-    unfolding putRecord
-    put-is =
-        let p = packed (getD (unpackedTable bs) i noChip) in
-        let l = packed-length (getD (unpackedTable bs) i noChip) in
-        e ∙ (λ j. pick (leb recordSize (length (part j))) (packed c ++ drop recordSize (part j)) (part j))
-        ∙ pick-true (leb recordSize (length p)) _ _ (le-leb recordSize (length p) (omega arith))
-        ∙ ap (λ (k : List ℕ). packed c ++ k) (drop-of-length-le p {i = recordSize} (omega arith)) ∙ append-nil (packed c)
+    put-is = e ∙ ap (λ (k : List ℕ). putRecord c k) part ∙ put-packed c (getD (unpackedTable bs) i noChip)
 
     pub bytes-put : take (i * recordSize) bs ++ (x ++ drop (i * recordSize + recordSize - i * recordSize) (drop (i * recordSize) bs)) ≡ packedTable (set (unpackedTable bs) i c)
     bytes-put =

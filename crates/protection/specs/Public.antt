@@ -32,7 +32,7 @@ pub only-falls-on : (es : List Event) (l : Attached) → Stands l → (i j : ℕ
     × ((k : ℕ) → k < 256 → bitAnd (blockByte (memoryOf i (runOn es l)) j k) (blockByte (memoryOf i l) j k) ≡ blockByte (memoryOf i (runOn es l)) j k)
 only-falls-on es l s i j h = subst (λ (M : List Whole). OnlyFalls (0x0A00 + j) (256 * j) 256 (memoryOf i l) (at i M .memory)) (sym (run-joined es l s)) (run-only-falls es (lineFrom l) i j h)
 
--- THEOREM: nor do calls with searches among them change a block at 55h
+-- THEOREM: nor do calls with searches and runs of slots among them change a block at 55h
 pub protected-calls : (cs : List Call) (l : Attached) → Stands l → (i j : ℕ) → j < 10
     → control (memoryOf i l) j ≡ 0x55
     → (control (memoryOf i (callsOn cs l)) j ≡ 0x55)

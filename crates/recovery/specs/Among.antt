@@ -23,11 +23,12 @@ use Rattle.line.specs.declared.Event.{Event}
 use Rattle.line.specs.declared.Plan.{Plan}
 use Rattle.line.specs.declared.Plan.the-variants as plan
 use Rattle.line.specs.declared.Act.the-variants.{Take, Reset, PowerOn}
+use Rattle.line.specs.Fitted.{length-chips}
 use Rattle.histories.specs.Histories.{at, kindsOf, answerOf, afterOf, run, answers, came}
-use Rattle.histories.specs.Keeps.{Named, act-named}
+use Rattle.line.specs.Named.{Named, act-named}
 use Rattle.histories.specs.Place.{at-map, outside-at}
 use Rattle.histories.specs.Kept.{run-kinds}
-use Rattle.histories.specs.Standing.{at-chip, length-chips}
+use Rattle.histories.specs.Standing.{at-chip}
 use Rattle.recovery.specs.Sessions.{opening, toCome, Next, Addressed}
 use Rattle.recovery.specs.Stays.{not-taken}
 use Rattle.recovery.specs.Opening.{Silent, Waits, waiting-takes, opening-silent}

@@ -11,7 +11,8 @@ use Rattle.line.specs.declared.Act.the-variants.{Reset}
 use Rattle.line.specs.declared.Event.{Event}
 use Rattle.histories.specs.Below.{Codes, first-below, others-below}
 use Rattle.histories.specs.Histories.{at, run, codesOf}
-use Rattle.histories.specs.Keeps.{Good, act-named}
+use Rattle.line.specs.Named.{act-named}
+use Rattle.histories.specs.Keeps.{Good}
 use Rattle.histories.specs.Kept.{run-codes, run-length}
 use Rattle.histories.specs.Place.{at-map}
 use Rattle.recovery.specs.Sessions.{opening}

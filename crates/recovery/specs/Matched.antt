@@ -11,25 +11,20 @@ use Rattle.chip.specs.Chip.{Whole, levelReset, takesOf, sendsOf, resetChip, res
 use Rattle.chip.specs.declared.Level.the-variants.{Rom}
 use Rattle.line.specs.Line.{actOf}
 use Rattle.line.specs.Refusals.{presence}
-use Rattle.line.specs.Event.{Answered, bit, askedBy, planEvent, planOn, outsideFits}
+use Rattle.line.specs.Event.{Answered, bit, askedBy, planEvent, outsideFits}
 use Rattle.line.specs.Events.{slotEvent, resetEvent}
 use Rattle.line.specs.declared.Act.the-variants.{Reset}
 use Rattle.line.specs.declared.Plan.{Plan}
-use Rattle.line.specs.declared.Plan.the-variants as plan
 use Rattle.histories.specs.Histories.{at, answerOf, afterOf, run, answers, came}
 use Rattle.histories.specs.Fed.{fed, sendsNothing}
 use Rattle.histories.specs.Sent.{slots}
+use Rattle.histories.specs.Slots.{planned-slot}
 use Rattle.recovery.specs.Sessions.{opening, Addressed, slotted, matchSession}
 use Rattle.recovery.specs.Among.{Own, Among, ownRun, ownAnswers, toComes, both-one, alone, present, alone-answers}
 use Rattle.recovery.specs.Goes.{Goes, ofKind, ec20}
 use Rattle.recovery.specs.Installed.{Installed, reset-among, reset-own}
 
 -- the host's own slots come to themselves
-planned-slot : (v : Bool) (L : List Whole) → planOn (slotEvent v) L ≡ plan.Slot v
-unfolding planEvent outsideFits askedBy pick
-planned-slot true L = refl
-planned-slot false L = refl
-
 pub came-slots : (vs : List Bool) (L : List Whole) → came (slots vs) L ≡ slotted vs
 came-slots [] L = refl
 came-slots (v ∷ vs) L = let rest = came-slots vs (afterOf (slotEvent v) L) in λ j. planned-slot v L j ∷ rest j

@@ -1,4 +1,4 @@
--- "Recovery after noise": over calls, events and searches in any order, on a table and its buffers.
+-- "Recovery after noise": over calls, events, searches and runs of slots in any order, on a table and its buffers.
 use Prim.Native.Nat.{ℕ}
 use mathlib.Core.List.{List, _++_}
 use mathlib.Core.Path.{_≡_, _∙_, ap, sym, subst}

@@ -2,3 +2,4 @@ pub mod Event
 pub mod Search
 pub mod Card
 pub mod Reading
+pub mod Slots

@@ -5,19 +5,22 @@ use mathlib.Core.Bool.{true}
 use mathlib.Core.Path.{_≡_, refl, _∙_, sym, subst}
 use lib.Dec.{ltb}
 use borrow.Author.Tests.{lt-ltb}
-use lib.IntN.{ℤ, pos, negℤ, _-ℤ_}
+use lib.IntN.{ℤ, pos, _-ℤ_}
 use lib.Signed.{mag}
 use mir.Syntax.{w32}
 use mir.Val.{toZ, ofZ, SFits}
 use mir.Facts.{toZ-ofZ, toZ-pos}
 use Rattle.base.specs.Along.{along}
 use Rattle.line.specs.Event.{answered}
+use Rattle.line.specs.Slots.{slotted}
 use Rattle.line.specs.declared.Answer.{Answer}
+use Rattle.line.specs.declared.SlotsAnswer.{SlotsAnswer}
+use Rattle.line.specs.declared.SlotsAnswer.the-variants as slots
 use Rattle.card.specs.Card.{Carded, chips, refused, carded}
 use Rattle.card.specs.declared.CardAnswer.{CardAnswer}
 use Rattle.search.specs.Search.{searched}
 use Rattle.search.specs.declared.SearchAnswer.{SearchAnswer}
-use Rattle.toemsakun.specs.Library.{minus, answerNumber, searchNumber}
+use Rattle.toemsakun.specs.Library.{minus, answerNumber, slotsNumber, searchNumber}
 
 -- what set-up answers that left n chips, and where the record at fault begins
 abbrev pub cardNumber : ℕ → Carded → ℤ
@@ -27,6 +30,14 @@ cardNumber n (refused r at) = minus r
 abbrev pub cardOffset : Carded → ℕ
 cardOffset (chips m) = 0
 cardOffset (refused r at) = at
+
+-- how many slots a run put on the line
+abbrev pub slotsPut : SlotsAnswer → ℕ
+slotsPut (slots.Put n) = n
+slotsPut (slots.Refused r) = 0
+
+pub slots-at : (q p : SlotsAnswer) (r : ℤ) → q ≡ p → r ≡ slotsNumber (slotted p) → r ≡ slotsNumber (slotted q)
+slots-at = along (λ (k : SlotsAnswer). slotsNumber (slotted k))
 
 pub event-at : (q p : Answer) (r : ℤ) → q ≡ p → r ≡ answerNumber (answered p) → r ≡ answerNumber (answered q)
 event-at = along (λ (k : Answer). answerNumber (answered k))

@@ -1,83 +1,32 @@
 -- Laws: what an event comes to on bytes, as a loop over the records finds it.
-use Prim.Native.Nat.{ℕ, _+_, _-_, _*_, _/_, _<_, _≤_}
+use Prim.Native.Nat.{ℕ, _*_, _/_, _<_}
 use native.Mathlib.Omega.{arith}
 use mathlib.Core.Bool.{Bool, true, false, true≢false}
-use mathlib.Core.List.{List, []}
+use mathlib.Core.List.{List}
 use mathlib.Core.Path.{_≡_, refl, _∙_, ap, sym}
-use lib.Dec.{eqb}
-use lib.ListN.{length, take, drop}
+use lib.Dec.{eqb, leb}
+use lib.ListN.{length, take}
 use lib.Seq.{take-length}
 use borrow.Author.Tests.{lt-leb}
-use Rattle.base.specs.Pick.{pick, pick-true, pick-false}
+use Rattle.base.specs.Pick.{pick, pick-true, pick-false, pick-same, pick-if}
 use Rattle.base.specs.Bits.{both}
-use Rattle.base.specs.Both.{both-assoc, true-both}
+use Rattle.base.specs.Both.{both-true}
 use Rattle.chip.specs.declared.Chip.{Chip}
-use Rattle.line.specs.Event.{answered, outcome, verdictOf, tableInRange, Outcome, planIn, planBy, planOf, doneOf, eventOf}
-use Rattle.line.specs.Layout.{lent}
-use Rattle.line.specs.Carrier.{firstSurvey, surveyChip, planSeen, happensBy, answerFor}
-use Rattle.line.specs.Carried.{folded, Surveyed, plan-is, walked, plan-walked, refused-done, happens-few}
+use Rattle.line.specs.Event.{answered, outcome, judge, tableTests, verdictOf, allInRange, tableInRange, sizesFit, Outcome, planIn, planBy, planOf, doneOf, eventOf}
+use Rattle.line.specs.Layout.{lent, imagesSize, padsSize}
+use Rattle.line.specs.Carrier.{verdictWith, verdictBy, planSeen, happensBy, answerFor}
+use Rattle.line.specs.Carried.{walked, plan-walked, refused-done, happens-few}
 use Rattle.line.specs.declared.Answer.{Answer}
 use Rattle.line.specs.declared.Refusal.the-variants.{OutOfRange}
 use Rattle.line.specs.declared.Event.{Event}
 use Rattle.line.specs.declared.Survey.{Survey}
 use Rattle.line.specs.declared.Plan.{Plan}
 use Rattle.line.specs.declared.Plan.the-variants as plan
-use Rattle.packed.specs.Packed.{recordSize, packed, unpacked, sameBytes, packedTable, unpackedFrom, unpackedTable, isTable}
-use Rattle.packed.specs.Laws.{from-length, table-is}
-use Rattle.packed.specs.Filling.{one-chip, one-judged, table-judged}
+use Rattle.packed.specs.Packed.{recordSize, unpackedFrom, unpackedTable, isTable}
+use Rattle.packed.specs.Laws.{table-is}
 use Rattle.packed.specs.Places.{Table16}
-use Rattle.toemsakun.specs.Library.{minus, EventLeft, eventLeft, answerNumber, packedOutcome, eventBytes}
-
--- the chips of the records from i on
-abbrev pub chipsFrom : ℕ → ℕ → List ℕ → List Chip
-chipsFrom n i bs = unpackedFrom (n - i) (drop (i * recordSize) bs)
-
--- where the loop stands after i records: whether they are records, and what was seen of them
-pub record Judging (chip n : ℕ) (bs : List ℕ) (i : ℕ) (ok : Bool) (survey : Survey) : Type 0 where
-  pub judged : both ok (sameBytes (packedTable (chipsFrom n i bs)) (drop (i * recordSize) bs)) ≡ sameBytes (packedTable (unpackedFrom n bs)) bs
-  pub seen : folded (surveyChip chip) (chipsFrom n i bs) survey ≡ folded (surveyChip chip) (unpackedFrom n bs) firstSurvey
-  pub within : i ≤ n
-  pub few : n ≤ 16
-  pub room : n * recordSize ≤ length bs
-
-pub judging-start : (chip n : ℕ) (bs : List ℕ) (survey : Survey) → n ≤ 16 → n * recordSize ≤ length bs → survey ≡ firstSurvey → Judging chip n bs 0 true survey
-judging-start chip n bs survey f r e =
-    let z : n - 0 ≡ n = omega arith in
-    record {
-      judged = rw z (true-both (sameBytes (packedTable (unpackedFrom n bs)) bs));
-      seen = rw z (ap (λ (l : Survey). folded (surveyChip chip) (unpackedFrom n bs) l) e);
-      within = omega arith;
-      few = f;
-      room = r;
-    }
-
-module _ (chip n : ℕ) (bs : List ℕ) (i : ℕ) (ok : Bool) (survey : Survey) (g : Judging chip n bs i ok survey) where
-  pub judging-next : (c : Chip) (good w : Bool) (l : Survey) → i < n → c ≡ unpacked (take (i * recordSize + recordSize - i * recordSize) (drop (i * recordSize) bs))
-      → good ≡ sameBytes (packed c) (take (i * recordSize + recordSize - i * recordSize) (drop (i * recordSize) bs)) → w ≡ both ok good → l ≡ surveyChip chip c survey → Judging chip n bs (i + 1) w l
-  judging-next c good w l h e f k s =
-      let D′ = drop ((i + 1) * recordSize) bs in
-      let U′ = chipsFrom n (i + 1) bs in
-      let one = one-chip n bs i c good h (g .room) e f in
-      let same = one-judged n bs i c good h (g .room) e f in
-      record {
-        judged = ap (λ (x : Bool). both x (sameBytes (packedTable U′) D′)) k ∙ both-assoc ok good (sameBytes (packedTable U′) D′)
-            ∙ ap (both ok) (sym same) ∙ g .judged;
-        seen = ap (λ (x : Survey). folded (surveyChip chip) U′ x) s ∙ sym (ap (λ (x : List Chip). folded (surveyChip chip) x survey) one) ∙ g .seen;
-        within = omega arith;
-        few = g .few;
-        room = g .room;
-      }
-
-  pub judging-end : n ≤ i
-      → (both ok (sameBytes [] (drop (n * recordSize) bs)) ≡ sameBytes (packedTable (unpackedFrom n bs)) bs) × (survey ≡ folded (surveyChip chip) (unpackedFrom n bs) firstSurvey)
-  judging-end h =
-      let w = g .within in
-      let e : i ≡ n = omega arith in
-      let z : n - i ≡ 0 = omega arith in
-      let none : chipsFrom n i bs ≡ [] = ap (λ (x : ℕ). unpackedFrom x (drop (i * recordSize) bs)) z in (
-        (λ j. both ok (sameBytes (packedTable (sym none j)) (drop (sym e j * recordSize) bs))) ∙ g .judged,
-        sym (ap (λ (x : List Chip). folded (surveyChip chip) x survey) none) ∙ g .seen,
-      )
+use Rattle.toemsakun.specs.Library.{minus, eventLeft, answerNumber, packedOutcome, eventBytes}
+use Rattle.toemsakun.specs.Standing.{standAs, surveyOf, pick-and, chips-are, chips-count, whole-is}
 
 -- what an event comes to on bytes and their buffers
 abbrev pub refusedBy8 : Plan
@@ -86,22 +35,32 @@ refusedBy8 = plan.Refused OutOfRange
 unfoldable pub planBytes : List ℕ → Event → List ℕ → List ℕ → Plan
 planBytes bs e ms ss = let cs = unpackedTable bs in pick (isTable bs) (planOf (length cs) cs e ms ss) refusedBy8
 
-chips-are : (bs : List ℕ) (n : ℕ) → n ≡ length bs / recordSize → unpackedFrom n bs ≡ unpackedTable bs
-unfolding unpackedTable
-chips-are bs n q = ap (λ (k : ℕ). unpackedFrom k bs) q
+-- by a survey of chips whose fields lie in their ranges, and where one does not
+module _ (cs : List Chip) (e : Event) (ms ss : List ℕ) where
+  seen-well : allInRange cs ≡ true → planSeen (surveyOf (e .chip) cs) (length cs) e (length ms) (length ss) ≡ planOf (length cs) cs e ms ss
+  unfolding planSeen planOf verdictBy verdictWith verdictOf tableInRange sizesFit both
+  seen-well h =
+      let cut = sym (take-length cs) in
+      let fine : true ≡ allInRange (take (length cs) cs) = sym h ∙ ap allInRange cut in
+      ap (λ (b : Bool). planBy (judge (tableTests (both (leb (length cs) 16) true) b)) (planIn cs e)) (both-true (both (eqb (length ms) (imagesSize cs)) (eqb (length ss) (padsSize cs))))
+      ∙ λ j. planBy (judge (tableTests (pick (leb (length cs) 16) (fine j) false) (both (eqb (length ms) (imagesSize (cut j))) (eqb (length ss) (padsSize (cut j)))))) (planIn (cut j) e)
 
-chips-count : (bs : List ℕ) (n : ℕ) → n ≡ length bs / recordSize → n ≡ length (unpackedTable bs)
-chips-count bs n q = let k = ap (λ (x : List Chip). length x) (chips-are bs n q) in let m = from-length n bs in omega arith
+  seen-outside : allInRange cs ≡ false → refusedBy8 ≡ planOf (length cs) cs e ms ss
+  unfolding planOf verdictOf tableInRange
+  seen-outside h = simp (take-length, h, pick-same, pick-false)
+
+  seen-is : pick (allInRange cs) (planSeen (surveyOf (e .chip) cs) (length cs) e (length ms) (length ss)) refusedBy8 ≡ planOf (length cs) cs e ms ss
+  seen-is = pick-if (λ (p : Plan). p ≡ planOf (length cs) cs e ms ss) (allInRange cs) _ _ seen-well seen-outside
 
 pub plan-found : (bs : List ℕ) (e : Event) (ms ss : List ℕ) (n : ℕ) (ok whole : Bool) (l : Survey) (p : Plan) → n ≡ length bs / recordSize
-    → both ok (sameBytes [] (drop (n * recordSize) bs)) ≡ sameBytes (packedTable (unpackedFrom n bs)) bs → whole ≡ both ok (eqb (length bs) (n * recordSize))
-    → l ≡ folded (surveyChip (e .chip)) (unpackedFrom n bs) firstSurvey → p ≡ pick whole (planSeen l n e (length ms) (length ss)) refusedBy8 → p ≡ planBytes bs e ms ss
+    → both ok (eqb (length bs) (n * recordSize)) ≡ standAs (unpackedFrom n bs) bs → whole ≡ both ok (eqb (length bs) (n * recordSize))
+    → l ≡ surveyOf (e .chip) (unpackedFrom n bs) → p ≡ pick whole (planSeen l n e (length ms) (length ss)) refusedBy8 → p ≡ planBytes bs e ms ss
 unfolding planBytes
 plan-found bs e ms ss n ok whole l p q j w s h =
-    let cs = unpackedTable bs in
-    let surveyed : Surveyed (e .chip) (length cs) cs l = λ few. (omega arith, s ∙ ap (λ (x : List Chip). folded (surveyChip (e .chip)) x firstSurvey) (chips-are bs n q ∙ sym (take-length cs))) in
-    h ∙ (λ k. pick (table-judged bs n ok whole q j w k) (planSeen l (chips-count bs n q k) e (length ms) (length ss)) refusedBy8)
-    ∙ ap (λ (x : Plan). pick (isTable bs) x refusedBy8) (plan-is (length cs) cs e ms ss l surveyed)
+    let survey : l ≡ surveyOf (e .chip) (unpackedTable bs) = s ∙ ap (surveyOf (e .chip)) (chips-are bs n q) in
+    h ∙ (λ k. pick (whole-is bs n q ok whole j w k) (planSeen (survey k) (chips-count bs n q k) e (length ms) (length ss)) refusedBy8)
+    ∙ pick-and (isTable bs) (allInRange (unpackedTable bs)) _ refusedBy8
+    ∙ ap (λ (x : Plan). pick (isTable bs) x refusedBy8) (seen-is (unpackedTable bs) e ms ss)
 
 many-planned : (n : ℕ) (cs : List Chip) (e : Event) (ms ss : List ℕ) → 16 < n → planOf n cs e ms ss ≡ refusedBy8
 unfolding planOf verdictOf tableInRange

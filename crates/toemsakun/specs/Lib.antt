@@ -2,5 +2,14 @@ pub mod Library
 pub mod Answers
 pub mod Few
 pub mod Laws
+pub mod Standing
 pub mod Judging
+pub mod Verdicts
 pub mod Acting
+pub mod Slots
+pub mod Held
+pub mod InPlace
+pub mod Ranges
+pub mod SlotLoops
+pub mod Narrow
+pub mod Runs

@@ -7,6 +7,7 @@ use lib.ListN.{length, drop}
 use Rattle.base.specs.Pick.{pick}
 use Rattle.line.specs.Layout.{capped, imagesAsked, padsAsked}
 use Rattle.line.specs.Event.{Answered, bit, refused, Outcome, eventOf}
+use Rattle.line.specs.Slots.{Slotted, put, refused as refusedRun, RunOutcome, slotsOf}
 use Rattle.line.specs.declared.Event.{Event}
 use Rattle.card.specs.Card.{Read, all, none, readFrom}
 use Rattle.search.specs.Search.{Searched, complete, refused as refusedBy, attached, Search, searchOf}
@@ -69,6 +70,30 @@ unfoldable pub eventBytes : List ℕ → Event → List ℕ → List ℕ → Eve
 eventBytes bs e ms ss =
     let cs = unpackedTable bs in
     pick (isTable bs) (packedOutcome (eventOf (length cs) cs e ms ss)) (eventLeft (minus 8) bs ms ss)
+
+-- a run of slots: the answer, and what is left of the answers, the table, the images and the scratchpads
+pub record SlotsLeft : Type 0 where
+  pub answer : ℤ
+  pub answers : List ℕ
+  pub table : List ℕ
+  pub images : List ℕ
+  pub pads : List ℕ
+
+abbrev pub slotsLeft : ℤ → List ℕ → List ℕ → List ℕ → List ℕ → SlotsLeft
+slotsLeft a out t ms ss = record { answer = a; answers = out; table = t; images = ms; pads = ss }
+
+-- how many slots were put on the line, or minus a refusal number
+abbrev pub slotsNumber : Slotted → ℤ
+slotsNumber (put n) = pos n
+slotsNumber (refusedRun r) = minus r
+
+abbrev pub packedRun : RunOutcome → SlotsLeft
+packedRun o = slotsLeft (slotsNumber (o .answer)) (o .answers) (packedTable (o .lent .chips)) (o .lent .images) (o .lent .pads)
+
+unfoldable pub slotsBytes : List ℕ → List ℕ → List ℕ → ℕ → List ℕ → List ℕ → SlotsLeft
+slotsBytes bs bits answers slots ms ss =
+    let cs = unpackedTable bs in
+    pick (isTable bs) (packedRun (slotsOf (length cs) cs slots bits answers ms ss)) (slotsLeft (minus 8) answers bs ms ss)
 
 -- a search: the answer, and what is left of the list, the table, the images and the scratchpads, and the counts
 pub record SearchLeft : Type 0 where

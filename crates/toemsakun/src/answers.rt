@@ -2,16 +2,18 @@
 use card::CardAnswer;
 use line::Answer;
 use line::Refusal;
+use line::SlotsAnswer;
 use search::SearchAnswer;
 ghost use mathlib.Core.Path.{_≡_};
 ghost use Prim.Native.Nat.{_≤_};
 ghost use lib.IntN.{pos};
 ghost use Rattle.packed.specs.Step.{flag};
 ghost use Rattle.line.specs.Event.{numberOf, answered};
+ghost use Rattle.line.specs.Slots.{slotted};
 ghost use Rattle.card.specs.Card.{carded};
 ghost use Rattle.search.specs.Search.{searched};
-ghost use Rattle.toemsakun.specs.Library.{minus, answerNumber, searchNumber};
-ghost use Rattle.toemsakun.specs.Answers.{cardNumber, cardOffset};
+ghost use Rattle.toemsakun.specs.Library.{minus, answerNumber, slotsNumber, searchNumber};
+ghost use Rattle.toemsakun.specs.Answers.{cardNumber, cardOffset, slotsPut};
 
 // A bus bit.
 fn of_bit(b: bool) -> i32
@@ -25,7 +27,7 @@ fn of_bit(b: bool) -> i32
 
 // A count.
 fn of_count(n: usize) -> i32
-    requires { ⌜ n ≤ 16 ⌝ }
+    requires { ⌜ n ≤ 65535 ⌝ }
     ensures { λ r. ⌜ r ≡ pos n ⌝ }
 {
     n as i32
@@ -46,6 +48,17 @@ pub fn of_event(answer: Answer) -> i32
     match answer {
         Answer::Bit(b) => of_bit(b),
         Answer::Refused(r) => of_refusal(r),
+    }
+}
+
+// What a run of slots answers, of at most as many slots as a run has.
+pub fn of_slots(answer: SlotsAnswer) -> i32
+    requires { ⌜ slotsPut answer ≤ 65535 ⌝ }
+    ensures { λ r. ⌜ r ≡ slotsNumber (slotted answer) ⌝ }
+{
+    match answer {
+        SlotsAnswer::Put(n) => of_count(n),
+        SlotsAnswer::Refused(r) => of_refusal(r),
     }
 }
 

@@ -1,5 +1,6 @@
 // One event on a table that is lent as bytes, each record changed in its place.
 use crate::loops;
+use crate::slots;
 use line::Answer;
 use line::Event;
 use line::Plan;
@@ -9,13 +10,16 @@ use packed::RECORD_SIZE;
 ghost use mathlib.Core.Path.{_≡_};
 ghost use Rattle.base.specs.Pick.{pick};
 ghost use lib.ListN.{length};
-ghost use Rattle.line.specs.Event.{answered};
+ghost use Rattle.line.specs.Event.{bit, answered};
+ghost use Rattle.line.specs.Line.{valueOf, afterBy};
+ghost use Rattle.line.specs.declared.Plan.the-variants as plan;
 ghost use Rattle.line.specs.Carrier.{planSeen};
 ghost use Rattle.line.specs.Carried.{walked};
 ghost use Rattle.packed.specs.Packed.{unpackedTable};
 ghost use Rattle.packed.specs.Places.{Table16};
 ghost use Rattle.toemsakun.specs.Library.{eventLeft, answerNumber, packedOutcome, eventBytes};
 ghost use Rattle.toemsakun.specs.Judging.{planBytes, refusedBy8};
+ghost use Rattle.toemsakun.specs.Slots.{Lined, lineIn};
 
 // What an event comes to, where the bytes may be no table.
 fn plan_if(table: bool, survey: Survey, n: usize, e: Event, images: usize, pads: usize) -> Plan
@@ -53,15 +57,41 @@ fn play(table: &mut [u8], plan: Plan, ms: &mut [u8], ss: &mut [u8]) -> Answer
     line::carrier::answer_of(plan, value)
 }
 
+// A slot in which the host puts a bit, on bytes and buffers that stand well.
+fn put_slot(table: &mut [u8], host: bool, ms: &mut [u8], ss: &mut [u8]) -> Answer
+    requires { ⌜ Lined (now table) (now ms) (now ss) ⌝ }
+    ensures { λ r. ⌜ answered r ≡ bit (valueOf host (lineIn (now (table .entry)) (now (ms .entry)) (now (ss .entry)))) ⌝ }
+    ensures { λ r. ⌜ lineIn (now (table .exit)) (now (ms .exit)) (now (ss .exit)) ≡ afterBy (plan.Slot host) (lineIn (now (table .entry)) (now (ms .entry)) (now (ss .entry))) ⌝ }
+    ensures { λ r. ⌜ Lined (now (table .exit)) (now (ms .exit)) (now (ss .exit)) ⌝ }
+{
+    let all = slots::whole(table);
+    let value = slots::slot(table, all, host, ms, ss);
+    Answer::Bit(value)
+}
+
+// What an event came to is carried out: a slot in place, any other plan the general way.
+fn carry_out(table: &mut [u8], e: Event, plan: Plan, ms: &mut [u8], ss: &mut [u8]) -> Answer
+    requires { ⌜ plan ≡ planBytes (now table) e (now ms) (now ss) ⌝ }
+    ensures { λ r. ⌜ eventLeft (answerNumber (answered r)) (now (table .exit)) (now (ms .exit)) (now (ss .exit))
+        ≡ eventBytes (now (table .entry)) e (now (ms .entry)) (now (ss .entry)) ⌝ }
+{
+    match plan {
+        Plan::Refused(r) => Answer::Refused(r),
+        Plan::Slot(host) => put_slot(table, host, ms, ss),
+        Plan::Reset => play(table, plan, ms, ss),
+        Plan::PowerOn => play(table, plan, ms, ss),
+        Plan::Outside {
+            chip: _,
+            outside: _,
+        } => play(table, plan, ms, ss),
+    }
+}
+
 // One event: its refusals in their order (`line::take_event`), each with nothing changed; else the bus bit.
 pub fn take_event(table: &mut [u8], e: Event, ms: &mut [u8], ss: &mut [u8]) -> Answer
     ensures { λ r. ⌜ eventLeft (answerNumber (answered r)) (now (table .exit)) (now (ms .exit)) (now (ss .exit))
         ≡ eventBytes (now (table .entry)) e (now (ms .entry)) (now (ss .entry)) ⌝ }
 {
     let plan = plan_bytes(table, e, ms, ss);
-    let any = line::carrier::happens(plan);
-    if any {
-        return play(table, plan, ms, ss);
-    }
-    line::carrier::answer_of(plan, true)
+    carry_out(table, e, plan, ms, ss)
 }

@@ -2,6 +2,8 @@
 mod answers;
 mod event;
 mod loops;
+mod runs;
+mod slots;
 
 use line::Survey;
 use line::Table;
@@ -12,7 +14,7 @@ ghost use Rattle.line.specs.Layout.{imagesMost, padsMost};
 ghost use Rattle.line.specs.Events.{eventWith};
 ghost use Rattle.packed.specs.Packed.{tableFrom};
 ghost use Rattle.toemsakun.specs.Laws.{noTable};
-ghost use Rattle.toemsakun.specs.Library.{tableSize, imagesBytes, padsBytes, cardLeft, cardBytes, eventLeft, eventBytes, searchLeft, searchBytes};
+ghost use Rattle.toemsakun.specs.Library.{tableSize, imagesBytes, padsBytes, cardLeft, cardBytes, eventLeft, eventBytes, slotsLeft, slotsBytes, searchLeft, searchBytes};
 
 // What the records of a table come to: whether they are records, and a survey of them.
 pub struct Judged {
@@ -87,6 +89,23 @@ pub extern "C" fn tk_event(
     let e = line::events::numbered(event, chip, outside);
     let answer = event::take_event(table, e, images, pads);
     answers::of_event(answer)
+}
+
+// A run of slots.
+#[no_mangle]
+pub extern "C" fn tk_slots(
+    table: &mut [u8],
+    bits: &[u8],
+    answers: &mut [u8],
+    slots: usize,
+    images: &mut [u8],
+    pads: &mut [u8],
+) -> i32
+    ensures { λ r. ⌜ slotsLeft r (now (answers .exit)) (now (table .exit)) (now (images .exit)) (now (pads .exit))
+        ≡ slotsBytes (now (table .entry)) (now (bits .entry)) (now (answers .entry)) slots (now (images .entry)) (now (pads .entry)) ⌝ }
+{
+    let answer = runs::take_slots(table, bits, answers, slots, images, pads);
+    answers::of_slots(answer)
 }
 
 // Search.

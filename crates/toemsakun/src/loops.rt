@@ -1,39 +1,68 @@
 // The loops over the records of a table, each in its place.
 use crate::Judged;
 use line::Plan;
+use line::Spot;
+use line::Survey;
 use packed::RECORD_SIZE;
 ghost use mathlib.Core.Path.{_≡_};
-ghost use mathlib.Core.List.{[]};
 ghost use Prim.Native.Nat.{_*_, _≤_};
-ghost use lib.ListN.{length, drop};
+ghost use lib.Dec.{eqb};
+ghost use lib.ListN.{length, getD};
 ghost use Rattle.base.specs.Bits.{both};
 ghost use Rattle.line.specs.Layout.{lent};
-ghost use Rattle.line.specs.Carrier.{firstSpot, firstSurvey, surveyChip, busOver, acts};
-ghost use Rattle.line.specs.Carried.{folded};
-ghost use Rattle.packed.specs.Packed.{recordSize, sameBytes, packedTable, unpackedFrom, unpackedTable};
+ghost use Rattle.line.specs.Carrier.{firstSpot, busOver, acts};
+ghost use Rattle.chip.specs.With.{noChip};
+ghost use Rattle.packed.specs.Packed.{recordSize, unpackedFrom, unpackedTable};
 ghost use Rattle.packed.specs.Places.{Table16};
+ghost use Rattle.toemsakun.specs.Standing.{standAs, surveyOf};
 
-// The first n records: whether they are records, and a survey of them.
+// The kind of the chip that an event names, of the first n records; 0 where it is absent.
+fn kind_named(table: &[u8], n: usize, chip: u32) -> u8
+    requires { ⌜ (n ≤ 16) × (n * recordSize ≤ length (now table)) ⌝ }
+    ensures { λ r. ⌜ r ≡ getD (unpackedFrom n (now (table .entry))) chip noChip .kind ⌝ }
+{
+    let named = chip as usize;
+    if named < n {
+        let at = named * RECORD_SIZE;
+        let end = at + RECORD_SIZE;
+        return packed::kind_of(&table[at..end]);
+    }
+    0
+}
+
+// The first n records: whether each stands, and a survey of them, were it so.
 pub fn judge(table: &[u8], n: usize, chip: u32) -> Judged
     requires { ⌜ (n ≤ 16) × (n * recordSize ≤ length (now table)) ⌝ }
-    ensures { λ r. ⌜ both (r .ok) (sameBytes [] (drop (n * recordSize) (now (table .entry)))) ≡ sameBytes (packedTable (unpackedFrom n (now (table .entry)))) (now (table .entry)) ⌝ }
-    ensures { λ r. ⌜ r .survey ≡ folded (surveyChip chip) (unpackedFrom n (now (table .entry))) firstSurvey ⌝ }
+    ensures { λ r. ⌜ both (r .ok) (eqb (length (now (table .entry))) (n * recordSize)) ≡ standAs (unpackedFrom n (now (table .entry))) (now (table .entry)) ⌝ }
+    ensures { λ r. ⌜ r .survey ≡ surveyOf chip (unpackedFrom n (now (table .entry))) ⌝ }
 {
     let mut ok = true;
-    let mut survey = line::carrier::first_survey();
+    let mut image: usize = 0;
+    let mut pad: usize = 0;
     let mut i: usize = 0;
     while i < n {
         let at = i * RECORD_SIZE;
         let end = at + RECORD_SIZE;
-        let c = packed::unpack(&table[at..end]);
-        let good = packed::is_packed(c, &table[at..end]);
+        let good = packed::stands(&table[at..end]);
         ok = base::are_both(ok, good);
-        survey = line::carrier::survey_chip(c, survey, chip);
+        let kind = packed::kind_of(&table[at..end]);
+        image += chip::kinds::image_size(kind);
+        pad += chip::kinds::pad_size(kind);
         i += 1;
     }
+    let named = kind_named(table, n, chip);
+    let spot = Spot {
+        place: n,
+        image: image,
+        pad: pad,
+    };
     Judged {
         ok: ok,
-        survey: survey,
+        survey: Survey {
+            within: true,
+            kind: named,
+            spot: spot,
+        },
     }
 }
 

@@ -1,87 +1,17 @@
 // The line as a process: set up from the card file that its argument names, it answers each event of its standard input at
 // once on its standard output. `0` and `1` are slots, `2` a reset, `3` power on, `4` with a hex digit and a digit the outside
 // levels of a chip; an answer is `0` or `1`, or the letter of the alphabet with the number of a refusal.
+mod runs;
+mod text;
+
 use libc::STDERR_FILENO;
 use libc::STDIN_FILENO;
 use libc::STDOUT_FILENO;
-use line::Answer;
-use line::Refusal;
-ghost use Prim.Native.Nat.{_<_};
-use line::Event;
 use line::Table;
-
-// What of event 4 is still to come.
-enum Pending {
-    Nothing,
-    Chip,
-    Outside(u32),
-}
-
-// What a character gives: nothing yet, or an event; and what is then still to come.
-enum Given {
-    Passed,
-    Awaited(Pending),
-    Whole(Event),
-}
-
-// A number that no chip and no outside levels have.
-const NONE: u32 = 255;
-
-// The number of a hexadecimal digit of either case.
-fn hex_digit(b: u8) -> u32 {
-    if b'0' <= b && b <= b'9' {
-        return (b - b'0') as u32;
-    }
-    if b'A' <= b && b <= b'F' {
-        return (b - b'A') as u32 + 10;
-    }
-    if b'a' <= b && b <= b'f' {
-        return (b - b'a') as u32 + 10;
-    }
-    NONE
-}
-
-// An event that names no chip, by its number.
-fn plain(number: u32) -> Given {
-    Given::Whole(line::events::numbered(number, 0, 0))
-}
-
-// The first character of an event; one that is no event has the number 5.
-fn first(b: u8) -> Given {
-    if b == b'4' {
-        return Given::Awaited(Pending::Chip);
-    }
-    if b'0' <= b && b <= b'3' {
-        return plain((b - b'0') as u32);
-    }
-    plain(5)
-}
-
-// A character, by what is still to come; spaces and line ends are passed over.
-fn read_char(pending: Pending, b: u8) -> Given {
-    if b == b' ' || b == b'\n' || b == b'\r' {
-        return Given::Passed;
-    }
-    match pending {
-        Pending::Nothing => first(b),
-        Pending::Chip => Given::Awaited(Pending::Outside(hex_digit(b))),
-        Pending::Outside(i) => Given::Whole(line::events::outside(i, hex_digit(b))),
-    }
-}
-
-// The letter of a refusal: A for 1, and so on.
-fn refusal_letter(r: Refusal) -> u8 {
-    let number = line::number_of(r);
-    if number < 27 { b'@' + number } else { b'?' }
-}
-
-// The character of an answer.
-fn letter(answer: Answer) -> u8 {
-    match answer {
-        Answer::Bit(b) => { if b { b'1' } else { b'0' } }
-        Answer::Refused(r) => refusal_letter(r),
-    }
-}
+use text::Given;
+use text::Pending;
+ghost use Prim.Native.Nat.{_<_, _≤_};
+ghost use lib.ListN.{length};
 
 // Where the process stands: the table, what of event 4 is still to come, and how many answers wait to be written.
 struct Progress {
@@ -95,7 +25,7 @@ fn take(s: Progress, b: u8, out: &mut [u8], images: &mut [u8], pads: &mut [u8]) 
     let table = s.table;
     let pending = s.pending;
     let answers = s.answers;
-    let what = read_char(pending, b);
+    let what = text::read_char(pending, b);
     match what {
         Given::Passed => s,
         Given::Awaited(next) => Progress {
@@ -107,7 +37,7 @@ fn take(s: Progress, b: u8, out: &mut [u8], images: &mut [u8], pads: &mut [u8]) 
             let happened = line::take_event(table, e, images, pads);
             let answer = happened.answer;
             let after = happened.table;
-            base::put_at(out, answers, letter(answer));
+            base::put_at(out, answers, text::letter(answer));
             Progress {
                 table: after,
                 pending: Pending::Nothing,
@@ -122,7 +52,58 @@ fn more(n: usize) -> usize {
     if n < 65536 { n + 1 } else { n }
 }
 
-// Every character that was read, with its answers put into out.
+// A run of slots that was gathered: as many answers more.
+fn take_run(
+    s: Progress,
+    slots: usize,
+    bits: &[u8],
+    answers: &mut [u8],
+    out: &mut [u8],
+    images: &mut [u8],
+    pads: &mut [u8],
+) -> Progress
+    requires { ⌜ (slots ≤ 65535) × (8192 ≤ length (now bits)) × (8192 ≤ length (now answers)) ⌝ }
+{
+    if slots == 0 {
+        return s;
+    }
+    let table = s.table;
+    let pending = s.pending;
+    let bytes = runs::bytes_of(slots);
+    let ran = line::take_slots(
+        table,
+        &bits[..bytes],
+        slots,
+        &mut answers[..bytes],
+        images,
+        pads,
+    );
+    let answer = ran.answer;
+    let after = ran.table;
+    let place = runs::put_answers(answer, answers, slots, out, s.answers);
+    Progress {
+        table: after,
+        pending: pending,
+        answers: place,
+    }
+}
+
+// The character at a place, if the text goes so far.
+fn take_at(
+    s: Progress,
+    input: &[u8],
+    at: usize,
+    out: &mut [u8],
+    images: &mut [u8],
+    pads: &mut [u8],
+) -> Progress {
+    if at < input.len() {
+        return take(s, input[at], out, images, pads);
+    }
+    s
+}
+
+// Every character that was read, with its answers put into out: a run of slots, then what ends it, and so on.
 fn take_all(
     t: Progress,
     input: &[u8],
@@ -130,12 +111,18 @@ fn take_all(
     images: &mut [u8],
     pads: &mut [u8],
 ) -> Progress {
+    let mut bits = runs::room();
+    let mut answers = runs::room();
     let mut s = t;
     let mut i: usize = 0;
     while i < input.len() {
-        let b = input[i];
-        s = take(s, b, out, images, pads);
-        i += 1;
+        let pending = s.pending;
+        let run = runs::gather(pending, input, i, &mut bits);
+        let slots = run.slots;
+        let next = run.next;
+        s = take_run(s, slots, &bits, &mut answers, out, images, pads);
+        s = take_at(s, input, next, out, images, pads);
+        i = next + 1;
     }
     s
 }

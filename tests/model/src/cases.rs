@@ -9,9 +9,11 @@ use crate::model::card::read_card;
 use crate::model::chip::{Chip, Step, AA, DS2413, DS28EC20, LAST_KIND};
 use crate::model::crc::{crc16, crc8, crc8_from};
 use crate::model::figure4::Figure4;
+use crate::model::lent::{Lent, Run};
 use crate::model::line::Line;
 use crate::model::memory::{IMAGE, PAD};
 use crate::model::programs::list;
+use crate::model::record::pack;
 use crate::model::search::{search_line, Found};
 
 /// A case: whether the model keeps to it.
@@ -45,6 +47,7 @@ pub const CASES: &[(&str, Case)] = &[
     ("E below T mod 32 copies nothing", copy_below),
     ("refusals of an event", event_refusals),
     ("refusals of a search", search_refusals),
+    ("a run of slots", run_of_slots),
     ("a card with few places", few_places),
     ("fields of the other kind stay", other_fields),
 ];
@@ -487,6 +490,34 @@ fn search_refusals(book: &mut Book) -> bool {
     five && search_line(&mut line, 16, book) == nothing(8)
 }
 
+/// Skip ROM, PIO Access Read, the status and three bits of the next: as by events. Refused runs write nothing.
+fn run_of_slots(book: &mut Book) -> bool {
+    let mut desk = Desk::with(&[DS2413], book);
+    desk.event(2);
+    let table = |desk: &Desk| -> Vec<u8> { desk.line.table.iter().flat_map(pack).collect() };
+    let mut lent = Lent {
+        table: table(&desk),
+        ..Lent::default()
+    };
+    for byte in [0xCC, 0xF5, 0xFF] {
+        desk.bits(byte);
+    }
+    desk.lowest(7, 3);
+    let wanted = table(&desk);
+    let mut run = Run {
+        slots: 27,
+        bits: vec![0xCC, 0xF5, 0xFF, 0xE7],
+        answers: vec![0xEE; 4],
+    };
+    let taken = lent.run(&mut run, book) == 27;
+    let read = run.answers == [0xCC, 0xF5, 0x0F, 0x07] && lent.table == wanted;
+    run.slots = 33;
+    let five = lent.run(&mut run, book) == -5;
+    lent.table.push(0);
+    let eight = lent.run(&mut run, book) == -8;
+    taken && read && five && eight && run.answers == [0xCC, 0xF5, 0x0F, 0x07]
+}
+
 fn few_places(book: &mut Book) -> bool {
     let card = [record(1, 1), record(2, 2), record(1, 3)].concat();
     let refusal = |places, book: &mut Book| read_card(&card, places, book).err();
@@ -557,6 +588,7 @@ mod tests {
         copy_below "E below T mod 32 copies nothing",
         event_refusals "refusals of an event",
         search_refusals "refusals of a search",
+        run_of_slots "a run of slots",
         few_places "a card with few places",
         other_fields "fields of the other kind stay",
     }

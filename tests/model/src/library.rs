@@ -6,14 +6,17 @@ mod classes;
 mod damages;
 mod lines;
 mod lists;
+mod run_classes;
+mod runs;
 mod scripts;
+mod stories;
 pub mod trouble;
 
 use std::time::{Duration, Instant};
 
 use crate::gen::rng::Rng;
 use crate::model::book::{Book, Place, Rule, RULES};
-use crate::model::lent::Lent;
+use crate::model::lent::{Lent, Run};
 use crate::model::memory::IMAGE;
 use crate::model::record::RECORD;
 use crate::program::Program;
@@ -33,8 +36,6 @@ pub struct Options {
     pub stop: usize,
     /// How long to wait for an answer.
     pub wait: Duration,
-    /// Time after which no further line is begun, if there is a bound.
-    pub seconds: Option<u64>,
     /// Whether each class is shown with its count.
     pub rules: bool,
 }
@@ -70,6 +71,11 @@ impl Script {
             levels,
         };
         self.add(call, book)
+    }
+
+    /// Adds a run of slots.
+    fn run(&mut self, run: Run, book: &mut Book) -> i32 {
+        self.add(Call::Run(run), book)
     }
 
     /// Adds a search into this list.
@@ -161,6 +167,14 @@ impl Tester {
         });
         self.repeat(3, 4 * each * SIZES.len(), Tester::wrong_size);
         self.repeat(7, 16 * each, Tester::short_address);
+        self.repeat(9, 4 * run_classes::LENGTHS.len(), Tester::run_of_length);
+        self.repeat(
+            10,
+            each * run_classes::SIZES.len(),
+            Tester::run_of_wrong_size,
+        );
+        self.repeat(11, lines / 4, Tester::cut_run);
+        self.repeat(12, (lines / 2500 + 2) * stories::COUNT, Tester::story);
         let numbers = trouble::COUNTS * each;
         self.repeat(trouble::PART, numbers, |tester, rng, number| {
             trouble::script(rng, number, &mut tester.book, &mut tester.classes)
@@ -170,7 +184,7 @@ impl Tester {
         self.repeat(6, lines, Tester::line);
     }
 
-    /// Runs scripts of one part until enough has failed or the time is up.
+    /// Runs scripts of one part until enough has failed.
     fn repeat(
         &mut self,
         part: u64,
@@ -180,14 +194,6 @@ impl Tester {
         for number in 0..count {
             if self.failed >= self.options.stop {
                 self.failed += count - number;
-                return;
-            }
-            let late = |seconds| self.start.elapsed().as_secs() >= seconds;
-            if self.options.seconds.is_some_and(late) {
-                println!(
-                    "time is up: {} scripts of part {part} left out",
-                    count - number
-                );
                 return;
             }
             let mut rng = seed_for(self.options.seed, part, number);
@@ -276,6 +282,7 @@ impl Tester {
             return;
         }
         let mut wanted = classes();
+        wanted.extend(run_classes::classes());
         wanted.extend(damages().into_iter().map(|damage| damage.name));
         let mut counts: Vec<(String, u64)> = wanted
             .into_iter()

@@ -20,9 +20,9 @@ use tester::{run, Options};
 
 const USAGE: &str = "\
 wire-model [--list PROGRAM] [--wire PROGRAM] [--seed N|time] [--cards N] [--scripts N]
-           [--long] [--seconds N] [--stop N] [--wait SECONDS] [--rules]
+           [--long] [--stop N] [--wait SECONDS] [--rules]
 wire-model --library DRIVER [--seed N|time] [--lines N]
-           [--long] [--seconds N] [--stop N] [--wait SECONDS] [--rules]
+           [--long] [--stop N] [--wait SECONDS] [--rules]
 wire-model --serve-list [--slip NAME]
 wire-model --serve-wire CARDFILE [--slip NAME]
 wire-model --serve-library [--slip NAME]
@@ -58,7 +58,6 @@ fn main() -> ExitCode {
                     seed: options.seed,
                     stop: options.stop,
                     wait: options.wait,
-                    seconds: options.seconds,
                     rules: options.rules,
                 })
         }
@@ -85,11 +84,10 @@ fn read_flags() -> Result<(Mode, Options, Option<Slip>), String> {
         list: None,
         wire: None,
         seed: 1,
-        cards: 150,
-        scripts: 600,
+        cards: 60,
+        scripts: 480,
         stop: 10,
         wait: Duration::from_secs(20),
-        seconds: None,
         rules: false,
     };
     let mut flags = std::env::args().skip(1);
@@ -103,13 +101,11 @@ fn read_flags() -> Result<(Mode, Options, Option<Slip>), String> {
             "--scripts" => options.scripts = number(&value()?)?,
             "--stop" => options.stop = number(&value()?)?.max(1),
             "--wait" => options.wait = Duration::from_secs(number(&value()?)? as u64),
-            "--seconds" => options.seconds = Some(number(&value()?)? as u64),
             "--rules" => options.rules = true,
             "--long" => {
                 options.cards = 3000;
                 options.scripts = 20000;
                 lines = 60000;
-                options.seconds = None;
             }
             "--slip" => {
                 let name = value()?;

@@ -30,8 +30,6 @@ pub struct Options {
     pub stop: usize,
     /// How long to wait for an answer.
     pub wait: Duration,
-    /// Time after which no further random input is begun, if there is a bound.
-    pub seconds: Option<u64>,
     /// Whether each rule is shown with its count.
     pub rules: bool,
 }
@@ -49,7 +47,6 @@ const SHRINK_TIME: Duration = Duration::from_secs(15);
 /// A test run.
 struct Tester {
     options: Options,
-    start: Instant,
     /// Where card files are kept during the run.
     folder: PathBuf,
     passed: usize,
@@ -96,7 +93,6 @@ pub fn run(options: Options) -> bool {
     }
     let mut tester = Tester {
         options,
-        start,
         folder,
         passed: 0,
         failed: 0,
@@ -130,13 +126,6 @@ impl Tester {
     /// Whether enough has failed.
     fn is_over(&self) -> bool {
         self.failed >= self.options.stop
-    }
-
-    /// Whether so many percent of the time allowed are used up.
-    fn is_late(&self, percent: u64) -> bool {
-        let used = self.start.elapsed().as_millis() as u64;
-        let bound = self.options.seconds;
-        bound.is_some_and(|seconds| used > seconds * 10 * percent)
     }
 
     /// Names the rules that the run should have reached and has not.
@@ -235,10 +224,6 @@ impl Tester {
                 self.failed += total - number;
                 return;
             }
-            if number >= fixed && self.is_late(40) {
-                println!("time is up: {} random cards left out", total - number);
-                return;
-            }
             let mut rng = seed_for(seed, 1, number);
             let card = match number {
                 0..=16 => card_of(&mut rng, number),
@@ -320,11 +305,6 @@ impl Tester {
         // Random stories on random lines.
         let mut number = 0;
         while number < self.options.scripts {
-            if self.is_late(100) {
-                let left = self.options.scripts - number;
-                println!("time is up: {left} random scripts left out");
-                return;
-            }
             let mut rng = seed_for(seed, 4, number);
             let style = rng.pick(&[
                 Style::OneMemory,

@@ -3,8 +3,12 @@
 use std::io::{self, Read, Write};
 
 use crate::model::book::Book;
-use crate::model::lent::{card, memories_asked, table_size, Lent};
+use crate::model::lent::{card, memories_asked, table_size, Lent, Run};
 use crate::model::memory::{IMAGE, PAD};
+use crate::report::hex;
+
+/// Most bytes of a run's bits that are shown.
+const SHOWN: usize = 64;
 
 /// A call. A piece of memory is its bytes.
 #[derive(Clone)]
@@ -13,6 +17,7 @@ pub enum Call {
     Card { card: Vec<u8>, table: Vec<u8> },
     Lend(Lent),
     Event { event: u32, chip: u32, levels: u32 },
+    Run(Run),
     Search { list: Vec<u64> },
     Images,
 }
@@ -71,6 +76,12 @@ impl Call {
                     bytes.extend(number.to_le_bytes());
                 }
             }
+            Call::Run(run) => {
+                bytes.push(b'R');
+                bytes.extend(run.slots.to_le_bytes());
+                add_piece(&mut bytes, &run.bits);
+                add_piece(&mut bytes, &run.answers);
+            }
             Call::Search { list } => {
                 bytes.push(b'F');
                 add_piece(&mut bytes, &list_bytes(list));
@@ -109,6 +120,13 @@ impl Call {
                 bytes.extend(answer.to_le_bytes());
                 add_line(&mut bytes, lent);
             }
+            Call::Run(run) => {
+                let mut run = run.clone();
+                let answer = lent.run(&mut run, book);
+                bytes.extend(answer.to_le_bytes());
+                add_piece(&mut bytes, &run.answers);
+                add_line(&mut bytes, lent);
+            }
             Call::Search { list } => {
                 let mut list = list.clone();
                 let searched = lent.search(&mut list, book);
@@ -141,6 +159,13 @@ impl Call {
                 chip,
                 levels,
             } => format!("tk_event {event}, chip {chip}, levels {levels}"),
+            Call::Run(run) => format!(
+                "tk_slots, {} slots, {} bytes of bits from {} on, {} bytes of answers",
+                run.slots,
+                run.bits.len(),
+                hex(&run.bits[..run.bits.len().min(SHOWN)]),
+                run.answers.len()
+            ),
             Call::Search { list } => format!("tk_search, {} places", list.len()),
             Call::Images => "the images".into(),
         }
@@ -180,6 +205,11 @@ fn read_call(letter: u8, input: &mut impl Read) -> io::Result<Call> {
             chip: number(input, 4)? as u32,
             levels: number(input, 4)? as u32,
         },
+        b'R' => Call::Run(Run {
+            slots: number(input, 8)?,
+            bits: piece(input)?,
+            answers: piece(input)?,
+        }),
         b'F' => {
             let bytes = piece(input)?;
             let codes = bytes.chunks_exact(8);

@@ -83,7 +83,9 @@ impl Tester {
         let refused = self.event(&mut script, event) == -8;
         let places = rng.below(20);
         let searched = self.searched(&mut script, rng, places) == -8;
-        self.classes.saw_if(refused && searched, &damage.name);
+        let ran = self.refused_run(&mut script, rng) == -8;
+        self.classes
+            .saw_if(refused && searched && ran, &damage.name);
         self.classes.saw_if(refused && wrong, "order: 8 before 5");
         self.classes.saw_if(searched, "search: refused by 8");
         script
@@ -114,8 +116,9 @@ impl Tester {
         script.lend(lent, &mut self.book);
         let refused = events.map(|event| self.event(&mut script, event) == -5);
         let searched = self.searched(&mut script, rng, 3) == -5;
+        let ran = self.refused_run(&mut script, rng) == -5;
         let name = SIZES[number % SIZES.len()];
-        self.classes.saw_if(refused[0] && searched, name);
+        self.classes.saw_if(refused[0] && searched && ran, name);
         self.classes
             .saw_if(refused[1] && refused[2], "order: 5 before 6 or 7");
         self.classes.saw_if(searched, "search: refused by 5");

@@ -16,6 +16,17 @@ pub struct Lent {
     pub pads: Vec<u8>,
 }
 
+/// What a caller lends for a run of slots beside the line: bits of the host, and room for those on the bus.
+#[derive(Clone)]
+pub struct Run {
+    pub slots: u64,
+    pub bits: Vec<u8>,
+    pub answers: Vec<u8>,
+}
+
+/// The most slots in a run.
+pub const MOST_SLOTS: u64 = 65_535;
+
 /// What a search answers.
 #[derive(Debug, PartialEq, Eq)]
 pub struct Searched {
@@ -117,6 +128,28 @@ impl Lent {
             Ok(bit) => i32::from(bit),
             Err(refusal) => -i32::from(refusal),
         }
+    }
+
+    /// A run of slots, the first bit of a byte its lowest: how many, or minus the refusal.
+    pub fn run(&mut self, run: &mut Run, book: &mut Book) -> i32 {
+        let mut line = match self.line() {
+            Ok(line) => line,
+            Err(refusal) => return -i32::from(refusal),
+        };
+        let asked = run.slots.div_ceil(8);
+        let fits = |piece: &[u8]| piece.len() as u64 == asked;
+        if run.slots > MOST_SLOTS || !fits(&run.bits) || !fits(&run.answers) {
+            return -5;
+        }
+        run.answers.fill(0);
+        for slot in 0..run.slots as usize {
+            let host = run.bits[slot / 8] >> (slot % 8) & 1;
+            let value = line.event(host.into(), 0, 0, book);
+            let value = value.expect("a slot is not refused on a line in range");
+            run.answers[slot / 8] |= value << (slot % 8);
+        }
+        self.take(line);
+        run.slots as i32
     }
 
     /// A search into a list.
