@@ -15,7 +15,8 @@ use Rattle.line.specs.declared.Event.{Event}
 use Rattle.card.specs.Card.{carded, Read, all, none, readFrom, SetUp, setUp, fromRead, setUpOf}
 use Rattle.card.specs.declared.CardAnswer.{CardAnswer}
 use Rattle.search.specs.Prefix.{searchRest, search-rest}
-use Rattle.search.specs.Search.{searched, attached, Search, outcome as found, searchOf}
+use Rattle.line.specs.Attached.{attached}
+use Rattle.search.specs.Search.{searched, Search, outcome as found, searchOf}
 use Rattle.search.specs.declared.SearchAnswer.{SearchAnswer}
 use Rattle.card.specs.Fits.{AtMost, read-fits}
 use Rattle.coincide.specs.Answered.{answered-once}

@@ -12,7 +12,8 @@ use Rattle.line.specs.Slots.{slotsOf}
 use Rattle.line.specs.Prefix.{event-holds}
 use Rattle.line.specs.Refusals.{chips-split}
 use Rattle.search.specs.Prefix.{search-has}
-use Rattle.search.specs.Search.{Attached, attached, leavesOf, searchOf}
+use Rattle.line.specs.Attached.{Attached, attached, leavesOf}
+use Rattle.search.specs.Search.{searchOf}
 use Rattle.histories.specs.Histories.{codesOf}
 use Rattle.histories.specs.Standing.{lineFrom, codes-chips}
 use Rattle.histories.specs.Calls.{Call, event-call, search-call, slots-call, leavesCall, callsOn}

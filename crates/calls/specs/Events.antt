@@ -2,7 +2,7 @@
 use mathlib.Core.List.{List, [], _∷_, map}
 use mathlib.Core.Path.{refl, _∙_, ap}
 use Rattle.line.specs.declared.Event.{Event}
-use Rattle.search.specs.Search.{Attached}
+use Rattle.line.specs.Attached.{Attached}
 use Rattle.histories.specs.Joined.{runOn, answersOn}
 use Rattle.calls.specs.Form.{Form, Meets}
 

@@ -7,7 +7,8 @@ use mathlib.Core.Path.{_≡_, refl, _∙_, ap}
 use Rattle.line.specs.Event.{Answered}
 use Rattle.line.specs.Slots.{RunOutcome}
 use Rattle.line.specs.declared.Event.{Event}
-use Rattle.search.specs.Search.{Attached, saysOf, leavesOf, Search, searchOf}
+use Rattle.line.specs.Attached.{Attached, saysOf, leavesOf}
+use Rattle.search.specs.Search.{Search, searchOf}
 use Rattle.histories.specs.Standing.{Stands}
 use Rattle.histories.specs.Slots.{slotsOn, leftByRun}
 use Rattle.histories.specs.Calls.{Call, event-call, search-call, slots-call, leavesCall, callsOn, stands-calls}

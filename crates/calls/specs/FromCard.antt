@@ -20,7 +20,7 @@ use Rattle.card.specs.declared.CardAnswer.{CardAnswer}
 use Rattle.card.proofs.set_up as set-up
 use Rattle.card.proofs.set_up.Reads as set-up-reads
 use Rattle.lent.proofs.set_up as lent-set-up
-use Rattle.search.specs.Search.{attached}
+use Rattle.line.specs.Attached.{attached}
 use Rattle.packed.specs.Packed.{recordSize, packedTable, unpackedTable, isTable}
 use Rattle.packed.specs.Laws.{table-length, unpacked-table, of-table}
 use Rattle.toemsakun.specs.Library.{CardLeft, cardLeft, cardFrom, cardBytes}

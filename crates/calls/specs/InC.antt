@@ -10,7 +10,8 @@ use lib.IntN.{ℤ}
 use Rattle.base.specs.Pick.{pick-true}
 use Rattle.line.specs.Slots.{RunOutcome}
 use Rattle.line.specs.declared.Event.{Event}
-use Rattle.search.specs.Search.{saysOf, leavesOf, Search, searchOf}
+use Rattle.line.specs.Attached.{saysOf, leavesOf}
+use Rattle.search.specs.Search.{Search, searchOf}
 use Rattle.packed.specs.Packed.{isTable}
 use Rattle.toemsakun.specs.Library.{answerNumber, EventLeft, eventLeft, eventBytes, slotsNumber, SlotsLeft, slotsLeft, slotsBytes, searchNumber, SearchLeft, searchLeft, searchBytes}
 use Rattle.toemsakun.proofs.tk_event as tk-event

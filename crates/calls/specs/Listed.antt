@@ -4,7 +4,8 @@ use mathlib.Core.List.{List}
 use mathlib.Core.Path.{_≡_, _∙_, ap, sym}
 use lib.ListN.{length}
 use Rattle.search.specs.Host.{searchHost}
-use Rattle.search.specs.Search.{Attached, Search, searchOf}
+use Rattle.line.specs.Attached.{Attached}
+use Rattle.search.specs.Search.{Search, searchOf}
 use Rattle.histories.specs.Below.{Codes}
 use Rattle.histories.specs.Histories.{codesOf}
 use Rattle.histories.specs.Standing.{lineFrom}

@@ -27,7 +27,8 @@ use Rattle.line.proofs.take_slots as take-slots
 use Rattle.line.proofs.take_slots.Reads as take-slots-reads
 use Rattle.search.proofs.search_line as search-line
 use Rattle.search.proofs.search_line.Reads as search-line-reads
-use Rattle.search.specs.Search.{Attached, attached, leftBy, saysOf, leavesOf, searched, Search, outcome as found, completeOr4, searchBy, searchOf}
+use Rattle.line.specs.Attached.{Attached, attached, leftBy, saysOf, leavesOf}
+use Rattle.search.specs.Search.{searched, Search, outcome as found, completeOr4, searchBy, searchOf}
 use Rattle.search.specs.declared.SearchAnswer.{SearchAnswer}
 use Rattle.search.specs.declared.SearchAnswer.the-variants as search
 use Rattle.search.specs.declared.Found.{Found}

@@ -6,7 +6,7 @@ use mathlib.Core.List.{List, [], map}
 use mathlib.Core.Path.{_≡_, _∙_, ap, sym, subst}
 use Rattle.line.specs.Event.{Answered}
 use Rattle.line.specs.declared.Event.{Event}
-use Rattle.search.specs.Search.{Attached}
+use Rattle.line.specs.Attached.{Attached}
 use Rattle.histories.specs.Histories.{came}
 use Rattle.histories.specs.Standing.{lineFrom}
 use Rattle.histories.specs.Joined.{runOn, answersOn}

@@ -12,7 +12,8 @@ use Rattle.line.specs.Event.{Answered, bit, refused}
 use Rattle.line.specs.Layout.{Lent}
 use Rattle.line.specs.Slots.{Slotted, put, refused as refusedRun, runOutcome}
 use Rattle.line.specs.declared.Event.{Event}
-use Rattle.search.specs.Search.{Searched, complete, refused as refusedBy, Attached, leftBy, saysOf, leavesOf, Search, outcome, searchOf}
+use Rattle.line.specs.Attached.{Attached, leftBy, saysOf, leavesOf}
+use Rattle.search.specs.Search.{Searched, complete, refused as refusedBy, Search, outcome, searchOf}
 use Rattle.packed.specs.Packed.{isTable}
 use Rattle.toemsakun.specs.Library.{answerNumber, EventLeft, eventBytes, slotsNumber, slotsBytes, searchNumber, searchBytes}
 use Rattle.refusals.specs.Event.{refused-leaves}

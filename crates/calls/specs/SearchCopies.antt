@@ -21,7 +21,8 @@ use Rattle.line.specs.Event.{Answered, bit, askedBy, planEvent, outsideFits, pl
 use Rattle.line.specs.Events.{slotEvent, resetEvent}
 use Rattle.line.specs.declared.Event.{Event}
 use Rattle.search.specs.Host.{Host, done, ask, End, Listed, bind, UnderWay, begun, nextPlace, pass, write, upTo, passes, searchHost}
-use Rattle.search.specs.Search.{Attached, saysOf, leavesOf, searchOf}
+use Rattle.line.specs.Attached.{Attached, saysOf, leavesOf}
+use Rattle.search.specs.Search.{searchOf}
 use Rattle.histories.specs.Histories.{noWhole, at, answerOf, afterOf, run}
 use Rattle.histories.specs.Standing.{Stands, lineFrom, says-is, line-after, stands-after}
 use Rattle.histories.specs.Joined.{run-joined}

@@ -22,7 +22,8 @@ use Rattle.line.specs.declared.Answer.{Answer}
 use Rattle.lent.proofs.take_event as take-event
 use Rattle.lent.proofs.search_line as search-line
 use Rattle.lent.specs.declared.Told.{Told as Returned}
-use Rattle.search.specs.Search.{attached, leftBy, saysOf, leavesOf, searched, Search, outcome as found, searchOf}
+use Rattle.line.specs.Attached.{attached, leftBy, saysOf, leavesOf}
+use Rattle.search.specs.Search.{searched, Search, outcome as found, searchOf}
 use Rattle.agreement.specs.Slice.{ofLent}
 use Rattle.calls.specs.Told.{Told, told, ToldSlots, toldSlots, NoCall}
 use Rattle.calls.specs.Form.{Meets, Form}

@@ -7,7 +7,7 @@ use mathlib.Core.Path.{_≡_, _∙_, ap}
 use Rattle.chip.specs.Chip.{takesOf}
 use Rattle.line.specs.Event.{Answered, bit, refused}
 use Rattle.line.specs.declared.Event.{Event}
-use Rattle.search.specs.Search.{Attached, saysOf, leavesOf}
+use Rattle.line.specs.Attached.{Attached, saysOf, leavesOf}
 use Rattle.histories.specs.Histories.{at}
 use Rattle.histories.specs.Standing.{lineFrom}
 use Rattle.wired.specs.Wired.{AllSendOne}

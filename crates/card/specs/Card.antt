@@ -28,6 +28,10 @@ carded (TooMany at) = refused 1 at
 carded (UnknownKind at) = refused 2 at
 carded (WrongLength at) = refused 3 at
 
+-- the length of a record: "length (..), kind (2 bytes), eight code bytes"
+abbrev pub entryLength : ℕ
+entryLength = 10
+
 -- a record whose length runs past the end: "kind gives 2; wrong length or cut body gives 3"
 unfoldable pub cutEntry : ℕ → Entry
 cutEntry kind = pick (knownKind kind) entry.WrongLength entry.UnknownKind
@@ -36,7 +40,7 @@ cutEntry kind = pick (knownKind kind) entry.WrongLength entry.UnknownKind
 unfoldable pub wholeEntry : List ℕ → ℕ → ℕ → ℕ → ℕ → ℕ → Entry
 wholeEntry s room size kind body next =
     pick (knownKind kind)
-    (pick (eqb size 10)
+    (pick (eqb size entryLength)
     (pick (ltb 0 room) (entry.Taken (numberAt s body 8) kind next)
     entry.TooMany)
     entry.WrongLength)

@@ -5,6 +5,9 @@ ghost use mathlib.Core.Path.{_≡_};
 ghost use Rattle.chip.specs.Kinds.{knownKind};
 ghost use Rattle.card.specs.Card.{carded, cutEntry, wholeEntry, entryAt, setUp, setUpOf};
 
+// The length of a card's record: its kind and eight code bytes.
+pub const ENTRY_LENGTH: u16 = 10;
+
 // What set-up answers: the number of chips, or a refusal with the offset of the record's first byte.
 pub enum CardAnswer {
     Chips(usize),
@@ -34,7 +37,7 @@ pub enum Entry {
 }
 
 // A kind that a card may name.
-fn is_known(kind: u16) -> bool
+pub fn is_known(kind: u16) -> bool
     ensures { λ r. ⌜ r ≡ knownKind kind ⌝ }
 {
     if kind < 256 {
@@ -58,7 +61,7 @@ fn whole_entry(s: &[u8], room: usize, size: u16, kind: u16, body: usize, next: u
     ensures { λ r. ⌜ r ≡ wholeEntry (now (s .entry)) room size kind body next ⌝ }
 {
     if is_known(kind) {
-        if size == 10 {
+        if size == ENTRY_LENGTH {
             if 0 < room {
                 let code = records::code_at(s, body);
                 return Entry::Taken {

@@ -12,7 +12,7 @@ use Rattle.line.specs.Event.{Answered, bit}
 use Rattle.line.specs.Layout.{lineOf, imagesSize, padsSize}
 use Rattle.line.specs.declared.Event.{Event}
 use Rattle.card.specs.Card.{SetUp, setUpOf}
-use Rattle.search.specs.Search.{Attached, attached}
+use Rattle.line.specs.Attached.{Attached, attached}
 use Rattle.line.specs.Events.{slotEvent, resetEvent, powerOnEvent}
 use Rattle.search.specs.Host.{heard}
 use Rattle.histories.specs.Histories.{run, answers}

@@ -11,7 +11,8 @@ use Rattle.line.specs.Event.{bit}
 use Rattle.line.specs.declared.Event.{Event}
 use Rattle.scratchpad.specs.Registers.{registers}
 use Rattle.scratchpad.specs.declared.MemoryPhase.the-variants.{SendCrc}
-use Rattle.search.specs.Search.{Attached, searchOf, complete, refused}
+use Rattle.line.specs.Attached.{Attached}
+use Rattle.search.specs.Search.{searchOf, complete, refused}
 use Rattle.histories.specs.Histories.{at, run, lineWire}
 use Rattle.histories.specs.Sent.{byteSlots}
 use Rattle.line.specs.Events.{resetEvent, powerOnEvent, outsideEvent}

@@ -75,6 +75,9 @@ records-pair κs a x y v w p q = (p ∙ sym q, refl)
 pub records-code : Settled records.code.ended records.code.Reads.Learnt
 records-code κs a x y v w p q = (p ∙ sym q, refl)
 
+pub records-pair-at : Settled records.pair_at.ended records.pair_at.Reads.Learnt
+records-pair-at κs a x y v w p q = (p ∙ sym q, refl)
+
 pub records-code-at : Settled records.code_at.ended records.code_at.Reads.Learnt
 records-code-at κs a x y v w p q = (p ∙ sym q, refl)
 

@@ -75,6 +75,12 @@ line-number-of κs a x y v w p q = (p ∙ sym q, refl)
 pub line-used-places : Settled line.used_places.ended line.used_places.Reads.Learnt
 line-used-places κs a x y v w p q = (p .0 ∙ sym (q .0), refl)
 
+pub line-bytes-asked : Settled line.bytes_asked.ended line.bytes_asked.Reads.Learnt
+line-bytes-asked κs a x y v w p q = (p ∙ sym q, refl)
+
+pub line-slot-bit : Settled line.slot_bit.ended line.slot_bit.Reads.Learnt
+line-slot-bit κs a x y v w p q = (p ∙ sym q, refl)
+
 pub line-how-stands : Settled line.how_stands.ended line.how_stands.Reads.Learnt
 line-how-stands κs a x y v w p q = (p ∙ sym q, refl)
 

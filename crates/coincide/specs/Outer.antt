@@ -10,6 +10,9 @@ use Rattle.coincide.specs.Settled.{Settled, Fixed, two-facts}
 
 -- card
 
+pub card-is-known : Settled card.is_known.ended card.is_known.Reads.Learnt
+card-is-known κs a x y v w p q = (p ∙ sym q, refl)
+
 pub card-entry-at : Settled card.entry_at.ended card.entry_at.Reads.Learnt
 card-entry-at κs a x y v w p q = (p ∙ sym q, refl)
 
@@ -69,6 +72,9 @@ toemsakun-tk-pads-size κs a x y v w p q = (p .0 ∙ sym (q .0), refl)
 
 -- terminal
 
+pub terminal-say-refused : Settled terminal.say_refused.ended terminal.say_refused.Reads.Learnt
+terminal-say-refused κs a x y v w p q = (refl, refl)
+
 pub terminal-refused-card : Settled terminal.refused_card.ended terminal.refused_card.Reads.Learnt
 terminal-refused-card κs a x y v w p q = (p ∙ sym q, refl)
 
@@ -83,3 +89,6 @@ terminal-image-room κs a x y v w p q = (p .0 ∙ sym (q .0), refl)
 
 pub terminal-pad-room : Settled terminal.pad_room.ended terminal.pad_room.Reads.Learnt
 terminal-pad-room κs a x y v w p q = (p .0 ∙ sym (q .0), refl)
+
+pub terminal-turns-left : Settled terminal.turns_left.ended terminal.turns_left.Reads.Learnt
+terminal-turns-left κs a x y v w p q = (p .0 ∙ sym (q .0), refl)

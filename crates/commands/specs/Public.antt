@@ -12,7 +12,7 @@ use Rattle.chip.specs.declared.Level.the-variants.{Memory}
 use Rattle.line.specs.Event.{planOn}
 use Rattle.line.specs.Events.{resetEvent, powerOnEvent}
 use Rattle.line.specs.declared.Event.{Event}
-use Rattle.search.specs.Search.{Attached}
+use Rattle.line.specs.Attached.{Attached}
 use Rattle.histories.specs.Histories.{at, run}
 use Rattle.histories.specs.Standing.{Stands, lineFrom, line-good, line-length}
 use Rattle.histories.specs.Joined.{runOn, run-joined, stands-on}

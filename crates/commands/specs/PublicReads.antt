@@ -8,7 +8,7 @@ use lib.ListN.{length}
 use Rattle.ds28ec20.specs.Map.{lastAddress}
 use Rattle.chip.specs.Chip.{Whole, resetOf}
 use Rattle.line.specs.Event.{Answered}
-use Rattle.search.specs.Search.{Attached}
+use Rattle.line.specs.Attached.{Attached}
 use Rattle.histories.specs.Histories.{at, run, answers}
 use Rattle.histories.specs.Standing.{lineFrom}
 use Rattle.histories.specs.Joined.{runOn, answersOn, run-joined, answers-joined}

@@ -1,11 +1,13 @@
 -- Lists of numbers below a limit: "A code is 64 bits", and bytes. How such lists are put together and taken apart, and one test that is
 -- computed.
-use Prim.Native.Nat.{ℕ, _^_, _<_}
+use Prim.Native.Nat.{ℕ, zero, suc, _^_, _<_}
+use native.Mathlib.Omega.{arith}
 use mathlib.Core.Bool.{Bool, true}
-use mathlib.Core.List.{List, [], _∷_, List·Memᴰ, List·Memᴰ·head, List·Memᴰ·tail, List·Memᴰ·cases-cons, List·Memᴰ·not-nil}
+use mathlib.Core.List.{List, [], _∷_, _++_, List·Memᴰ, List·Memᴰ·head, List·Memᴰ·tail, List·Memᴰ·cases-cons, List·Memᴰ·append-cases, List·Memᴰ·not-nil}
 use mathlib.Core.Logic.{_⊎_, inl, inr}
 use mathlib.Core.Path.{_≡_, refl}
 use lib.Dec.{ltb}
+use lib.ListN.{take, drop, getD}
 use borrow.Author.Tests.{ltb-true}
 use Rattle.base.specs.Bits.{both}
 use Rattle.base.specs.Both.{both-holds}
@@ -49,3 +51,27 @@ module _ (n : ℕ) where
   pub all-below : (cs : List ℕ) → allBelow cs ≡ true → Below n cs
   all-below [] e = none-below
   all-below (c ∷ cs) e = let h = both-holds (ltb c n) (allBelow cs) e in one-below c cs (ltb-true c n (h .0)) (all-below cs (h .1))
+
+-- the byte at any offset, 0 where there is none
+pub byte-at : (s : List ℕ) → Bytes s → (i : ℕ) → getD s i 0 < 256
+byte-at [] b i = omega arith
+byte-at (x ∷ s) b zero = first-below 256 x s b
+byte-at (x ∷ s) b (suc i) = byte-at s (others-below 256 x s b) i
+
+-- bytes after bytes; some of the first of them, and those after them
+pub append-bytes : (xs ys : List ℕ) → Bytes xs → Bytes ys → Bytes (xs ++ ys)
+append-bytes xs ys f g x m = go (List·Memᴰ·append-cases xs m)
+  where
+    go : List·Memᴰ x xs ⊎ List·Memᴰ x ys → x < 256
+    go (inl l) = f x l
+    go (inr r) = g x r
+
+pub take-bytes : (n : ℕ) (xs : List ℕ) → Bytes xs → Bytes (take n xs)
+take-bytes zero xs h = none-below 256
+take-bytes (suc n) [] h = none-below 256
+take-bytes (suc n) (x ∷ xs) h = one-below 256 x (take n xs) (first-below 256 x xs h) (take-bytes n xs (others-below 256 x xs h))
+
+pub drop-bytes : (n : ℕ) (xs : List ℕ) → Bytes xs → Bytes (drop n xs)
+drop-bytes zero xs h = h
+drop-bytes (suc n) [] h = h
+drop-bytes (suc n) (x ∷ xs) h = drop-bytes n xs (others-below 256 x xs h)

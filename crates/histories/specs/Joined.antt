@@ -12,7 +12,8 @@ use Rattle.line.specs.declared.Event.{Event}
 use Rattle.search.specs.Host.{Host, done, ask, Played, played, more, resetsOf, slotsOf, play, searchHost}
 use Rattle.line.specs.Refusals.{well-judged}
 use Rattle.line.specs.declared.Verdict.{Verdict}
-use Rattle.search.specs.Search.{Attached, saysOf, leavesOf, wire, fromPlayed, searchBy, searchOf}
+use Rattle.line.specs.Attached.{Attached, saysOf, leavesOf}
+use Rattle.search.specs.Search.{wire, fromPlayed, searchBy, searchOf}
 use Rattle.line.specs.Fitted.{length-chips}
 use Rattle.histories.specs.Histories.{answerOf, afterOf, run, answers, lineWire}
 use Rattle.histories.specs.Standing.{Stands, lineFrom, withLine, line-length, put-back, says-is, leaves-is, stands-after, line-after, after-length}

@@ -29,8 +29,8 @@ use Rattle.card.specs.Card.{chips, refused, cutEntry, wholeEntry, entryOf, entr
 use Rattle.card.specs.Fits.{AtMost, read-few}
 use Rattle.card.specs.declared.Entry.{Entry}
 use Rattle.card.specs.declared.Entry.the-variants as entry
-use Rattle.search.specs.Search.{Attached, attached}
-use Rattle.histories.specs.Below.{Codes, Bytes, none-below, one-below, first-below, others-below}
+use Rattle.line.specs.Attached.{Attached, attached}
+use Rattle.histories.specs.Below.{Codes, Bytes, none-below, one-below, byte-at}
 use Rattle.histories.specs.Histories.{at, codesOf}
 use Rattle.histories.specs.Range.{both-true′}
 use Rattle.histories.specs.Keeps.{range-in}
@@ -61,7 +61,7 @@ chipsFrom card i (suc k) = chipIn card i ∷ chipsFrom card (suc i) k
 -- reading them -----------------------------------------------------------------------------------
 
 -- a chip as set-up leaves it
-set-up-range : (code kind : ℕ) → knownKind kind ≡ true → inRange (setUpChip code kind) ≡ true
+pub set-up-range : (code kind : ℕ) → knownKind kind ≡ true → inRange (setUpChip code kind) ≡ true
 unfolding setUpChip switchInRange both pick
 set-up-range code kind k = range-in (setUpChip code kind) (record { known = k; clear = refl; pins = refl; place = refl })
 
@@ -129,12 +129,6 @@ chips-from-at card i zero m (suc k) e l = let f : i ≡ m = omega arith in ap (c
 chips-from-at card i (suc j) m (suc k) e l = chips-from-at card (suc i) j m k (omega arith) (omega arith)
 
 -- "eight code bytes": the codes of a card of bytes have 64 bits
-byte-at : (s : List ℕ) → Bytes s → (i : ℕ) → getD s i 0 < 256
-byte-at [] b zero = omega arith
-byte-at [] b (suc i) = omega arith
-byte-at (x ∷ s) b zero = first-below 256 x s b
-byte-at (x ∷ s) b (suc i) = byte-at s (others-below 256 x s b) i
-
 byte-more : (x y m : ℕ) → x < 256 → y < m → x + 256 * y < 256 * m
 byte-more x y m h k = omega arith
 

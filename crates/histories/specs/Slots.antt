@@ -20,7 +20,7 @@ use Rattle.line.specs.declared.Plan.the-variants as plan
 use Rattle.line.specs.declared.Refusal.the-variants.{WrongSize}
 use Rattle.line.specs.declared.Verdict.{Verdict}
 use Rattle.line.specs.declared.Verdict.the-variants as verdict
-use Rattle.search.specs.Search.{Attached}
+use Rattle.line.specs.Attached.{Attached}
 use Rattle.histories.specs.Histories.{answerOf, afterOf, run, answers}
 use Rattle.histories.specs.Range.{both-true′}
 use Rattle.histories.specs.Sent.{slots}
@@ -54,13 +54,21 @@ unfolding answerOf
 answer-slot b L = ap (λ (p : Plan). answerBy p L) (planned-slot b L)
 
 -- slot events on a line leave what the run leaves, and answer its bits
-slots-leave : (bs : List Bool) (L : List Whole) → run (slots bs) L ≡ ranOn bs L .line
+pub slots-leave : (bs : List Bool) (L : List Whole) → run (slots bs) L ≡ ranOn bs L .line
 slots-leave [] L = refl
 slots-leave (b ∷ bs) L = ap (run (slots bs)) (after-slot b L) ∙ slots-leave bs (afterBy (plan.Slot b) L)
 
 slots-answer : (bs : List Bool) (L : List Whole) → answers (slots bs) L ≡ map bit (ranOn bs L .bits)
 slots-answer [] L = refl
 slots-answer (b ∷ bs) L = λ j. answer-slot b L j ∷ (ap (answers (slots bs)) (after-slot b L) ∙ slots-answer bs (afterBy (plan.Slot b) L)) j
+
+-- on a table that stands well they leave the table with the line that the run leaves, and answer its bits
+module _ (bs : List Bool) (l : Attached) (s : Stands l) where
+  pub slots-left : runOn (slots bs) l ≡ withLine l (ranOn bs (lineFrom l) .line)
+  slots-left = run-left (slots bs) l s ∙ ap (withLine l) (slots-leave bs (lineFrom l))
+
+  pub slots-answered : answersOn (slots bs) l ≡ map bit (ranOn bs (lineFrom l) .bits)
+  slots-answered = answers-joined (slots bs) l s ∙ slots-answer bs (lineFrom l)
 
 -- a run is judged well where the table is in range and all sizes fit, and to 5 where one does not
 module _ (n : ℕ) (cs : List Chip) (slots : ℕ) (bits out ms ss : List ℕ) where
@@ -95,10 +103,10 @@ module _ (n : ℕ) (bits out : List ℕ) (l : Attached) (s : Stands l) where
       let bs = hostBits n bits in
       let r = ranOn bs (lineFrom l) in
       let w = run-well (l .count) (l .lent .chips) n bits out (l .lent .images) (l .lent .pads) (sym e) in
-      let left : withLine l (r .line) ≡ runOn (slots bs) l = ap (withLine l) (sym (slots-leave bs (lineFrom l))) ∙ sym (run-left (slots bs) l s) in
+      let left = sym (slots-left bs l s) in
       record {
         bits = r .bits;
-        answered = answers-joined (slots bs) l s ∙ slots-answer bs (lineFrom l);
+        answered = slots-answered bs l s;
         comes = by-verdict verdict.Well e
             ∙ sym (put-all (l .count) (l .lent .chips) n bits out (l .lent .images) (l .lent .pads) w _ _ _ _ _ refl refl refl)
             ∙ (λ j. runOutcome (put n) (bytesFrom (length out) (r .bits)) (left j .count) (left j .lent));

@@ -28,7 +28,7 @@ use Rattle.line.specs.declared.Plan.{Plan}
 use Rattle.line.specs.declared.Verdict.{Verdict}
 use Rattle.line.specs.declared.Plan.the-variants as plan
 use Rattle.line.specs.declared.Act.the-variants.{Take, Reset, PowerOn}
-use Rattle.search.specs.Search.{Attached, saysOf, leavesOf, leftBy}
+use Rattle.line.specs.Attached.{Attached, saysOf, leavesOf, leftBy}
 use Rattle.histories.specs.Histories.{at, codesOf, answerOf, afterOf}
 use Rattle.histories.specs.Range.{both-true′}
 use Rattle.histories.specs.Keeps.{in-range, range-in, Good, act-good, outside-good}

@@ -20,7 +20,8 @@ use Rattle.line.specs.declared.Table.{Table}
 use Rattle.card.specs.Card.{carded, Read, all, none, readFrom, SetUp, setUp, fromRead, setUpOf}
 use Rattle.card.specs.Fits.{AtMost, read-few}
 use Rattle.card.specs.declared.Carded.{Carded as CardLeft}
-use Rattle.search.specs.Search.{searched, refused, attached, Search, outcome as found, searchOf}
+use Rattle.line.specs.Attached.{attached}
+use Rattle.search.specs.Search.{searched, refused, Search, outcome as found, searchOf}
 use Rattle.search.specs.Prefix.{Has, many-search, search-rest, search-has}
 use Rattle.search.specs.declared.Found.{Found}
 use Rattle.lent.specs.declared.Told.{Told}

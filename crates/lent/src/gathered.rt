@@ -7,7 +7,8 @@ use search::Found;
 ghost use mathlib.Core.Path.{_≡_};
 ghost use lib.ListN.{length};
 ghost use Rattle.card.specs.Card.{carded, setUpOf};
-ghost use Rattle.search.specs.Search.{searched, attached, outcome, searchOf};
+ghost use Rattle.line.specs.Attached.{attached};
+ghost use Rattle.search.specs.Search.{searched, outcome, searchOf};
 ghost use Rattle.lent.specs.Gathered.{gathered, puts, Tells};
 
 // What is told of a search beside the table.

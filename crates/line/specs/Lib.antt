@@ -2,6 +2,7 @@ pub mod Line
 pub mod Layout
 pub mod Event
 pub mod Events
+pub mod Attached
 pub mod Slots
 pub mod Sizes
 pub mod Named

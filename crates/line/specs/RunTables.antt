@@ -1,5 +1,5 @@
 -- Laws: a run of slots on a table and its buffers, of which the line is carried from slot to slot.
-use Prim.Native.Nat.{ℕ, _+_, _*_, _≤_}
+use Prim.Native.Nat.{ℕ, _+_, _≤_}
 use native.Mathlib.Omega.{arith}
 use mathlib.Core.Bool.{Bool}
 use mathlib.Core.List.{List, [], _∷_, _++_}
@@ -21,8 +21,8 @@ use Rattle.line.specs.Prefix.{capped-is, length-split}
 use Rattle.line.specs.Refusals.{chips-split, images-split, pads-split, fit, held}
 use Rattle.line.specs.Carrier.{firstSpot, busOver, acts}
 use Rattle.line.specs.Carried.{slot-walked}
-use Rattle.line.specs.Slots.{bitsOf, bitsIn, bytesFrom, hostBits, runOn, bytesAsked, runFits, runVerdict, put, RunOutcome, runOutcome, runBy}
-use Rattle.line.specs.Runs.{run-length, InByte, Running}
+use Rattle.line.specs.Slots.{bitsOf, bytesFrom, hostBits, runOn, bytesAsked, runFits, runVerdict, put, RunOutcome, runOutcome, runBy}
+use Rattle.line.specs.Runs.{run-length, host-many, InByte, Running}
 use Rattle.line.specs.declared.Act.the-variants as act
 use Rattle.line.specs.declared.Plan.the-variants as plan
 use Rattle.line.specs.declared.Refusal.the-variants.{OutOfRange, WrongSize}
@@ -170,15 +170,8 @@ module _ (n : ℕ) (cs : List Chip) (slots : ℕ) (bits answers ms ss : List ℕ
       }
 
   -- as many slots are put on the line as were asked for
-  bits-many : (xs : List ℕ) → length (bitsIn xs) ≡ 8 * length xs
-  bits-many [] = refl
-  bits-many (x ∷ xs) = let h = bits-many xs in simp length-append (omega arith)
-
   all-put : RunWell n cs slots bits answers ms ss → (L : List Whole) → length (runOn (hostBits slots bits) L .bits) ≡ slots
-  all-put w L =
-      let h = w .bits-size in
-      let m = bits-many bits in
-      run-length (hostBits slots bits) L ∙ length-take-le slots (bitsIn bits) (omega arith)
+  all-put w L = let h = w .bits-size in run-length (hostBits slots bits) L ∙ host-many slots bits (omega arith)
 
   pub put-all : RunWell n cs slots bits answers ms ss → (out : List ℕ) (p : ℕ) (ds : List Chip) (xs ys : List ℕ)
       → out ≡ bytesFrom (length answers) (runOn (hostBits slots bits) (lineOf n cs ms ss) .bits) → lent ds xs ys ≡ lentFrom n cs (runOn (hostBits slots bits) (lineOf n cs ms ss) .line) → p ≡ n

@@ -1,15 +1,15 @@
 -- Laws: a run of slots, eight to a byte, is the run over all its bits.
 use Prim.Native.Nat.{ℕ, zero, suc, _+_, _-_, _*_, _/_, _%_, _^_, _<_, _≤_}
 use native.Mathlib.Omega.{arith}
-use native.Mathlib.Nat.{add-assoc, zero-add, pow-succ'}
+use native.Mathlib.Nat.{add-assoc, zero-add, pow-succ', min-le-left}
 use native.Mathlib.Numerals.{add-one}
 use lib.Pow.{pow-mono}
 use mathlib.Core.Bool.{Bool, true, false}
 use mathlib.Core.List.{List, [], _∷_, _++_, append-assoc, append-nil}
 use mathlib.Core.Path.{_≡_, refl, _∙_, ap, sym, subst}
 use lib.Dec.{eqb, ltb}
-use lib.ListN.{length, take, drop, getD, set, length-set, drop-of-length-le}
-use lib.Seq.{take-at, drop-at, drop-cons, take-suc-set, take-all}
+use lib.ListN.{length, take, drop, getD, set, length-set, length-take, drop-of-length-le}
+use lib.Seq.{take-at, drop-at, drop-cons, take-suc-set, take-all, take-append-le, take-append-add, length-take-le}
 use borrow.Author.Tests.{ltb-true, ltb-false}
 use Rattle.base.specs.Pick.{pick, pick-true, pick-false, pick-if}
 use Rattle.chip.specs.Chip.{Whole}
@@ -110,21 +110,17 @@ bits-first zero n x h = refl
 bits-first (suc k) zero x h = absurd (omega arith)
 bits-first (suc k) (suc n) x h = ap (λ (l : List Bool). eqb (x % 2) 1 ∷ l) (bits-first k n (x / 2) (omega arith))
 
-take-over : (n : ℕ) (hs bs : List Bool) → length hs ≤ n → take n (hs ++ bs) ≡ hs ++ take (n - length hs) bs
-take-over n [] bs h = ap (λ (k : ℕ). take k bs) (zero-less n)
-  where
-    zero-less : (n : ℕ) → n ≡ n - 0
-    zero-less n = omega arith
-take-over zero (a ∷ hs) bs h = absurd (omega arith)
-take-over (suc n) (a ∷ hs) bs h = ap (λ (l : List Bool). a ∷ l) (take-over n hs bs (omega arith) ∙ ap (λ (k : ℕ). hs ++ take k bs) (same n (length hs)))
-  where
-    same : (n k : ℕ) → n - k ≡ suc n - suc k
-    same n k = omega arith
+-- bytes have eight bits each, and as many of them are the host's as are asked for, where there are so many
+pub bits-many : (xs : List ℕ) → length (bitsIn xs) ≡ 8 * length xs
+bits-many [] = refl
+bits-many (x ∷ xs) = let h = bits-many xs in omega arith
 
-take-under : (n : ℕ) (hs bs : List Bool) → n ≤ length hs → take n (hs ++ bs) ≡ take n hs
-take-under zero hs bs h = refl
-take-under (suc n) [] bs h = absurd (omega arith)
-take-under (suc n) (a ∷ hs) bs h = ap (λ (l : List Bool). a ∷ l) (take-under n hs bs (omega arith))
+pub host-many : (n : ℕ) (xs : List ℕ) → n ≤ 8 * length xs → length (hostBits n xs) ≡ n
+host-many n xs h = let m = bits-many xs in length-take-le n (bitsIn xs) (omega arith)
+
+-- they are never more
+pub host-most : (n : ℕ) (xs : List ℕ) → length (hostBits n xs) ≤ n
+host-most n xs = let e = length-take n (bitsIn xs) in let m = min-le-left n (length (bitsIn xs)) in omega arith
 
 -- how many slots the next byte has
 abbrev pub countOf : ℕ → ℕ
@@ -144,9 +140,10 @@ host-next left x xs =
     count-cases (λ n. hostBits left (x ∷ xs) ≡ bitsOf n x ++ hostBits (left - n) xs) left
     (λ h. let l = bits-length 8 x in
     let z : left - left ≡ 0 = omega arith in
-    take-under left (bitsOf 8 x) (bitsIn xs) (omega arith) ∙ bits-first left 8 x (omega arith)
+    take-append-le left (bitsOf 8 x) (bitsIn xs) (omega arith) ∙ bits-first left 8 x (omega arith)
     ∙ sym (append-nil (bitsOf left x)) ∙ ap (λ (k : ℕ). bitsOf left x ++ take k (bitsIn xs)) (sym z))
-    (λ h. take-over left (bitsOf 8 x) (bitsIn xs) h)
+    (λ h. let e : left ≡ 8 + (left - 8) = omega arith in
+    ap (λ (k : ℕ). take k (bitsOf 8 x ++ bitsIn xs)) e ∙ take-append-add (bitsOf 8 x) (bitsIn xs) (left - 8))
 
 -- the bits of a byte, and those of the next ones, as bytes: only the last byte of a run has fewer than eight
 bytes-next : (n left : ℕ) (hs bs : List Bool) → length hs ≡ countOf left → length bs ≤ left - countOf left → bytesFrom (suc n) (hs ++ bs) ≡ numberFrom 1 hs ∷ bytesFrom n bs
@@ -197,7 +194,7 @@ module _ (slots : ℕ) (bits answers₀ : List ℕ) (L₀ : List Whole) (at left
       let m = length answers - (at + 1) in
       let s : length answers - at ≡ suc m = omega arith in
       let lr : length (r .bits) ≡ n = run-length (bitsOf n x) L ∙ bits-length n x in
-      let lb : length (rest .bits) ≤ left - n = let u = run-length (hostBits (left - n) (drop (at + 1) bits)) K in let v = take-most (left - n) (bitsIn (drop (at + 1) bits)) in omega arith in
+      let lb : length (rest .bits) ≤ left - n = let u = run-length (hostBits (left - n) (drop (at + 1) bits)) K in let v = host-most (left - n) (drop (at + 1) bits) in omega arith in
       let t : bytesAsked (left - n) + (at + 1) ≡ length bits = asked-next left (bytesAsked left) h refl a in
       record {
         line = sym (ap (λ (z : Run). z .line) all) ∙ g .line;
@@ -213,11 +210,6 @@ module _ (slots : ℕ) (bits answers₀ : List ℕ) (L₀ : List Whole) (at left
         few = let u = g .few in omega arith;
       }
     where
-      take-most : (n : ℕ) (bs : List Bool) → length (take n bs) ≤ n
-      take-most zero bs = omega arith
-      take-most (suc n) [] = omega arith
-      take-most (suc n) (b ∷ bs) = let h = take-most n bs in omega arith
-
       asked-next : (k a : ℕ) → 0 < k → a ≡ bytesAsked k → a + at ≡ length bits → bytesAsked (k - countOf k) + (at + 1) ≡ length bits
       asked-next k a h e p = count-cases (λ n. bytesAsked (k - n) + (at + 1) ≡ length bits) k (λ u. omega arith) (λ u. omega arith)
 

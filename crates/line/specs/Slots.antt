@@ -4,9 +4,9 @@ use Prim.Native.Nat.{ℕ, zero, suc, _+_, _*_, _/_, _%_}
 use mathlib.Core.Bool.{Bool}
 use mathlib.Core.List.{List, [], _∷_, _++_}
 use lib.Dec.{eqb, leb}
-use lib.ListN.{length, take, drop}
+use lib.ListN.{length, take, drop, getD}
 use Rattle.base.specs.Pick.{pick}
-use Rattle.base.specs.Bits.{both}
+use Rattle.base.specs.Bits.{both, bitOf}
 use Rattle.chip.specs.Chip.{Whole}
 use Rattle.chip.specs.declared.Chip.{Chip}
 use Rattle.line.specs.Line.{valueOf, afterBy}
@@ -40,6 +40,10 @@ bytesFrom (suc n) bs = numberFrom 1 (take 8 bs) ∷ bytesFrom n (drop 8 bs)
 -- the host's bits: those of the unused places "are not looked at"
 abbrev pub hostBits : ℕ → List ℕ → List Bool
 hostBits slots bits = take slots (bitsIn bits)
+
+-- the bit of one slot, 0 past the end
+unfoldable pub slotBit : List ℕ → ℕ → Bool
+slotBit bits slot = bitOf (getD bits (slot / 8) 0) (slot % 8)
 
 -- slots one after the other on a line: the bit on the bus in each, and the line that the last leaves
 pub record Run : Type 0 where

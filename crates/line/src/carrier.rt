@@ -129,7 +129,7 @@ pub fn run_fits(slots: usize, bits: usize, answers: usize) -> bool
     ensures { λ r. ⌜ r ≡ runFits slots bits answers ⌝ }
 {
     if slots <= SLOTS_MOST {
-        let asked = (slots + 7) / 8;
+        let asked = crate::bytes_asked(slots);
         return base::are_both(bits == asked, answers == asked);
     }
     false

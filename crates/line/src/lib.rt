@@ -18,6 +18,7 @@ ghost use mathlib.Core.Path.{_≡_};
 ghost use Prim.Native.Nat.{_≤_};
 ghost use Rattle.line.specs.Layout.{lent, capped};
 ghost use Rattle.line.specs.Event.{numberOf, answered, outcome, verdictOf, eventOf};
+ghost use Rattle.line.specs.Slots.{bytesAsked, slotBit};
 
 // The most bytes of images that a table asks for.
 pub const IMAGES_MOST: usize = 41984;
@@ -153,6 +154,24 @@ pub fn used_places(places: usize) -> usize
     ensures most { λ r. ⌜ (r ≤ 16) × (r ≤ places) ⌝ }
 {
     if places < 16 { places } else { 16 }
+}
+
+// How many bytes the bits of so many slots ask.
+pub fn bytes_asked(slots: usize) -> usize
+    ensures { λ r. ⌜ r ≡ bytesAsked slots ⌝ }
+{
+    if slots % 8 == 0 {
+        return slots / 8;
+    }
+    slots / 8 + 1
+}
+
+// The bit of a slot in packed bits, 0 past their end.
+pub fn slot_bit(bits: &[u8], slot: usize) -> bool
+    ensures { λ r. ⌜ r ≡ slotBit (now (bits .entry)) slot ⌝ }
+{
+    let byte = base::byte_at(bits, slot / 8);
+    base::bit_of(byte as u64, (slot % 8) as u8)
 }
 
 // How a table and its buffers stand: refusal 8, then 5.

@@ -9,7 +9,8 @@ use mathlib.Core.Path.{_≡_, refl, _∙_, ap, sym}
 use lib.ListN.{length, drop, length-take}
 use Rattle.line.specs.declared.Event.{Event}
 use Rattle.search.specs.Host.{Listed, play, searchHost}
-use Rattle.search.specs.Search.{Attached, Search, completeOr4, searchOf}
+use Rattle.line.specs.Attached.{Attached}
+use Rattle.search.specs.Search.{Search, completeOr4, searchOf}
 use Rattle.histories.specs.Below.{Codes}
 use Rattle.histories.specs.Histories.{lineWire, codesOf}
 use Rattle.histories.specs.Standing.{Stands, lineFrom}

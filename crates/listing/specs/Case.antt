@@ -23,7 +23,8 @@ use Rattle.line.specs.Event.{planEvent, askedBy, outsideFits, tableInRange, siz
 use Rattle.line.specs.Events.{resetEvent, outsideEvent}
 use Rattle.line.specs.declared.Event.{Event}
 use Rattle.search.specs.Host.{bind, play, pass, write, upTo, passes, searchHost}
-use Rattle.search.specs.Search.{Attached, attached, Search, complete, fromPlayed, searchOf}
+use Rattle.line.specs.Attached.{Attached, attached}
+use Rattle.search.specs.Search.{Search, complete, fromPlayed, searchOf}
 use Rattle.histories.specs.Below.{Codes, none-below, one-below, all-below}
 use Rattle.histories.specs.Sent.{bitsFrom, slots, byteSlots}
 use Rattle.histories.specs.Histories.{at, codesOf, answerOf, afterOf, run, lineWire}

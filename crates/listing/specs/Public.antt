@@ -8,7 +8,8 @@ use lib.ListN.{length, take, drop}
 use Rattle.base.specs.Pick.{pick}
 use Rattle.line.specs.Refusals.{in-range-few}
 use Rattle.search.specs.Host.{Listed, play, searchHost}
-use Rattle.search.specs.Search.{Attached, Search, complete, refused, searchOf}
+use Rattle.line.specs.Attached.{Attached}
+use Rattle.search.specs.Search.{Search, complete, refused, searchOf}
 use Rattle.histories.specs.Below.{Codes}
 use Rattle.histories.specs.Histories.{lineWire, codesOf}
 use Rattle.histories.specs.Standing.{Stands, lineFrom, line-length}

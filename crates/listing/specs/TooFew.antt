@@ -17,7 +17,8 @@ use Rattle.line.specs.declared.Refusal.{Refusal}
 use Rattle.line.specs.declared.Refusal.the-variants.{OutOfRange, WrongSize, NoSuchEvent, NoSuchOutside}
 use Rattle.line.specs.declared.Verdict.{Verdict}
 use Rattle.line.specs.declared.Verdict.the-variants as verdict
-use Rattle.search.specs.Search.{Searched, complete, refused, Attached, searchBy, searchOf}
+use Rattle.line.specs.Attached.{Attached}
+use Rattle.search.specs.Search.{Searched, complete, refused, searchBy, searchOf}
 use Rattle.histories.specs.Below.{Codes}
 use Rattle.histories.specs.Histories.{codesOf}
 use Rattle.histories.specs.Standing.{Stands, lineFrom}

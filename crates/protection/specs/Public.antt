@@ -6,7 +6,7 @@ use mathlib.Core.Path.{_≡_, sym, subst}
 use lib.Bits.{bitAnd}
 use Rattle.chip.specs.Chip.{Whole}
 use Rattle.line.specs.declared.Event.{Event}
-use Rattle.search.specs.Search.{Attached}
+use Rattle.line.specs.Attached.{Attached}
 use Rattle.histories.specs.Histories.{at}
 use Rattle.histories.specs.Standing.{Stands, lineFrom}
 use Rattle.histories.specs.Joined.{runOn, run-joined}

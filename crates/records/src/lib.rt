@@ -57,7 +57,7 @@ pub fn code(b0: u8, b1: u8, b2: u8, b3: u8, b4: u8, b5: u8, b6: u8, b7: u8) -> u
 }
 
 // The number of the two bytes from an offset on.
-fn pair_at(s: &[u8], at: usize) -> u16
+pub fn pair_at(s: &[u8], at: usize) -> u16
     ensures { λ r. ⌜ r ≡ numberAt (now (s .entry)) at 2 ⌝ }
 {
     let low = byte_past(s, at, 0);

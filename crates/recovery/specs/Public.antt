@@ -7,7 +7,7 @@ use mathlib.Core.Path.{_≡_, _∙_, ap, sym, subst}
 use lib.ListN.{length}
 use Rattle.chip.specs.Chip.{Whole}
 use Rattle.line.specs.declared.Event.{Event}
-use Rattle.search.specs.Search.{Attached}
+use Rattle.line.specs.Attached.{Attached}
 use Rattle.histories.specs.Histories.{at, run, answers, came, codesOf}
 use Rattle.histories.specs.Keeps.{Good}
 use Rattle.histories.specs.Standing.{AllGood, Stands, lineFrom, line-good, line-length}

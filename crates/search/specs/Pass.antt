@@ -12,7 +12,8 @@ use Rattle.base.specs.Bits.{bitOf, both}
 use Rattle.line.specs.Events.{slotEvent}
 use Rattle.search.specs.Host.{Played, played, End, end, more, resetsOf, slotsOf, heard, play, underWay, begun, pass, write, turn, mark, put, upTo, wanted}
 use Rattle.search.specs.Counts.{more-more, more-none, one-slot}
-use Rattle.search.specs.Search.{Attached, saysOf, leavesOf, wire, playedPass, playedWrite}
+use Rattle.line.specs.Attached.{Attached, saysOf, leavesOf}
+use Rattle.search.specs.Search.{wire, playedPass, playedWrite}
 
 -- what a host hears of a slot that it puts on the line
 abbrev hears : Bool → Attached → Bool

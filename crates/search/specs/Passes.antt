@@ -17,7 +17,8 @@ use Rattle.line.specs.Events.{resetEvent}
 use Rattle.line.specs.declared.Verdict.{Verdict}
 use Rattle.search.specs.Host.{Host, bind, Played, played, Listed, listed, End, end, more, heard, play, begun, pass, write, passes, goOn, upTo, searchHost}
 use Rattle.search.specs.Counts.{more-more, more-none, andThen, play-bind}
-use Rattle.search.specs.Search.{Searched, completeOr4, Attached, attached, saysOf, leavesOf, wire, Search, outcome, fromPlayed, searchBy, searchOf, playedPass, playedWrite}
+use Rattle.line.specs.Attached.{Attached, attached, saysOf, leavesOf}
+use Rattle.search.specs.Search.{Searched, completeOr4, wire, Search, outcome, fromPlayed, searchBy, searchOf, playedPass, playedWrite}
 
 abbrev pub playedList : Attached → List ℕ → Bool → ℕ → ℕ → Played Listed Attached
 playedList l out b r s = played (listed out b) l r s

@@ -11,7 +11,8 @@ use Rattle.line.specs.declared.Event.{Event}
 use Rattle.line.specs.declared.Verdict.{Verdict}
 use Rattle.line.specs.declared.Verdict.the-variants as verdict
 use Rattle.search.specs.Host.{Host, done, ask, Played, Listed, played, more, resetsOf, slotsOf, play, searchHost}
-use Rattle.search.specs.Search.{refused, Attached, attached, leftBy, saysOf, leavesOf, wire, Search, outcome, fromPlayed, searchBy, searchOf}
+use Rattle.line.specs.Attached.{Attached, attached, leftBy, saysOf, leavesOf}
+use Rattle.search.specs.Search.{refused, wire, Search, outcome, fromPlayed, searchBy, searchOf}
 
 -- the same table with the places Z after its own, and what was played or searched on it
 abbrev pub attachedRest : List Chip → Attached → Attached

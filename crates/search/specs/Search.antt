@@ -4,10 +4,8 @@ use mathlib.Core.Bool.{Bool, true, false}
 use mathlib.Core.List.{List, _++_}
 use lib.ListN.{length, drop}
 use Rattle.base.specs.Pick.{pick}
-use Rattle.chip.specs.declared.Chip.{Chip}
-use Rattle.line.specs.Layout.{Lent, lent}
-use Rattle.line.specs.Event.{Answered, Outcome, numberOf, verdictOf, eventOf}
-use Rattle.line.specs.declared.Event.{Event}
+use Rattle.line.specs.Attached.{Attached, saysOf, leavesOf}
+use Rattle.line.specs.Event.{numberOf, verdictOf}
 use Rattle.line.specs.declared.Verdict.{Verdict}
 use Rattle.line.specs.declared.Verdict.the-variants as verdict
 use Rattle.search.specs.Host.{Wire, Played, played, End, end, Listed, play, searchHost}
@@ -23,28 +21,6 @@ abbrev pub searched : SearchAnswer → Searched
 searched Complete = complete
 searched TooFewPlaces = refused 4
 searched (Refused r) = refused (numberOf r)
-
--- a table of chips with its buffers, as events find and leave it
-pub record Attached : Type 0 where
-  pub count : ℕ
-  pub lent : Lent
-
-abbrev pub attached : ℕ → List Chip → List ℕ → List ℕ → Attached
-attached n cs ms ss = record { count = n; lent = lent cs ms ss }
-
-abbrev eventOn : Event → Attached → Outcome
-eventOn e l = eventOf (l .count) (l .lent .chips) e (l .lent .images) (l .lent .pads)
-
--- what an outcome leaves
-abbrev pub leftBy : Outcome → Attached
-leftBy o = record { count = o .count; lent = o .lent }
-
--- what an event answers there, and what it leaves
-unfoldable pub saysOf : Event → Attached → Answered
-saysOf e l = eventOn e l .answer
-
-unfoldable pub leavesOf : Event → Attached → Attached
-leavesOf e l = leftBy (eventOn e l)
 
 -- the line's own events as a wire
 abbrev pub wire : Wire

@@ -8,7 +8,8 @@ ghost use Prim.Native.Nat.{_≤_, _<_, _^_};
 ghost use Rattle.line.specs.Event.{answered};
 ghost use Rattle.line.specs.Events.{slotEvent, resetEvent};
 ghost use Rattle.search.specs.Host.{play, begun, pass, write, turn, mark, put, wanted, heard};
-ghost use Rattle.search.specs.Search.{attached, saysOf, leavesOf, wire, playedPass, playedWrite};
+ghost use Rattle.line.specs.Attached.{attached, saysOf, leavesOf};
+ghost use Rattle.search.specs.Search.{wire, playedPass, playedWrite};
 
 // What the host hears of an event, and the table that it leaves.
 pub struct Heard {

@@ -12,7 +12,8 @@ ghost use Prim.Native.Nat.{_≤_};
 ghost use lib.ListN.{length, take, drop};
 ghost use Rattle.search.specs.Host.{play, passes, searchHost};
 ghost use mathlib.Core.List.{[]};
-ghost use Rattle.search.specs.Search.{searched, completeOr4, attached, wire, outcome, fromPlayed, searchOf};
+ghost use Rattle.line.specs.Attached.{attached};
+ghost use Rattle.search.specs.Search.{searched, completeOr4, wire, outcome, fromPlayed, searchOf};
 ghost use Rattle.search.specs.Passes.{playedList};
 
 // Resets put on the line. Never added to slots: the two differ in time.

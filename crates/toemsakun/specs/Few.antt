@@ -15,7 +15,8 @@ use Rattle.line.specs.Prefix.{capped-few}
 use Rattle.line.specs.Events.{resetEvent}
 use Rattle.search.specs.Host.{Host, done, bind, Played, Listed, listed, End, write, begun, pass, heard, play, passes, goOn, searchHost, upTo}
 use Rattle.search.specs.Counts.{play-bind}
-use Rattle.search.specs.Search.{Attached, saysOf, leavesOf, wire, searchBy, searchOf}
+use Rattle.line.specs.Attached.{Attached, saysOf, leavesOf}
+use Rattle.search.specs.Search.{wire, searchBy, searchOf}
 
 -- what a host comes to after another, from what it comes to whatever the other came to
 result-bind : {A B : Type 0} (P : B → Type 0) (h : Host A) (g : A → Host B) (l : Attached) → ((a : A) (k : Attached) → P (play wire (g a) k .result)) → P (play wire (bind h g) l .result)

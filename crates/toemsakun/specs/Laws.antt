@@ -17,7 +17,8 @@ use Rattle.line.specs.Carried.{images-none, pads-none}
 use Rattle.line.specs.Tables.{blankTable}
 use Rattle.line.specs.declared.Table.{Table}
 use Rattle.card.specs.Card.{Carded, chips, Read, all, none, readFrom, SetUp, setUp, fromRead, setUpOf}
-use Rattle.search.specs.Search.{Searched, Attached, attached, Search, outcome as found, searchOf}
+use Rattle.line.specs.Attached.{Attached, attached}
+use Rattle.search.specs.Search.{Searched, Search, outcome as found, searchOf}
 use Rattle.search.specs.Prefix.{Has, many-search, search-rest, search-has}
 use Rattle.packed.specs.Packed.{recordSize, packedTable, unpackedTable, isTable, tableFrom, putTable}
 use Rattle.packed.specs.Laws.{table-is, table-length, from-length}

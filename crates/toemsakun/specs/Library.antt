@@ -10,7 +10,8 @@ use Rattle.line.specs.Event.{Answered, bit, refused, Outcome, eventOf}
 use Rattle.line.specs.Slots.{Slotted, put, refused as refusedRun, RunOutcome, slotsOf}
 use Rattle.line.specs.declared.Event.{Event}
 use Rattle.card.specs.Card.{Read, all, none, readFrom}
-use Rattle.search.specs.Search.{Searched, complete, refused as refusedBy, attached, Search, searchOf}
+use Rattle.line.specs.Attached.{attached}
+use Rattle.search.specs.Search.{Searched, complete, refused as refusedBy, Search, searchOf}
 use Rattle.packed.specs.Step.{flag}
 use Rattle.packed.specs.Packed.{recordSize, packedTable, unpackedTable, isTable}
 

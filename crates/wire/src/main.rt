@@ -69,7 +69,7 @@ fn take_run(
     }
     let table = s.table;
     let pending = s.pending;
-    let bytes = runs::bytes_of(slots);
+    let bytes = line::bytes_asked(slots);
     let ran = line::take_slots(
         table,
         &bits[..bytes],
@@ -171,15 +171,7 @@ fn one_turn(
     }
 }
 
-// The turns that are left after one: none where the input has ended.
-fn turns_left(turns: u64, on: bool) -> u64
-    requires { ⌜ 0 < turns ⌝ }
-    ensures { λ r. ⌜ r < turns ⌝ }
-{
-    if on { turns - 1 } else { 0 }
-}
-
-// Answers events until the input ends. A proved loop has to end, so it counts its turns down from a number that no run uses up.
+// Answers events until the input ends.
 fn serve(t: Table, input: &mut [u8], out: &mut [u8], images: &mut [u8], pads: &mut [u8]) {
     let mut s = Progress {
         table: t,
@@ -190,7 +182,7 @@ fn serve(t: Table, input: &mut [u8], out: &mut [u8], images: &mut [u8], pads: &m
     while 0 < turns {
         let r = one_turn(s, input, out, images, pads);
         s = r.progress;
-        turns = turns_left(turns, r.on);
+        turns = terminal::turns_left(turns, r.on);
     }
 }
 

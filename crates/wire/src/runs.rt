@@ -23,14 +23,6 @@ pub fn room() -> [u8; 8192]
     [0; 8192]
 }
 
-// How many bytes hold the bits of so many slots.
-pub fn bytes_of(slots: usize) -> usize
-    requires { ⌜ slots ≤ 65535 ⌝ }
-    ensures { λ r. ⌜ r ≤ 8192 ⌝ }
-{
-    (slots + 7) / 8
-}
-
 // What a place of a byte is worth.
 fn worth_of(place: u8) -> u64
     requires { ⌜ place < 8 ⌝ }
@@ -58,11 +50,6 @@ fn put_bit(bits: &mut [u8], slot: usize, bit: bool) {
     let byte = base::byte_at(bits, slot / 8);
     let more = with_bit(byte, (slot % 8) as u8, bit);
     base::put_at(bits, slot / 8, more);
-}
-
-// The bit of a slot in packed bits.
-fn bit_at(bits: &[u8], slot: usize) -> bool {
-    base::bit_of(base::byte_at(bits, slot / 8) as u64, (slot % 8) as u8)
 }
 
 // The slots of a run with the one that a character is, if it is one.
@@ -116,7 +103,7 @@ pub fn gather(pending: Pending, input: &[u8], at: usize, bits: &mut [u8]) -> Gat
 // What one slot of a run answers: its bit, or the refusal of the run.
 fn slot_answer(answer: SlotsAnswer, answers: &[u8], slot: usize) -> Answer {
     match answer {
-        SlotsAnswer::Put(_) => Answer::Bit(bit_at(answers, slot)),
+        SlotsAnswer::Put(_) => Answer::Bit(line::slot_bit(answers, slot)),
         SlotsAnswer::Refused(r) => Answer::Refused(r),
     }
 }

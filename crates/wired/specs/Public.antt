@@ -20,7 +20,7 @@ use Rattle.line.specs.declared.Refusal.the-variants.{NoSuchOutside}
 use Rattle.line.specs.declared.Verdict.the-variants as verdict
 use Rattle.line.specs.declared.Plan.{Plan}
 use Rattle.line.specs.declared.Plan.the-variants as plan
-use Rattle.search.specs.Search.{Attached, saysOf, leavesOf}
+use Rattle.line.specs.Attached.{Attached, saysOf, leavesOf}
 use Rattle.histories.specs.Histories.{at, answerOf, afterOf}
 use Rattle.histories.specs.Place.{at-map}
 use Rattle.histories.specs.Standing.{Stands, lineFrom, line-length, says-is, line-after}

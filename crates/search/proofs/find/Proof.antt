@@ -1,5 +1,6 @@
 use Rattle.search.specs.Passes.{found-list}
-use Rattle.search.specs.Search.{Attached, fromPlayed}
+use Rattle.line.specs.Attached.{Attached}
+use Rattle.search.specs.Search.{fromPlayed}
 use Rattle.search.specs.Host.{Played, Listed}
 use mathlib.Core.Path.{_∙_, ap}
 use denote.Ref.{now}

@@ -1,7 +1,7 @@
 use Rattle.search.specs.Pass.{wanted-up}
 use borrow.Author.Needs.{needs}
 use Rattle.search.specs.Passes.{Seeking, seeking-start, seek-absent, seek-none, seek-up, seek-last, seek-full, seek-again, seek-stays}
-use Rattle.search.specs.Search.{attached}
+use Rattle.line.specs.Attached.{attached}
 use mathlib.Core.Path.{_≡_, _∙_, refl}
 use lib.ListN.{length, length-set}
 use native.Mathlib.Omega.{arith}

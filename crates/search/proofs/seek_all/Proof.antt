@@ -1,4 +1,5 @@
-use Rattle.search.specs.Search.{attached, wire}
+use Rattle.line.specs.Attached.{attached}
+use Rattle.search.specs.Search.{wire}
 use Rattle.search.specs.Host.{play, passes}
 use mathlib.Core.Path.{_∙_, ap}
 use mathlib.Core.List.{[]}

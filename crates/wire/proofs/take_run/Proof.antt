@@ -5,8 +5,8 @@ use Rattle.wire.proofs.take_run.Statement.{statement}
 use Rattle.wire.proofs.take_run.Tie as tie
 use Rattle.wire.proofs.take_run.Reads as reads
 use Rattle.wire.proofs.take_run.Lts as lts
+use Rattle.line.proofs.bytes_asked.Reads as bytes-asked-reads
 use Rattle.line.proofs.take_slots.Reads as take-slots-reads
-use Rattle.wire.proofs.runs.bytes_of.Reads as bytes-of-reads
 use Rattle.wire.proofs.runs.put_answers.Reads as put-answers-reads
 
 -- src/main.rt:68:9
@@ -14,8 +14,8 @@ returns : tie.Need-returns
 returns c = search needs
 
 -- src/main.rt:72:9
-bytes-of-requires : tie.Need-bytes-of-requires
-bytes-of-requires c κs = search needs
+bytes-asked-requires : tie.Need-bytes-asked-requires
+bytes-asked-requires c κs = search needs
 
 -- src/main.rt:75:9
 slice-aggregate-take-slots : tie.Need-slice-aggregate-take-slots
@@ -62,7 +62,7 @@ take-run-spec =
     tie.close
     (tie.spec
     returns
-    bytes-of-requires
+    bytes-asked-requires
     slice-aggregate-take-slots
     slice-relend-prefix-take-slots
     slice-aggregate-take-slots-2

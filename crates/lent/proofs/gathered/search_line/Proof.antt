@@ -43,7 +43,8 @@ use Rattle.line.specs.declared.Table.{Table}
 use Rattle.lent.specs.declared.Told.{Told}
 use Rattle.lent.specs.Gathered.{gathered, puts, Tells}
 use Rattle.lent.specs.Back.{searches}
-use Rattle.search.specs.Search.{attached, searched, outcome as found, searchOf}
+use Rattle.line.specs.Attached.{attached}
+use Rattle.search.specs.Search.{searched, outcome as found, searchOf}
 use Rattle.lent.proofs.Again.{LentAgain, lends-at, back-at, LentShared, lends-shared, shared-back}
 use Rattle.chip.proofs.Chip as Chip-row
 use Rattle.search.proofs.Found as Found-row

@@ -3,7 +3,7 @@ use lib.ListN.{length}
 use native.Mathlib.Omega.{arith}
 use borrow.Author.Needs.{needs}
 use Rattle.search.specs.Pass.{Going, going-start, going-next, going-up, going-end}
-use Rattle.search.specs.Search.{attached}
+use Rattle.line.specs.Attached.{attached}
 use Prim.Native.Nat.{_-_}
 use denote.Ref.{now}
 use Rattle.search.proofs.host.one_pass.Statement.{statement}

@@ -1,4 +1,4 @@
-use Rattle.search.specs.Search.{saysOf, leavesOf, leftBy}
+use Rattle.line.specs.Attached.{saysOf, leavesOf, leftBy}
 use Rattle.search.specs.Host.{heard}
 use Rattle.line.specs.Event.{Outcome}
 use mathlib.Core.Path.{_∙_, ap}

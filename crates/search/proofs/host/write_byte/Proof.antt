@@ -2,7 +2,7 @@ use mathlib.Core.Path.{_≡_, _∙_, refl}
 use lib.ListN.{length}
 use borrow.Author.Needs.{needs}
 use Rattle.search.specs.Pass.{Writing, writing-start, writing-next, writing-end}
-use Rattle.search.specs.Search.{attached}
+use Rattle.line.specs.Attached.{attached}
 use Prim.Native.Nat.{_-_}
 use denote.Ref.{now}
 use Rattle.search.proofs.host.write_byte.Statement.{statement}
