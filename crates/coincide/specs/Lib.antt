@@ -2,6 +2,7 @@ pub mod Settled
 pub mod Answered
 pub mod Carded
 pub mod Searched
+pub mod Recorded
 pub mod Leaves
 pub mod Parts
 pub mod Lines

@@ -1,7 +1,8 @@
--- Two outcomes that a contract permits are the same: of card, lent, packed, toemsakun and terminal the functions whose contract gives the answer, or the one thing that
+-- Two outcomes that a contract permits are the same: of card, recording, lent, packed, toemsakun and terminal the functions whose contract gives the answer, or the one thing that
 -- is changed, by an equation. Written by tools/ties.
 use mathlib.Core.Path.{refl, _∙_, sym}
 use Rattle.card.proofs as card
+use Rattle.recording.proofs as recording
 use Rattle.lent.proofs as lent
 use Rattle.packed.proofs as packed
 use Rattle.toemsakun.proofs as toemsakun
@@ -15,6 +16,17 @@ card-is-known κs a x y v w p q = (p ∙ sym q, refl)
 
 pub card-entry-at : Settled card.entry_at.ended card.entry_at.Reads.Learnt
 card-entry-at κs a x y v w p q = (p ∙ sym q, refl)
+
+-- recording
+
+pub recording-number-of : Settled recording.number_of.ended recording.number_of.Reads.Learnt
+recording-number-of κs a x y v w p q = (p ∙ sym q, refl)
+
+pub recording-read-cards : Settled recording.read_cards.ended recording.read_cards.Reads.Learnt
+recording-read-cards κs a x y v w p q = (p ∙ sym q, refl)
+
+pub recording-record-at : Settled recording.record_at.ended recording.record_at.Reads.Learnt
+recording-record-at κs a x y v w p q = (p ∙ sym q, refl)
 
 -- lent
 

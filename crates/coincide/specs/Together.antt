@@ -4,17 +4,20 @@ use mathlib.Core.Path.{refl, _∙_, ap, sym}
 use Rattle.card.specs.Card.{SetUp}
 use Rattle.line.specs.Event.{Outcome}
 use Rattle.line.specs.Slots.{RunOutcome}
+use Rattle.recording.specs.Playing.{Handed}
 use Rattle.search.specs.Search.{Search}
 use Rattle.memory.proofs as memory
 use Rattle.chip.proofs as chip
 use Rattle.line.proofs as line
 use Rattle.card.proofs as card
+use Rattle.recording.proofs as recording
 use Rattle.search.proofs as search
 use Rattle.packed.proofs as packed
 use Rattle.toemsakun.proofs as toemsakun
 use Rattle.coincide.specs.Answered.{answered-once, slotted-once}
 use Rattle.coincide.specs.Carded.{carded-once}
 use Rattle.coincide.specs.Searched.{searched-once}
+use Rattle.coincide.specs.Recorded.{ends-once}
 use Rattle.coincide.specs.Settled.{Settled}
 
 -- memory and scratchpad
@@ -65,6 +68,15 @@ card-set-up κs a x y v w p q =
     let r = p ∙ sym q in
     let s = carded-once (x .answer) (y .answer) (ap (λ (o : SetUp). o .answer) r) in
     (λ i. record { answer = s i; table = record { n = r i .count; chips = r i .table } }, refl)
+
+-- ending, offset, number of answers and table; text, images and scratchpads
+pub recording-play : Settled recording.play.ended recording.play.Reads.Learnt
+recording-play κs a x y v w p q =
+    let r = p ∙ sym q in
+    let s = ends-once (x .ending) (y .ending) (ap (λ (o : Handed). o .ends) r) in (
+      λ i. record { ending = s i; at = r i .at; answers = r i .number; table = record { n = r i .line .count; chips = r i .line .lent .chips } },
+      λ i. (tt, (tt, (tt, (r i .text, (r i .line .lent .images, (r i .line .lent .pads, tt)))))),
+    )
 
 -- what is heard, table, images and scratchpads
 pub search-slot : Settled search.slot.ended search.slot.Reads.Learnt

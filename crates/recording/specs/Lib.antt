@@ -1,0 +1,14 @@
+pub mod Reading
+pub mod Heads
+pub mod There
+pub mod Ways
+pub mod Unused
+pub mod Cards
+pub mod Playing
+pub mod Putting
+pub mod Next
+pub mod CardLoop
+pub mod Unpacked
+pub mod Digits
+pub mod Puts
+pub mod PlayLoop

@@ -1,0 +1,222 @@
+-- Laws: the loop that plays the records of a recording.
+use Prim.Native.Nat.{ℕ, suc, _+_, _-_, _*_, _<_, _≤_}
+use native.Mathlib.Omega.{arith}
+use native.Mathlib.Nat.{zero-add}
+use mathlib.Core.Bool.{Bool, true}
+use mathlib.Core.List.{List, [], _++_, append-assoc, append-nil}
+use mathlib.Core.Path.{_≡_, refl, _∙_, ap, sym}
+use lib.Dec.{eqb}
+use lib.ListN.{length, take, drop, length-append}
+use Rattle.base.specs.Pick.{pick-both}
+use Rattle.line.specs.Attached.{Attached, saysOf}
+use Rattle.line.specs.Event.{Answered, bit, refused, verdictOf}
+use Rattle.line.specs.Layout.{lineOf}
+use Rattle.line.specs.Runs.{run-length, host-most}
+use Rattle.line.specs.Slots.{hostBits}
+use Rattle.line.specs.declared.Verdict.{Verdict}
+use Rattle.line.specs.declared.Verdict.the-variants as verdict
+use Rattle.recording.specs.Reading.{foundAt}
+use Rattle.recording.specs.Cards.{roomFor, stoppedBy}
+use Rattle.recording.specs.Playing.{Ends, endsOf, Said, bits, none, Step, saidBy, runStep, slotsStep, recordStep, Played, played, after, onStep, playOn, playFrom, playAll, putDigits, handed, handedFrom}
+use Rattle.recording.specs.Putting.{Written, wrote, unwritten, endsAfter, Put, put, putSaid, putFrom, answersMost}
+use Rattle.recording.specs.Next.{Lies, found-lies}
+use Rattle.recording.specs.Digits.{put-length, put-append}
+use Rattle.recording.specs.declared.Record.{Record}
+use Rattle.recording.specs.declared.Record.the-variants as record-of
+use Rattle.recording.specs.declared.Found.{Found}
+use Rattle.recording.specs.declared.Found.the-variants as found
+use Rattle.recording.specs.declared.Ending.{Ending}
+
+-- ---- how many answers a record has
+
+-- the bits that were answered
+abbrev pub bitsSaid : Said → List Bool
+bitsSaid (bits bs) = bs
+bitsSaid (none r) = []
+
+-- an event has one answer
+event-few : (a : Answered) → length (bitsSaid (saidBy a)) ≤ 1
+event-few (bit b) = omega arith
+event-few (refused r) = omega arith
+
+-- a run has no more answers than slots, by its verdict
+run-few : (v : Verdict) (count : ℕ) (host : List ℕ) (l : Attached) → length (bitsSaid (runStep v (hostBits count host) l .said)) ≤ count
+run-few verdict.Well count host l =
+    let h = run-length (hostBits count host) (lineOf (l .count) (l .lent .chips) (l .lent .images) (l .lent .pads)) in
+    let m = host-most count host in
+    omega arith
+run-few (verdict.Refused r) count host l = omega arith
+
+-- a run has no more answers than slots
+slots-few : (count : ℕ) (host : List ℕ) (l : Attached) → length (bitsSaid (slotsStep count host l .said)) ≤ count
+unfolding slotsStep
+slots-few count host l =
+    pick-both (λ (d : Step). length (bitsSaid (d .said)) ≤ count) (eqb count 0) _ _ (omega arith)
+    (run-few (verdictOf (l .count) (l .lent .chips) (l .lent .images) (l .lent .pads)) count host l)
+
+-- a record has no more answers than the most of it
+pub said-few : (s : List ℕ) (r : Record) (l : Attached) → length (bitsSaid (recordStep s r l .said)) ≤ answersMost r
+said-few s (record-of.Chip code kind) l = omega arith
+said-few s (record-of.Slots count from to) l = slots-few count (take (to - from) (drop from s)) l
+said-few s (record-of.Event e) l = event-few (saysOf e l)
+
+-- ---- the loop
+
+-- answers after answers
+after-after : (bs cs : List Bool) (p : Played) → after bs (after cs p) ≡ after (bs ++ cs) p
+after-after bs cs p = ap (λ (l : List Bool). played l (p .ends) (p .at) (p .line)) (sym (append-assoc bs cs (p .answers)))
+
+-- the number in what was written
+abbrev numberWritten : Written → ℕ
+numberWritten (wrote n) = n
+numberWritten (unwritten r) = r
+
+-- where no record is found, playing stops
+stops : (go : ℕ → Attached → Played) (s : List ℕ) (at : ℕ) (l : Attached) (f : Found) → ((r : Record) (next : ℕ) → f ≡ found.Record r next → ⊥) → playOn go s at l f ≡ played [] (endsOf (stoppedBy f)) at l
+stops go s at l found.End absent = refl
+stops go s at l found.Part absent = refl
+stops go s at l (found.Record r next) absent = absurd (absent r next refl)
+stops go s at l (found.Refused f) absent = refl
+
+-- where the loop stands: what was answered so far, and how many more records there may be after this one
+pub record Underway (more : Bool) (s out₀ : List ℕ) (l₀ : Attached) (packed out : List ℕ) (l : Attached) (at place : ℕ) : Type 0 where
+  pub said : List Bool
+  pub turns : ℕ
+  pub left : after said (playFrom (suc turns) more s at l) ≡ playAll more s l₀
+  pub enough : length s ≤ at + turns
+  pub within : at ≤ length s
+  pub text : out ≡ putDigits said 0 out₀
+  pub number : place ≡ length said
+  pub few : place ≤ 8 * at
+  pub room : length out₀ ≡ 8 * length s
+  pub long : length out ≡ length out₀
+  pub pack : length packed ≡ 8192
+  pub images : length (l .lent .images) ≡ length (l₀ .lent .images)
+  pub pads : length (l .lent .pads) ≡ length (l₀ .lent .pads)
+
+-- it stands so at the beginning
+pub underway-start : (more : Bool) (s out : List ℕ) (l : Attached) (packed : List ℕ) → length out ≡ 8 * length s → length packed ≡ 8192 → Underway more s out l packed out l 0 0
+unfolding playAll
+underway-start more s out l packed r p = record {
+  said = [];
+  turns = length s;
+  left = refl;
+  enough = omega arith;
+  within = omega arith;
+  text = refl;
+  number = refl;
+  few = omega arith;
+  room = r;
+  long = refl;
+  pack = p;
+  images = refl;
+  pads = refl;
+}
+
+module _ (more : Bool) (s out₀ : List ℕ) (l₀ : Attached) (packed out : List ℕ) (l : Attached) (at place : ℕ) (g : Underway more s out₀ l₀ packed out l at place)
+    (room : ℕ) (q : room ≡ roomFor (l .count)) (f : Found) (d : f ≡ foundAt s at room true more) where
+  -- how playing goes on after this record
+  abbrev onward : ℕ → Attached → Played
+  onward next m = playFrom (g .turns) more s next m
+
+  -- what is found says how playing goes on
+  by-found : after (g .said) (playOn onward s at l f) ≡ playAll more s l₀
+  unfolding playFrom
+  by-found = ap (λ (x : Found). after (g .said) (playOn onward s at l x)) (d ∙ ap (λ (j : ℕ). foundAt s at j true more) q) ∙ g .left
+
+  -- playing ends here, with the text as it is
+  ends-here : (e : Ends) (text : List ℕ) (k : Attached) → text ≡ out → after (g .said) (played [] e at k) ≡ playAll more s l₀ → handed e at place text k ≡ handedFrom out₀ (playAll more s l₀)
+  ends-here e text k t h =
+      let n : g .said ≡ g .said ++ [] = sym (append-nil (g .said)) in
+      (λ j. handed e at ((g .number ∙ ap length n) j) ((t ∙ g .text ∙ ap (λ (bs : List Bool). putDigits bs 0 out₀) n) j) k) ∙ ap (handedFrom out₀) h
+
+  -- no record can be taken
+  pub underway-stopped : (x : Ending) → ((r : Record) (next : ℕ) → f ≡ found.Record r next → ⊥) → x ≡ stoppedBy f → handed (endsOf x) at place out l ≡ handedFrom out₀ (playAll more s l₀)
+  underway-stopped x absent e =
+      ends-here (endsOf x) out l refl
+      (ap (λ (y : Ending). after (g .said) (played [] (endsOf y) at l)) e ∙ sym (ap (after (g .said)) (stops onward s at l f absent)) ∙ by-found)
+
+  module _ (r : Record) (next : ℕ) (k : f ≡ found.Record r next) where
+    -- the record says how playing goes on
+    by-record : after (g .said) (onStep onward at next (recordStep s r l .said) (recordStep s r l .line)) ≡ playAll more s l₀
+    by-record = ap (λ (x : Found). after (g .said) (playOn onward s at l x)) (sym k) ∙ by-found
+
+    -- the record lies in the recording
+    pub underway-lies : Lies s at r next
+    underway-lies = found-lies s at room true more r next (sym d ∙ k)
+
+    -- its answers have room
+    pub underway-room : place + answersMost r ≤ length out
+    underway-room =
+        let a = g .few in
+        let b = underway-lies .few in
+        let c = underway-lies .within in
+        let e = g .room in
+        let h = g .long in
+        omega arith
+
+    -- less of the recording is left after it
+    pub underway-less : length s - next < length s - at
+    underway-less = let a = underway-lies .further in let b = underway-lies .within in omega arith
+
+    module _ (w : Written) (text : List ℕ) (m : Attached) where
+      -- refused, by what its events say
+      refused-by : (n : ℕ) (x : Said) (o : Attached) → w ≡ unwritten n → put w text m ≡ putSaid place out x o
+          → after (g .said) (onStep onward at next x o) ≡ playAll more s l₀ → handed (endsAfter w) at place text m ≡ handedFrom out₀ (playAll more s l₀)
+      refused-by n (bits bs) o u e p =
+          let c : unwritten n ≡ wrote (length bs) = sym u ∙ ap (λ (z : Put). z .written) e in
+          let z : _≡_ {A = ℕ} 0 1 = cc in
+          absurd (omega arith)
+      refused-by n (none i) o u e p =
+          ends-here (endsAfter w) text m (ap (λ (z : Put). z .text) e) ((λ j. after (g .said) (played [] (endsAfter (e j .written)) at (e j .line))) ∙ p)
+
+      -- an event of it is refused
+      pub underway-refused : (n : ℕ) (e : Ends) → w ≡ unwritten n → e ≡ endsAfter w → put w text m ≡ putFrom place out (recordStep s r l)
+          → handed e at place text m ≡ handedFrom out₀ (playAll more s l₀)
+      underway-refused n e u y p =
+          ap (λ (x : Ends). handed x at place text m) y ∙ refused-by n (recordStep s r l .said) (recordStep s r l .line) u p by-record
+
+      module _ (pack : List ℕ) (n : ℕ) (size : length pack ≡ length packed) (images : length (m .lent .images) ≡ length (l .lent .images)) (pads : length (m .lent .pads) ≡ length (l .lent .pads)) where
+        -- answered, by what its events say
+        next-by : (x : Said) (o : Attached) → w ≡ wrote n → put w text m ≡ putSaid place out x o → length (bitsSaid x) ≤ answersMost r
+            → after (g .said) (onStep onward at next x o) ≡ playAll more s l₀ → Underway more s out₀ l₀ pack text m next (place + n)
+        next-by (none i) o u e c p =
+            let c : wrote n ≡ unwritten i = sym u ∙ ap (λ (z : Put). z .written) e in
+            let z : _≡_ {A = ℕ} 0 1 = cc in
+            absurd (omega arith)
+        next-by (bits bs) o u e c p =
+            let a = underway-lies .further in
+            let b = underway-lies .within in
+            let h = underway-lies .few in
+            let i = g .enough in
+            let t : suc (g .turns - 1) ≡ g .turns = omega arith in
+            let y : text ≡ putDigits bs place out = ap (λ (z : Put). z .text) e in
+            let z : n ≡ length bs = ap numberWritten (sym u ∙ ap (λ (z : Put). z .written) e) in
+            let v = g .number in
+            let x = g .few in
+            let j = length-append (g .said) bs in
+            record {
+              said = g .said ++ bs;
+              turns = g .turns - 1;
+              left =
+                  sym (after-after (g .said) bs (playFrom (suc (g .turns - 1)) more s next m))
+                  ∙ (λ j. after (g .said) (after bs (playFrom (t j) more s next (e j .line))))
+                  ∙ p;
+              enough = omega arith;
+              within = b;
+              text =
+                  y ∙ (λ j. putDigits bs (v j) (g .text j))
+                  ∙ ap (λ (i : ℕ). putDigits bs i (putDigits (g .said) 0 out₀)) (sym (zero-add (length (g .said))))
+                  ∙ sym (put-append (g .said) bs 0 out₀);
+              number = omega arith;
+              few = omega arith;
+              room = g .room;
+              long = ap length y ∙ put-length bs place out ∙ g .long;
+              pack = size ∙ g .pack;
+              images = images ∙ g .images;
+              pads = pads ∙ g .pads;
+            }
+
+        -- its answers are put, and playing goes on after it
+        pub underway-next : w ≡ wrote n → put w text m ≡ putFrom place out (recordStep s r l) → Underway more s out₀ l₀ pack text m next (place + n)
+        underway-next u p = next-by (recordStep s r l .said) (recordStep s r l .line) u p (said-few s r l) by-record
