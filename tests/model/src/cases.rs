@@ -14,6 +14,7 @@ use crate::model::line::Line;
 use crate::model::memory::{IMAGE, PAD};
 use crate::model::programs::list;
 use crate::model::record::pack;
+use crate::model::recording::{playback, Playback};
 use crate::model::search::{search_line, Found};
 
 /// A case: whether the model keeps to it.
@@ -50,6 +51,12 @@ pub const CASES: &[(&str, Case)] = &[
     ("a run of slots", run_of_slots),
     ("a card with few places", few_places),
     ("fields of the other kind stay", other_fields),
+    ("the worked recording", worked_recording),
+    ("a recording's refusals in order", recording_refusals),
+    ("a recording without an answer", recording_without_answer),
+    ("a run cut at every bit", recording_cut),
+    ("a recording in two pieces", recording_in_pieces),
+    ("a recording refused by a head", recording_heads),
 ];
 
 /// A host at a line of the model.
@@ -541,6 +548,146 @@ fn other_fields(book: &mut Book) -> bool {
         && (pio.t, pio.es, pio.latches, pio.levels) == (0x1234, AA, 3, 3)
 }
 
+/// The bytes that hex digits stand for; spaces are passed over.
+fn bytes(digits: &str) -> Vec<u8> {
+    let digits: Vec<char> = digits.chars().filter(|digit| *digit != ' ').collect();
+    let byte = |pair: &[char]| u8::from_str_radix(&pair.iter().collect::<String>(), 16);
+    let bytes = digits.chunks(2).map(|pair| byte(pair).expect("hex digits"));
+    bytes.collect()
+}
+
+/// What is printed for a recording in hex digits.
+fn played(digits: &str, book: &mut Book) -> String {
+    let printed = playback(&bytes(digits), book);
+    String::from_utf8(printed).expect("characters")
+}
+
+/// A DS2413 of code 3Ah.
+const CARD: &str = "0A000200 3A00000000000000";
+/// The README's worked recording.
+const WORKED: &str = "0A000200 3A00000000000000 02001100 07001000 1800 CCF5FF 04001300 0002 \
+                      02001100 07001000 1800 CCF5FF 04001300 0100";
+
+fn worked_recording(book: &mut Book) -> bool {
+    played(WORKED, book) == "000110011101011111111000010001100111010111101111000\nrefused 7 at 44\n"
+}
+
+/// Records at fault, each behind the records that its case needs.
+fn recording_refusals(book: &mut Book) -> bool {
+    let full = CARD.repeat(16);
+    let mut gives = |first: &str, rest: &str, answers: &str, refusal: u8| {
+        let at = bytes(first).len();
+        let want = format!("{answers}\nrefused {refusal} at {at}\n");
+        played(&format!("{first} {rest}"), book) == want
+    };
+    let reset = format!("{CARD} 02001100");
+    let none = format!("{CARD} 04001000 0000");
+    let sixteen = format!("{full} 02001200");
+    // fewer than 4 bytes
+    gives("", "02", "", 3)
+        && gives(CARD, "0200", "", 3)
+        && gives(&reset, "020011", "0", 3)
+        // the kind before length and body
+        && gives(CARD, "00000000", "", 2)
+        && gives(CARD, "0A000300", "", 2)
+        && gives(&reset, "02001400", "0", 2)
+        && gives(&reset, "FFFF1101", "0", 2)
+        // the length and a cut body
+        && gives(&reset, "03001100 00", "0", 3)
+        && gives(&reset, "02001300", "0", 3)
+        && gives(&reset, "04001300 00", "0", 3)
+        && gives(&reset, "02001000", "0", 3)
+        && gives(&reset, "03001000 00", "0", 3)
+        && gives(&reset, "04001000 01", "0", 3)
+        && gives(&reset, "05001000 0900 FF", "0", 3)
+        && gives(&reset, "06001000 0800 FFFF", "0", 3)
+        && gives(&reset, "06001000 0900 FF", "0", 3)
+        // a cut card after an event, then a 17th, then 9
+        && gives(&reset, "0A000200 3A", "0", 3)
+        && gives(&sixteen, "09000100 000000000000", "1", 3)
+        && gives(&full, CARD, "", 1)
+        && gives(&sixteen, CARD, "1", 1)
+        && gives(&reset, CARD, "0", 9)
+        && gives(&none, CARD, "", 9)
+        // unused bits, before any bit of the run
+        && gives(&reset, "05001000 0100 80", "0", 10)
+        && gives(&reset, "06001000 0F00 FF80", "0", 10)
+        && gives(&reset, "06001000 0100 8000", "0", 3)
+        // the event's own
+        && gives(&reset, "04001300 0004", "0", 7)
+        && gives(&reset, "04001300 0100", "0", 7)
+        && gives("", "04001300 0000", "", 7)
+        && gives("0A000100 3A00000000000000", "04001300 0000", "", 7)
+}
+
+fn recording_without_answer(book: &mut Book) -> bool {
+    played("", book) == "\n"
+        && played(CARD, book) == "\n"
+        && played("04001000 0000", book) == "\n"
+        && played("02001200", book) == "1\n"
+        && played("02001100 06001000 0900 0401", book) == "1001000001\n"
+}
+
+/// The worked recording with its second run cut at every bit.
+fn recording_cut(book: &mut Book) -> bool {
+    let recording = bytes(WORKED);
+    let whole = playback(&recording, book);
+    let [before, run, after] = [&recording[..35], &recording[41..44], &recording[44..]];
+    (0..=24).all(|at: u16| {
+        let number = u32::from_le_bytes([run[0], run[1], run[2], 0]);
+        let part = |from: u16, slots: u16| {
+            let size = slots.div_ceil(8);
+            let bits = (number >> from) & ((1 << slots) - 1);
+            let head = [4 + size, 16, slots].map(u16::to_le_bytes).concat();
+            [&head, &bits.to_le_bytes()[..size.into()]].concat()
+        };
+        let parts = [part(0, at), part(at, 24 - at)].concat();
+        let moved = format!("refused 7 at {}\n", 35 + parts.len());
+        let cut = [before, &parts, after].concat();
+        playback(&cut, book) == [&whole[..52], moved.as_bytes()].concat()
+    })
+}
+
+/// The worked recording in two pieces, broken anywhere: each record's answers come with its last byte.
+fn recording_in_pieces(book: &mut Book) -> bool {
+    let recording = bytes(WORKED);
+    let whole = playback(&recording, book);
+    // Answers up to the end of each record.
+    let ends = [
+        (16, 1),
+        (25, 25),
+        (31, 26),
+        (35, 27),
+        (44, 51),
+        (50, whole.len()),
+    ];
+    (0..=recording.len()).all(|at| {
+        let mut playing = Playback::new();
+        let first = playing.take(&recording[..at], false, book);
+        let known = ends.iter().rev().find(|(end, _)| *end <= at);
+        let answers = known.map_or(0, |(_, answers)| *answers);
+        let second = playing.take(&recording[at..], true, book);
+        first == whole[..answers] && [first, second].concat() == whole
+    })
+}
+
+/// Records that cannot be right behind a card and a reset: refused before more of them comes. A run whose count is
+/// not there yet waits for it.
+fn recording_heads(book: &mut Book) -> bool {
+    let mut prints = |head: &str, want: &str| {
+        let recording = bytes(&format!("{CARD} 02001100 {head}"));
+        Playback::new().take(&recording, false, book) == want.as_bytes()
+    };
+    prints("0A006300", "0\nrefused 2 at 16\n")
+        && prints("FFFF1100", "0\nrefused 3 at 16\n")
+        && prints("FFFF0100", "0\nrefused 3 at 16\n")
+        && prints("05001000 0900", "0\nrefused 3 at 16\n")
+        && prints("06001000 0800", "0\nrefused 3 at 16\n")
+        && prints("06001000 08", "0")
+        && prints("06001000 0900 FF", "0")
+        && prints("0A000100 43", "0")
+}
+
 #[cfg(test)]
 mod tests {
     use super::CASES;
@@ -591,6 +738,12 @@ mod tests {
         run_of_slots "a run of slots",
         few_places "a card with few places",
         other_fields "fields of the other kind stay",
+        worked_recording "the worked recording",
+        recording_refusals "a recording's refusals in order",
+        recording_without_answer "a recording without an answer",
+        recording_cut "a run cut at every bit",
+        recording_in_pieces "a recording in two pieces",
+        recording_heads "a recording refused by a head",
     }
 
     /// The cases reach every rule that no program can show.

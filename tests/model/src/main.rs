@@ -1,4 +1,4 @@
-//! Tries the list and wire programs, or the library for C behind its driver, against an
+//! Tries the list, wire and playback programs, or the library for C behind its driver, against an
 //! independent model, or serves the model in their place.
 
 mod cases;
@@ -16,15 +16,17 @@ use std::time::{Duration, SystemTime, UNIX_EPOCH};
 use cases::{Case, CASES};
 use model::book::{slip_named, Book, Slip, SLIPS};
 use model::programs::{list, Wire};
+use model::recording::Playback;
 use tester::{run, Options};
 
 const USAGE: &str = "\
-wire-model [--list PROGRAM] [--wire PROGRAM] [--seed N|time] [--cards N] [--scripts N]
-           [--long] [--stop N] [--wait SECONDS] [--rules]
+wire-model [--list PROGRAM] [--wire PROGRAM] [--playback PROGRAM] [--seed N|time]
+           [--cards N] [--scripts N] [--rounds N] [--long] [--stop N] [--wait SECONDS] [--rules]
 wire-model --library DRIVER [--seed N|time] [--lines N]
            [--long] [--stop N] [--wait SECONDS] [--rules]
 wire-model --serve-list [--slip NAME]
 wire-model --serve-wire CARDFILE [--slip NAME]
+wire-model --serve-playback [--slip NAME]
 wire-model --serve-library [--slip NAME]
 wire-model --cases [--slip NAME]
 wire-model --slips";
@@ -35,6 +37,7 @@ enum Mode {
     Library { command: String, lines: usize },
     ServeList,
     ServeWire(String),
+    ServePlayback,
     ServeLibrary,
     Cases,
     Slips,
@@ -44,7 +47,7 @@ fn main() -> ExitCode {
     let (mode, options, slip) = match read_flags() {
         Ok(read) => read,
         Err(message) => {
-            eprintln!("{message}\n{USAGE}");
+            eprintln!("{message}\nusage:\n{USAGE}");
             return ExitCode::from(2);
         }
     };
@@ -63,6 +66,7 @@ fn main() -> ExitCode {
         }
         Mode::ServeList => serve_list(slip).is_ok(),
         Mode::ServeWire(path) => serve_wire(&path, slip).is_ok(),
+        Mode::ServePlayback => serve_playback(slip).is_ok(),
         Mode::ServeLibrary => library::calls::serve(&mut Book::new(slip)).is_ok(),
         Mode::Cases => run_cases(slip, true),
         Mode::Slips => {
@@ -83,9 +87,11 @@ fn read_flags() -> Result<(Mode, Options, Option<Slip>), String> {
     let mut options = Options {
         list: None,
         wire: None,
+        playback: None,
         seed: 1,
         cards: 60,
         scripts: 480,
+        rounds: 1,
         stop: 10,
         wait: Duration::from_secs(20),
         rules: false,
@@ -96,15 +102,18 @@ fn read_flags() -> Result<(Mode, Options, Option<Slip>), String> {
         match flag.as_str() {
             "--list" => options.list = Some(value()?),
             "--wire" => options.wire = Some(value()?),
+            "--playback" => options.playback = Some(value()?),
             "--seed" => options.seed = seed(&value()?)?,
             "--cards" => options.cards = number(&value()?)?,
             "--scripts" => options.scripts = number(&value()?)?,
+            "--rounds" => options.rounds = number(&value()?)?,
             "--stop" => options.stop = number(&value()?)?.max(1),
             "--wait" => options.wait = Duration::from_secs(number(&value()?)? as u64),
             "--rules" => options.rules = true,
             "--long" => {
                 options.cards = 3000;
                 options.scripts = 20000;
+                options.rounds = 30;
                 lines = 60000;
             }
             "--slip" => {
@@ -121,15 +130,18 @@ fn read_flags() -> Result<(Mode, Options, Option<Slip>), String> {
             "--serve-library" => mode = Mode::ServeLibrary,
             "--serve-list" => mode = Mode::ServeList,
             "--serve-wire" => mode = Mode::ServeWire(value()?),
+            "--serve-playback" => mode = Mode::ServePlayback,
             "--cases" => mode = Mode::Cases,
             "--slips" => mode = Mode::Slips,
+            _ if matches!(mode, Mode::ServePlayback) && slip == Some(Slip::ArgumentTaken) => {}
             _ => return Err(format!("unknown flag {flag}")),
         }
     }
     if let Mode::Library { lines: asked, .. } = &mut mode {
         *asked = lines;
     }
-    if matches!(mode, Mode::Test) && options.list.is_none() && options.wire.is_none() {
+    let programs = [&options.list, &options.wire, &options.playback];
+    if matches!(mode, Mode::Test) && programs.iter().all(|program| program.is_none()) {
         return Err("nothing to test".into());
     }
     Ok((mode, options, slip))
@@ -185,6 +197,31 @@ fn serve_wire(path: &str, slip: Option<Slip>) -> io::Result<()> {
             return Ok(());
         }
     }
+}
+
+/// The model as the playback program.
+fn serve_playback(slip: Option<Slip>) -> io::Result<()> {
+    let mut book = Book::new(slip);
+    let mut playback = Playback::new();
+    let mut input = io::stdin().lock();
+    let mut output = io::stdout().lock();
+    let mut buffer = [0; 4096];
+    while !playback.is_over() {
+        let count = match input.read(&mut buffer) {
+            Ok(count) => count,
+            Err(_) if book.slips(Slip::ReadEnds) => 0,
+            Err(error) => {
+                eprintln!("standard input: {error}");
+                return Err(error);
+            }
+        };
+        let text = playback.take(&buffer[..count], count == 0, &mut book);
+        let written = output.write_all(&text).and_then(|()| output.flush());
+        if !book.slips(Slip::WritesOn) {
+            written.inspect_err(|error| eprintln!("standard output: {error}"))?;
+        }
+    }
+    Ok(())
 }
 
 /// The model's own cases; told in full, or only if one fails.

@@ -1,5 +1,5 @@
-//! An independent model of the line, its chips, the card, the search and the two
-//! programs, written from the paper's words.
+//! An independent model of the line, its chips, the card, the recording, the search and
+//! the programs, written from the papers' words.
 
 pub mod book;
 pub mod card;
@@ -11,4 +11,5 @@ pub mod line;
 pub mod memory;
 pub mod programs;
 pub mod record;
+pub mod recording;
 pub mod search;

@@ -3,8 +3,8 @@
 use std::fs::File;
 use std::io::{Read, Write};
 use std::path::Path;
-use std::process::{Child, ChildStdin, Command, Stdio};
-use std::sync::mpsc::{channel, Receiver};
+use std::process::{Child, ChildStdin, Command, ExitStatus, Stdio};
+use std::sync::mpsc::{channel, Receiver, RecvTimeoutError};
 use std::thread;
 use std::time::{Duration, Instant};
 
@@ -21,7 +21,7 @@ pub struct Program {
 impl Program {
     /// Starts a command line, with a path as its last argument.
     pub fn start(command: &str, path: Option<&Path>, wait: Duration) -> Program {
-        Program::start_with(command, path, wait, Stdio::inherit())
+        Program::start_with(command, path, wait, Stdio::piped(), Stdio::inherit())
     }
 
     /// The same, with the error output in a file.
@@ -32,18 +32,31 @@ impl Program {
         errors: &Path,
     ) -> Program {
         let file = File::create(errors).expect("a file in the temporary folder");
-        Program::start_with(command, path, wait, Stdio::from(file))
+        Program::start_with(command, path, wait, Stdio::piped(), Stdio::from(file))
     }
 
-    fn start_with(command: &str, path: Option<&Path>, wait: Duration, errors: Stdio) -> Program {
-        let mut child = Command::new("sh")
-            .args(["-c", &format!("exec {command} \"$@\""), "sh"])
-            .args(path)
-            .stdin(Stdio::piped())
-            .stdout(Stdio::piped())
-            .stderr(errors)
-            .spawn()
-            .expect("a shell to start the program");
+    /// Starts a command line that reads this input, with the error output in a file.
+    pub fn start_reading(command: &str, input: Stdio, wait: Duration, errors: &Path) -> Program {
+        let file = File::create(errors).expect("a file in the temporary folder");
+        Program::start_with(command, None, wait, input, Stdio::from(file))
+    }
+
+    /// Starts a command line whose output nobody reads.
+    pub fn start_unheard(command: &str, wait: Duration) -> Program {
+        let mut child = spawn(command, None, Stdio::piped(), Stdio::null());
+        child.stdout = None;
+        let (_, output) = channel();
+        Program::of(child, output, wait)
+    }
+
+    fn start_with(
+        command: &str,
+        path: Option<&Path>,
+        wait: Duration,
+        input: Stdio,
+        errors: Stdio,
+    ) -> Program {
+        let mut child = spawn(command, path, input, errors);
         let mut stdout = child.stdout.take().expect("the program's output");
         let (sender, output) = channel();
         thread::spawn(move || {
@@ -54,6 +67,10 @@ impl Program {
                 }
             }
         });
+        Program::of(child, output, wait)
+    }
+
+    fn of(mut child: Child, output: Receiver<Vec<u8>>, wait: Duration) -> Program {
         Program {
             input: child.stdin.take(),
             child,
@@ -82,20 +99,56 @@ impl Program {
         self.held.drain(..count).collect()
     }
 
+    /// The rest of the output, and whether it comes to its end in time; the input is left open.
+    pub fn rest(&mut self) -> (Vec<u8>, bool) {
+        loop {
+            match self.output.recv_timeout(self.wait) {
+                Ok(more) => self.held.extend(more),
+                Err(error) => {
+                    let rest = std::mem::take(&mut self.held);
+                    return (rest, error == RecvTimeoutError::Disconnected);
+                }
+            }
+        }
+    }
+
     /// Closes the input; the rest of the output, and whether the program ended by itself.
     pub fn end(mut self) -> (Vec<u8>, bool) {
         self.input = None;
         let rest = self.receive(usize::MAX);
+        let ended = self.status();
+        (rest, ended.is_some_and(|status| status.code().is_some()))
+    }
+
+    /// Whether the program stops in time, by itself or by a signal; its input is left open.
+    pub fn stops(&mut self) -> bool {
+        self.status().is_some()
+    }
+
+    /// How the program has ended, if it ends in time.
+    fn status(&mut self) -> Option<ExitStatus> {
         let start = Instant::now();
         while start.elapsed() < self.wait {
             match self.child.try_wait() {
-                Ok(Some(status)) => return (rest, status.code().is_some()),
+                Ok(Some(status)) => return Some(status),
                 Ok(None) => thread::sleep(Duration::from_millis(1)),
                 Err(_) => break,
             }
         }
-        (rest, false)
+        None
     }
+}
+
+/// Starts a command line by a shell, with a path as its last argument.
+fn spawn(command: &str, path: Option<&Path>, input: Stdio, errors: Stdio) -> Child {
+    Command::new("sh")
+        .args(["-c", &format!("exec {command} \"$@\""), "sh"])
+        .args(path)
+        .stdin(input)
+        .stdout(Stdio::piped())
+        .stderr(errors)
+        .spawn()
+        .expect("a shell to start the program")
 }
 
 impl Drop for Program {

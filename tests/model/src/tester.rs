@@ -1,5 +1,8 @@
 //! Runs the programs on generated inputs and holds every answer against the model.
 
+mod feed;
+mod playback;
+
 use std::fs;
 use std::path::PathBuf;
 use std::time::{Duration, Instant};
@@ -8,7 +11,7 @@ use crate::gen::bench::{Bench, Script};
 use crate::gen::cards::{card_of, damaged_card, good_card, Style, DAMAGES};
 use crate::gen::rng::Rng;
 use crate::gen::stories::{walk, Story, STORIES};
-use crate::model::book::{Book, Place, RULES};
+use crate::model::book::{Book, Place, Rule, RULES};
 use crate::model::crc::{check_of, crc8, Check};
 use crate::model::figure4::Figure4;
 use crate::model::programs::{list, Wire};
@@ -21,11 +24,15 @@ pub struct Options {
     pub list: Option<String>,
     /// Command line of the wire program, up to the card file.
     pub wire: Option<String>,
+    /// Command line of the playback program.
+    pub playback: Option<String>,
     pub seed: u64,
     /// Random cards for the list program.
     pub cards: usize,
     /// Random scripts for the wire program.
     pub scripts: usize,
+    /// How often each recording is drawn for the playback program.
+    pub rounds: usize,
     /// Failures after which the run stops.
     pub stop: usize,
     /// How long to wait for an answer.
@@ -54,6 +61,7 @@ struct Tester {
     cards: usize,
     scripts: usize,
     events: usize,
+    recordings: usize,
 }
 
 /// One script to be written: its name, how, and whether it is cut and disturbed.
@@ -99,8 +107,10 @@ pub fn run(options: Options) -> bool {
         cards: 0,
         scripts: 0,
         events: 0,
+        recordings: 0,
     };
     let mut book = Book::new(None);
+    let mut played = Book::new(None);
     tester.run_codes(&book);
     if let Some(command) = tester.options.list.clone() {
         tester.run_list(&command, &mut book);
@@ -108,14 +118,18 @@ pub fn run(options: Options) -> bool {
     if let Some(command) = tester.options.wire.clone() {
         tester.run_wire(&command, &mut book);
     }
-    tester.judge_rules(&book);
+    if let Some(command) = tester.options.playback.clone() {
+        tester.run_playback(&command, &mut played);
+    }
+    tester.judge_rules(&book, &played);
     // The folder holds card files alone; a leftover does no harm.
     let _ = fs::remove_dir_all(&tester.folder);
     println!(
-        "{} cards, {} scripts, {} events, {:.1} s",
+        "{} cards, {} scripts, {} events, {} recordings, {:.1} s",
         tester.cards,
         tester.scripts,
         tester.events,
+        tester.recordings,
         start.elapsed().as_secs_f64()
     );
     println!("{} passed, {} failed", tester.passed, tester.failed);
@@ -128,24 +142,33 @@ impl Tester {
         self.failed >= self.options.stop
     }
 
-    /// Names the rules that the run should have reached and has not.
-    fn judge_rules(&mut self, book: &Book) {
+    /// Names the rules that the run should have reached and has not; the playback program has a book of its own.
+    fn judge_rules(&mut self, book: &Book, played: &Book) {
         if self.is_over() {
             println!("stopped early: what was not run counts as failed, rules are not judged");
             return;
         }
+        let count = |rule: Rule, place: Place| match place {
+            Place::Playback | Place::PlaybackAndWire => played.count(rule),
+            _ => book.count(rule),
+        };
         if self.options.rules {
             for (rule, place, text) in RULES {
-                println!("{:>9} {place:?}: {text}", book.count(*rule));
+                println!("{:>9} {place:?}: {text}", count(*rule, *place));
             }
         }
         let asked = |place: Place| match place {
             Place::List => self.options.list.is_some(),
             Place::Wire => self.options.wire.is_some(),
+            Place::Playback => self.options.playback.is_some(),
+            Place::PlaybackAndWire => {
+                self.options.playback.is_some() && self.options.wire.is_some()
+            }
             Place::Lent => false,
         };
         let rules = RULES.iter().filter(|(_, place, _)| asked(*place));
-        let (met, missed): (Vec<_>, Vec<_>) = rules.partition(|(rule, ..)| book.count(*rule) > 0);
+        let (met, missed): (Vec<_>, Vec<_>) =
+            rules.partition(|(rule, place, _)| count(*rule, *place) > 0);
         println!(
             "{} of {} rules reached",
             met.len(),
@@ -438,42 +461,15 @@ impl Tester {
 
     /// The events of a script that still shows a difference, or none if it shows none.
     fn shrink(&self, command: &str, card: &[u8], text: &[u8]) -> Option<Vec<Vec<u8>>> {
-        let start = Instant::now();
-        let mut runs = 0;
-        // The events up to the first difference.
-        let mut differing = |events: &[Vec<u8>]| {
-            runs += 1;
+        let found = shortest(&split_events(text), |events: &[Vec<u8>]| {
             let text = events.concat();
             let want = model_answers(card, &text);
             let got = self.wire_output(command, card, &text);
+            // The events up to the first difference.
             let at = first_difference(&want, &got);
-            let over = runs > SHRINK_RUNS || start.elapsed() > SHRINK_TIME;
-            let shows = got != want;
-            (
-                over,
-                shows.then(|| events[..(at + 1).min(events.len())].to_vec()),
-            )
-        };
-        let (_, found) = differing(&split_events(text));
-        let mut events = found?;
-        let mut part = events.len() / 2;
-        while part > 0 {
-            let mut at = 0;
-            while at < events.len() {
-                let mut shorter = events.clone();
-                shorter.drain(at..(at + part).min(events.len()));
-                let (over, found) = differing(&shorter);
-                match found {
-                    Some(found) => events = found,
-                    None => at += part,
-                }
-                if over {
-                    return Some(events);
-                }
-            }
-            part /= 2;
-        }
-        Some(events)
+            (got != want).then(|| (events[..(at + 1).min(events.len())].to_vec(), ()))
+        });
+        found.map(|(events, ())| events)
     }
 
     /// Refused cards, a missing file and a missing argument.
@@ -520,6 +516,35 @@ impl Tester {
             }
         }
     }
+}
+
+/// The fewest items found that still differ, with what they show, or none if they do not differ. A try answers
+/// the items that it keeps and what it has shown.
+fn shortest<T: Clone, S>(
+    items: &[T],
+    mut differing: impl FnMut(&[T]) -> Option<(Vec<T>, S)>,
+) -> Option<(Vec<T>, S)> {
+    let start = Instant::now();
+    let mut runs = 0;
+    let (mut items, mut shows) = differing(items)?;
+    let mut part = items.len() / 2;
+    while part > 0 {
+        let mut at = 0;
+        while at < items.len() {
+            if runs == SHRINK_RUNS || start.elapsed() > SHRINK_TIME {
+                return Some((items, shows));
+            }
+            runs += 1;
+            let mut shorter = items.clone();
+            shorter.drain(at..(at + part).min(items.len()));
+            match differing(&shorter) {
+                Some(found) => (items, shows) = found,
+                None => at += part,
+            }
+        }
+        part /= 2;
+    }
+    Some((items, shows))
 }
 
 /// Puts a script to a program, at once or event by event, and gives its answers.

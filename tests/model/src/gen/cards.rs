@@ -5,7 +5,7 @@ use crate::model::chip::{part_of, DS28EC20, LAST_KIND};
 use crate::model::crc::crc8;
 
 /// What kind of line a card makes.
-#[derive(Clone, Copy, PartialEq, Eq)]
+#[derive(Clone, Copy, PartialEq, Eq, Debug)]
 pub enum Style {
     /// No chips.
     Empty,
