@@ -15,7 +15,8 @@ use Rattle.search.specs.Prefix.{search-has}
 use Rattle.line.specs.Attached.{Attached, attached, leavesOf}
 use Rattle.search.specs.Search.{searchOf}
 use Rattle.histories.specs.Histories.{codesOf}
-use Rattle.histories.specs.Standing.{lineFrom, codes-chips}
+use Rattle.line.specs.Standing.{lineFrom}
+use Rattle.histories.specs.Standing.{codes-chips}
 use Rattle.histories.specs.Calls.{Call, event-call, search-call, slots-call, leavesCall, callsOn}
 use Rattle.agreement.specs.Slots.{slots-hold}
 

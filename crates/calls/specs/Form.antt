@@ -9,7 +9,7 @@ use Rattle.line.specs.Slots.{RunOutcome}
 use Rattle.line.specs.declared.Event.{Event}
 use Rattle.line.specs.Attached.{Attached, saysOf, leavesOf}
 use Rattle.search.specs.Search.{Search, searchOf}
-use Rattle.histories.specs.Standing.{Stands}
+use Rattle.line.specs.Standing.{Stands}
 use Rattle.histories.specs.Slots.{slotsOn, leftByRun}
 use Rattle.histories.specs.Calls.{Call, event-call, search-call, slots-call, leavesCall, callsOn, stands-calls}
 

@@ -24,7 +24,7 @@ use Rattle.histories.specs.Slots.{slotsOn, leftByRun}
 use Rattle.histories.specs.Calls.{event-call, search-call, slots-call}
 use Rattle.histories.specs.Below.{Codes}
 use Rattle.histories.specs.Histories.{codesOf}
-use Rattle.histories.specs.Standing.{lineFrom}
+use Rattle.line.specs.Standing.{lineFrom}
 use Rattle.agreement.specs.Slice.{ofLent, codes-lent}
 use Rattle.agreement.specs.InC.{LentBytes, unpackedLent, searchIn, slotsIn, leavesBytes, leaves-bytes, searched-after}
 use Rattle.agreement.specs.AfterTroubleC.{StandsAsBytes, bytes-fit}

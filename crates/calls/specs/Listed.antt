@@ -8,7 +8,7 @@ use Rattle.line.specs.Attached.{Attached}
 use Rattle.search.specs.Search.{Search, searchOf}
 use Rattle.histories.specs.Below.{Codes}
 use Rattle.histories.specs.Histories.{codesOf}
-use Rattle.histories.specs.Standing.{lineFrom}
+use Rattle.line.specs.Standing.{lineFrom}
 use Rattle.histories.specs.Calls.{eventsOf}
 use Rattle.histories.specs.SearchEvents.{RunOfEvents, search-is-run}
 use Rattle.histories.specs.Kept.{calls-codes}

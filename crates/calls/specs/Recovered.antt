@@ -8,7 +8,7 @@ use Rattle.line.specs.Event.{Answered}
 use Rattle.line.specs.declared.Event.{Event}
 use Rattle.line.specs.Attached.{Attached}
 use Rattle.histories.specs.Histories.{came}
-use Rattle.histories.specs.Standing.{lineFrom}
+use Rattle.line.specs.Standing.{lineFrom}
 use Rattle.histories.specs.Joined.{runOn, answersOn}
 use Rattle.histories.specs.Calls.{callsOn, eventsOfCalls, stands-calls}
 use Rattle.recovery.specs.CarriedOut.{NoCopy}

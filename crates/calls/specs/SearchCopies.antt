@@ -24,7 +24,8 @@ use Rattle.search.specs.Host.{Host, done, ask, End, Listed, bind, UnderWay, beg
 use Rattle.line.specs.Attached.{Attached, saysOf, leavesOf}
 use Rattle.search.specs.Search.{searchOf}
 use Rattle.histories.specs.Histories.{noWhole, at, answerOf, afterOf, run}
-use Rattle.histories.specs.Standing.{Stands, lineFrom, says-is, line-after, stands-after}
+use Rattle.line.specs.Standing.{Stands, lineFrom}
+use Rattle.histories.specs.Standing.{says-is, line-after, stands-after}
 use Rattle.histories.specs.Joined.{run-joined}
 use Rattle.histories.specs.Calls.{eventsOf, Call, event-call, search-call, slots-call, leavesCall, eventsOfCall, eventsOfCalls, call-runs, stands-calls}
 use Rattle.histories.specs.Sent.{bitsFrom}

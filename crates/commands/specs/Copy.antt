@@ -32,7 +32,7 @@ use Rattle.line.specs.declared.Plan.the-variants as plan
 use Rattle.line.specs.declared.Act.the-variants.{Take}
 use Rattle.line.specs.declared.Event.{Event}
 use Rattle.histories.specs.Histories.{at, afterOf, run}
-use Rattle.histories.specs.Keeps.{Good}
+use Rattle.line.specs.Keeps.{Good}
 use Rattle.histories.specs.Place.{at-map}
 use Rattle.recovery.specs.CarriedOut.{carriesOut}
 use Rattle.commands.specs.Asked.{Asked, level-carried, map-is, copy-asked}

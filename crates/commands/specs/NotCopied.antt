@@ -27,7 +27,7 @@ use Rattle.line.specs.Events.{resetEvent}
 use Rattle.line.specs.declared.Act.the-variants.{Take, Reset, PowerOn}
 use Rattle.line.specs.declared.Event.{Event}
 use Rattle.histories.specs.Histories.{at, run}
-use Rattle.histories.specs.Keeps.{level-either}
+use Rattle.line.specs.Keeps.{level-either}
 use Rattle.histories.specs.AtSlots.{AtSlots, slots-kept, at-slots-too}
 use Rattle.recovery.specs.CarriedOut.{isCopy, carriesOut, NoCopy, no-copy}
 use Rattle.commands.specs.Reset.{isCut, afterCut, only-pf, reset-cuts}

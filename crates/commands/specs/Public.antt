@@ -14,7 +14,7 @@ use Rattle.line.specs.Events.{resetEvent, powerOnEvent}
 use Rattle.line.specs.declared.Event.{Event}
 use Rattle.line.specs.Attached.{Attached}
 use Rattle.histories.specs.Histories.{at, run}
-use Rattle.histories.specs.Standing.{Stands, lineFrom, line-good, line-length}
+use Rattle.line.specs.Standing.{Stands, lineFrom, line-good, line-length}
 use Rattle.histories.specs.Joined.{runOn, run-joined, stands-on}
 use Rattle.histories.specs.Sent.{bitsFrom}
 use Rattle.recovery.specs.CarriedOut.{NoCopy, no-copy}

@@ -10,7 +10,7 @@ use Rattle.chip.specs.Chip.{Whole, resetOf}
 use Rattle.line.specs.Event.{Answered}
 use Rattle.line.specs.Attached.{Attached}
 use Rattle.histories.specs.Histories.{at, run, answers}
-use Rattle.histories.specs.Standing.{lineFrom}
+use Rattle.line.specs.Standing.{lineFrom}
 use Rattle.histories.specs.Joined.{runOn, answersOn, run-joined, answers-joined}
 use Rattle.histories.specs.Sent.{bitsFrom}
 use Rattle.recovery.specs.Sessions.{writeBits, write, WithinPage}

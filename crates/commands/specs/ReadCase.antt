@@ -17,7 +17,7 @@ use Rattle.chip.specs.Kinds.{imageSize, padSize}
 use Rattle.chip.specs.Chip.{Whole, whole, setUpChip, resetChip, resetOf}
 use Rattle.histories.specs.Below.{all-below}
 use Rattle.histories.specs.Histories.{at, run, answers}
-use Rattle.histories.specs.Keeps.{Good}
+use Rattle.line.specs.Keeps.{Good}
 use Rattle.histories.specs.Sent.{bitsFrom, bitsOf}
 use Rattle.recovery.specs.Sessions.{writeBits, write, WithinPage}
 use Rattle.recovery.specs.Installed.{Installed, installed-run}

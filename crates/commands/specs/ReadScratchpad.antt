@@ -22,7 +22,7 @@ use Rattle.chip.specs.Chip.{Whole, memoryLook, memorySight, memorySlot, takesOf
 use Rattle.chip.specs.declared.Chip.{Chip}
 use Rattle.chip.specs.declared.Level.the-variants.{Memory}
 use Rattle.histories.specs.Histories.{at, run, answers}
-use Rattle.histories.specs.Keeps.{Good, level-either}
+use Rattle.line.specs.Keeps.{Good, level-either}
 use Rattle.histories.specs.Sent.{bitsFrom, bitsOf}
 use Rattle.recovery.specs.Goes.{Goes, ofKind, goes-command}
 use Rattle.recovery.specs.Installed.{Installed}

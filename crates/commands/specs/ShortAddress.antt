@@ -21,7 +21,7 @@ use Rattle.chip.specs.declared.Level.the-variants.{Rom, Memory}
 use Rattle.line.specs.Events.{resetEvent}
 use Rattle.line.specs.declared.Event.{Event}
 use Rattle.histories.specs.Histories.{at, run}
-use Rattle.histories.specs.Keeps.{level-either}
+use Rattle.line.specs.Keeps.{level-either}
 use Rattle.histories.specs.Sent.{bitsFrom}
 use Rattle.recovery.specs.Sessions.{opening, matchSession}
 use Rattle.recovery.specs.Filled.{filledBy}

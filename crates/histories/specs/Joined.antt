@@ -1,12 +1,10 @@
 -- One host on a table with its buffers, and on the line of whole chips: what it comes to is the same.
 use Prim.Native.Nat.{ℕ}
-use mathlib.Core.List.{List, [], _∷_, _++_}
+use mathlib.Core.List.{List, [], _∷_}
 use mathlib.Core.Path.{_≡_, refl, _∙_, ap, sym}
-use lib.ListN.{length, drop}
-use lib.Seq.{drop-at}
+use lib.ListN.{length}
 use Rattle.chip.specs.Chip.{Whole}
-use Rattle.chip.specs.declared.Chip.{Chip}
-use Rattle.line.specs.Layout.{chipsOf, imagesOf, padsOf, lent}
+use Rattle.line.specs.Layout.{lent}
 use Rattle.line.specs.Event.{Answered}
 use Rattle.line.specs.declared.Event.{Event}
 use Rattle.search.specs.Host.{Host, done, ask, Played, played, more, resetsOf, slotsOf, play, searchHost}
@@ -14,15 +12,9 @@ use Rattle.line.specs.Refusals.{well-judged}
 use Rattle.line.specs.declared.Verdict.{Verdict}
 use Rattle.line.specs.Attached.{Attached, saysOf, leavesOf}
 use Rattle.search.specs.Search.{wire, fromPlayed, searchBy, searchOf}
-use Rattle.line.specs.Fitted.{length-chips}
 use Rattle.histories.specs.Histories.{answerOf, afterOf, run, answers, lineWire}
-use Rattle.histories.specs.Standing.{Stands, lineFrom, withLine, line-length, put-back, says-is, leaves-is, stands-after, line-after, after-length}
-
--- a table in which a line was replaced twice holds the second
-again : (l : Attached) (L K : List Whole) → length L ≡ l .count → withLine (withLine l L) K ≡ withLine l K
-again l L K k =
-    ap (λ (c : List Chip). record { count = l .count; lent = lent (chipsOf K ++ c) (imagesOf K) (padsOf K) })
-    (drop-at (chipsOf L) (drop (l .count) (l .lent .chips)) (l .count) (length-chips L ∙ k))
+use Rattle.line.specs.Standing.{Stands, lineFrom, withLine, line-length, put-back, again}
+use Rattle.histories.specs.Standing.{says-is, leaves-is, stands-after, line-after, after-length}
 
 -- what was played on the line of a table, with that line put back
 abbrev pub inTable : {A : Type 0} → Attached → Played A (List Whole) → Played A Attached

@@ -18,10 +18,11 @@ use Rattle.line.specs.declared.Plan.{Plan}
 use Rattle.line.specs.declared.Act.the-variants.{Take, Reset, PowerOn}
 use Rattle.line.specs.Attached.{Attached}
 use Rattle.histories.specs.Histories.{noWhole, at, codesOf, kindsOf, afterOf, run}
-use Rattle.histories.specs.Range.{Clear, clear-bit}
+use Rattle.line.specs.Range.{Clear, clear-bit}
 use Rattle.line.specs.Named.{Named, act-named}
-use Rattle.histories.specs.Keeps.{outside-named}
-use Rattle.histories.specs.Standing.{AllGood, Stands, lineFrom, line-good, at-chip, after-length}
+use Rattle.line.specs.Keeps.{outside-named}
+use Rattle.line.specs.Standing.{AllGood, Stands, lineFrom, line-good}
+use Rattle.histories.specs.Standing.{at-chip, after-length}
 use Rattle.histories.specs.Joined.{runOn, run-joined}
 use Rattle.histories.specs.Calls.{Call, callsOn, eventsOfCalls, calls-run, stands-calls}
 

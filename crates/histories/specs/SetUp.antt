@@ -32,9 +32,10 @@ use Rattle.card.specs.declared.Entry.the-variants as entry
 use Rattle.line.specs.Attached.{Attached, attached}
 use Rattle.histories.specs.Below.{Codes, Bytes, none-below, one-below, byte-at}
 use Rattle.histories.specs.Histories.{at, codesOf}
-use Rattle.histories.specs.Range.{both-true′}
-use Rattle.histories.specs.Keeps.{range-in}
-use Rattle.histories.specs.Standing.{Stands, lineFrom, at-chip, codes-chips}
+use Rattle.line.specs.Range.{both-true′}
+use Rattle.line.specs.Keeps.{range-in}
+use Rattle.line.specs.Standing.{Stands, lineFrom}
+use Rattle.histories.specs.Standing.{at-chip, codes-chips}
 
 -- the records of a card --------------------------------------------------------------------------
 

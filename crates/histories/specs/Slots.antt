@@ -22,9 +22,9 @@ use Rattle.line.specs.declared.Verdict.{Verdict}
 use Rattle.line.specs.declared.Verdict.the-variants as verdict
 use Rattle.line.specs.Attached.{Attached}
 use Rattle.histories.specs.Histories.{answerOf, afterOf, run, answers}
-use Rattle.histories.specs.Range.{both-true′}
+use Rattle.line.specs.Range.{both-true′}
 use Rattle.histories.specs.Sent.{slots}
-use Rattle.histories.specs.Standing.{Stands, lineFrom, withLine}
+use Rattle.line.specs.Standing.{Stands, lineFrom, withLine}
 use Rattle.histories.specs.Joined.{runOn, answersOn, answers-joined, run-left}
 
 -- a run of slots on a table with its buffers

@@ -16,3 +16,7 @@ pub mod Prefix
 pub mod Carried
 pub mod Runs
 pub mod RunTables
+pub mod Bounds
+pub mod Range
+pub mod Keeps
+pub mod Standing

@@ -22,7 +22,7 @@ use Rattle.line.specs.Refusals.{chips-split, images-split, pads-split, f
 use Rattle.line.specs.Carrier.{firstSpot, busOver, acts}
 use Rattle.line.specs.Carried.{slot-walked}
 use Rattle.line.specs.Slots.{bitsOf, bytesFrom, hostBits, runOn, bytesAsked, runFits, runVerdict, put, RunOutcome, runOutcome, runBy}
-use Rattle.line.specs.Runs.{run-length, host-many, InByte, Running}
+use Rattle.line.specs.Runs.{run-length, run-full, host-many, InByte, Running}
 use Rattle.line.specs.declared.Act.the-variants as act
 use Rattle.line.specs.declared.Plan.the-variants as plan
 use Rattle.line.specs.declared.Refusal.the-variants.{OutOfRange, WrongSize}
@@ -139,10 +139,6 @@ carrying-byte n cs₀ L m cs ms ss g count bits p ds xs ys h q =
     run-fitted : (bs : List Bool) (L : List Whole) → AllFitted L → AllFitted (runOn bs L .line)
     run-fitted [] L f = f
     run-fitted (b ∷ bs) L f = run-fitted bs (afterBy (plan.Slot b) L) (map-fitted (act.Take (valueOf b L)) L f)
-
-    run-full : (bs : List Bool) (L : List Whole) → length (runOn bs L .line) ≡ length L
-    run-full [] L = refl
-    run-full (b ∷ bs) L = run-full bs (afterBy (plan.Slot b) L) ∙ length-map L _
 
 -- ---- a run by its verdict
 

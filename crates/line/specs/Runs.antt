@@ -8,7 +8,7 @@ use mathlib.Core.Bool.{Bool, true, false}
 use mathlib.Core.List.{List, [], _∷_, _++_, append-assoc, append-nil}
 use mathlib.Core.Path.{_≡_, refl, _∙_, ap, sym, subst}
 use lib.Dec.{eqb, ltb}
-use lib.ListN.{length, take, drop, getD, set, length-set, length-take, drop-of-length-le}
+use lib.ListN.{length, take, drop, getD, set, length-map, length-set, length-take, drop-of-length-le}
 use lib.Seq.{take-at, drop-at, drop-cons, take-suc-set, take-all, take-append-le, take-append-add, length-take-le}
 use borrow.Author.Tests.{ltb-true, ltb-false}
 use Rattle.base.specs.Pick.{pick, pick-true, pick-false, pick-if}
@@ -26,6 +26,11 @@ run-append (a ∷ hs) bs L = ap (λ (r : Run). ran (valueOf a L ∷ r .bits) (r 
 pub run-length : (bs : List Bool) (L : List Whole) → length (runOn bs L .bits) ≡ length bs
 run-length [] L = refl
 run-length (b ∷ bs) L = ap suc (run-length bs (afterBy (plan.Slot b) L))
+
+-- and as many chips after them
+pub run-full : (bs : List Bool) (L : List Whole) → length (runOn bs L .line) ≡ length L
+run-full [] L = refl
+run-full (b ∷ bs) L = run-full bs (afterBy (plan.Slot b) L) ∙ length-map L _
 
 -- ---- up to eight slots, whose host bits are the first of a byte
 

@@ -13,7 +13,7 @@ use Rattle.line.specs.Attached.{Attached}
 use Rattle.search.specs.Search.{Search, completeOr4, searchOf}
 use Rattle.histories.specs.Below.{Codes}
 use Rattle.histories.specs.Histories.{lineWire, codesOf}
-use Rattle.histories.specs.Standing.{Stands, lineFrom}
+use Rattle.line.specs.Standing.{Stands, lineFrom}
 use Rattle.histories.specs.Joined.{search-joined, runOn, stands-on}
 use Rattle.histories.specs.Calls.{Call, search-call, callsOn, eventsOfCalls, calls-run, stands-calls}
 use Rattle.histories.specs.Kept.{run-on-codes, calls-codes}

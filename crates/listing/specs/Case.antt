@@ -28,7 +28,7 @@ use Rattle.search.specs.Search.{Search, complete, fromPlayed, searchOf}
 use Rattle.histories.specs.Below.{Codes, none-below, one-below, all-below}
 use Rattle.histories.specs.Sent.{bitsFrom, slots, byteSlots}
 use Rattle.histories.specs.Histories.{at, codesOf, answerOf, afterOf, run, lineWire}
-use Rattle.histories.specs.Standing.{Stands, lineFrom}
+use Rattle.line.specs.Standing.{Stands, lineFrom}
 use Rattle.histories.specs.Kept.{run-on-codes}
 use Rattle.histories.specs.Joined.{inTable, runOn, run-joined, stands-on, search-joined}
 use Rattle.listing.specs.Order.{branch, branchOrder, SameMembers}

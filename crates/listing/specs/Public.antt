@@ -12,7 +12,7 @@ use Rattle.line.specs.Attached.{Attached}
 use Rattle.search.specs.Search.{Search, complete, refused, searchOf}
 use Rattle.histories.specs.Below.{Codes}
 use Rattle.histories.specs.Histories.{lineWire, codesOf}
-use Rattle.histories.specs.Standing.{Stands, lineFrom, line-length}
+use Rattle.line.specs.Standing.{Stands, lineFrom, line-length}
 use Rattle.histories.specs.Joined.{search-joined}
 use Rattle.listing.specs.Order.{branchOrder}
 use Rattle.listing.specs.Listing.{listing-of-16}

@@ -21,7 +21,7 @@ use Rattle.line.specs.Attached.{Attached}
 use Rattle.search.specs.Search.{Searched, complete, refused, searchBy, searchOf}
 use Rattle.histories.specs.Below.{Codes}
 use Rattle.histories.specs.Histories.{codesOf}
-use Rattle.histories.specs.Standing.{Stands, lineFrom}
+use Rattle.line.specs.Standing.{Stands, lineFrom}
 use Rattle.listing.specs.Order.{Distinct, branchOrder}
 use Rattle.listing.specs.Listing.{branch-order}
 use Rattle.listing.specs.Public.{orderOf, search-finds}

@@ -30,7 +30,7 @@ use Rattle.recording.specs.declared.Record.the-variants as record-of
 use Rattle.recording.specs.declared.Found.the-variants as found
 use Rattle.histories.specs.Below.{Bytes}
 use Rattle.histories.specs.Sent.{slots}
-use Rattle.histories.specs.Standing.{Stands, lineFrom}
+use Rattle.line.specs.Standing.{Stands, lineFrom}
 use Rattle.histories.specs.Joined.{runOn, run-joined, stands-on}
 use Rattle.histories.specs.Calls.{run-on-append}
 use Rattle.histories.specs.Slots.{slots-leave, slots-left}

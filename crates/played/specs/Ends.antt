@@ -35,7 +35,7 @@ use Rattle.recording.specs.declared.Record.{Record}
 use Rattle.recording.specs.declared.Record.the-variants as record-of
 use Rattle.histories.specs.Joined.{stands-on}
 use Rattle.histories.specs.SetUp.{set-up-range}
-use Rattle.histories.specs.Standing.{Stands}
+use Rattle.line.specs.Standing.{Stands}
 use Rattle.refusals.specs.Event.{refused-8, refused-5, refused-6}
 use Rattle.played.specs.Standing.{CardTable, table-stands, blank-table, join-keeps, FoundFits, found-fits}
 use Rattle.played.specs.History.{eventsIn, Comes, record-comes}

@@ -27,7 +27,7 @@ use Rattle.recording.specs.declared.CardsEnding.the-variants as cards
 use Rattle.histories.specs.Joined.{runOn, answersOn, run-left, stands-on}
 use Rattle.histories.specs.Sent.{slots}
 use Rattle.histories.specs.Slots.{slots-left, slots-answered}
-use Rattle.histories.specs.Standing.{Stands}
+use Rattle.line.specs.Standing.{Stands}
 use Rattle.refusals.specs.Event.{refused-leaves}
 use Rattle.played.specs.Standing.{set-up-line-stands}
 

@@ -10,7 +10,7 @@ use Rattle.recording.specs.Playing.{Ends, ended, part, refusal, playFrom, playA
 use Rattle.recording.specs.declared.Ending.the-variants as ending
 use Rattle.recording.specs.declared.CardsEnding.{CardsEnding}
 use Rattle.recording.specs.declared.CardsEnding.the-variants as cards
-use Rattle.histories.specs.Standing.{Stands}
+use Rattle.line.specs.Standing.{Stands}
 use Rattle.histories.specs.Joined.{stands-on}
 use Rattle.played.specs.Handed.{Stage, carding, playing, over, Hand, start, stageAfter, cardAfter, handBytes, handPiece}
 use Rattle.played.specs.Standing.{CardTable, table-stands, blank-table, cards-keep}

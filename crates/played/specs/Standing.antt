@@ -27,9 +27,9 @@ use Rattle.recording.specs.declared.Record.the-variants as record-of
 use Rattle.recording.specs.declared.Found.{Found}
 use Rattle.recording.specs.declared.Found.the-variants as found
 use Rattle.recording.specs.declared.CardsRead.{CardsRead}
-use Rattle.histories.specs.Range.{both-true′}
+use Rattle.line.specs.Range.{both-true′}
 use Rattle.histories.specs.SetUp.{set-up-range}
-use Rattle.histories.specs.Standing.{Stands}
+use Rattle.line.specs.Standing.{Stands}
 
 -- a table of 16 places whose chips lie in their ranges
 pub record CardTable (t : Table) : Type 0 where

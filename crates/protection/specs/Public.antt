@@ -8,7 +8,7 @@ use Rattle.chip.specs.Chip.{Whole}
 use Rattle.line.specs.declared.Event.{Event}
 use Rattle.line.specs.Attached.{Attached}
 use Rattle.histories.specs.Histories.{at}
-use Rattle.histories.specs.Standing.{Stands, lineFrom}
+use Rattle.line.specs.Standing.{Stands, lineFrom}
 use Rattle.histories.specs.Joined.{runOn, run-joined}
 use Rattle.histories.specs.Calls.{Call, callsOn, eventsOfCalls, calls-run}
 use Rattle.protection.specs.Guarded.{Protected, OnlyFalls}

@@ -19,7 +19,7 @@ use Rattle.line.specs.declared.Event.{Event}
 use Rattle.line.specs.Events.{eventWith, resetEvent, powerOnEvent, outsideEvent}
 use Rattle.histories.specs.Below.{all-below}
 use Rattle.histories.specs.Histories.{at, afterOf, run, answers, came}
-use Rattle.histories.specs.Keeps.{InRange, Good}
+use Rattle.line.specs.Keeps.{InRange, Good}
 use Rattle.histories.specs.Sent.{bitsFrom, slots}
 use Rattle.recovery.specs.Sessions.{opening, Addressed, write, Page}
 use Rattle.recovery.specs.CarriedOut.{carriesOut, copiesNone, copies-none}

@@ -22,7 +22,7 @@ use Rattle.chip.specs.declared.Chip.{Chip}
 use Rattle.chip.specs.declared.Level.{Level}
 use Rattle.chip.specs.declared.Level.the-variants.{Rom, FunctionCommand, Memory}
 use Rattle.histories.specs.Fed.{fed, sendsNothing}
-use Rattle.histories.specs.Range.{both-true′}
+use Rattle.line.specs.Range.{both-true′}
 use Rattle.histories.specs.Sent.{bitsFrom}
 use Rattle.recovery.specs.Sessions.{opening}
 use Rattle.recovery.specs.Filled.{filledBy, byte-taken, address-taken}

@@ -12,7 +12,7 @@ use Rattle.line.specs.declared.Event.{Event}
 use Rattle.histories.specs.Below.{Codes, first-below, others-below}
 use Rattle.histories.specs.Histories.{at, run, codesOf}
 use Rattle.line.specs.Named.{act-named}
-use Rattle.histories.specs.Keeps.{Good}
+use Rattle.line.specs.Keeps.{Good}
 use Rattle.histories.specs.Kept.{run-codes, run-length}
 use Rattle.histories.specs.Place.{at-map}
 use Rattle.recovery.specs.Sessions.{opening}

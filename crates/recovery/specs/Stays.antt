@@ -22,7 +22,7 @@ use Rattle.line.specs.declared.Act.the-variants.{Take, Reset, PowerOn}
 use Rattle.line.specs.declared.Event.{Event}
 use Rattle.histories.specs.Histories.{at, run}
 use Rattle.line.specs.Named.{act-named}
-use Rattle.histories.specs.Keeps.{Good, act-good, outside-good, outside-named}
+use Rattle.line.specs.Keeps.{Good, act-good, outside-good, outside-named}
 use Rattle.histories.specs.Kept.{Each, each-at, run-kept}
 
 -- a chip's record without what a session sets: its level, RC, T and E/S

@@ -14,7 +14,7 @@ use Rattle.line.specs.declared.Verdict.{Verdict}
 use Rattle.search.specs.Host.{play, searchHost}
 use Rattle.line.specs.Attached.{Attached}
 use Rattle.search.specs.Search.{Searched, complete, refused, completeOr4, wire, Search, outcome, searchBy, searchOf}
-use Rattle.histories.specs.Standing.{Stands}
+use Rattle.line.specs.Standing.{Stands}
 
 numbered : (r s : ℕ) → (r ≡ s → ⊥) → refused r ≡ refused s → ⊥
 numbered r s n e = n (number e)

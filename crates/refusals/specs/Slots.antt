@@ -18,7 +18,7 @@ use Rattle.line.specs.Event.{tableInRange, sizesFit}
 use Rattle.line.specs.Slots.{hostBits, runOn, bytesAsked, runFits, Slotted, put, refused, RunOutcome, runOutcome, runVerdict, runBy, slotsOf}
 use Rattle.line.specs.RunTables.{run-well, put-all}
 use Rattle.line.specs.declared.Verdict.{Verdict}
-use Rattle.histories.specs.Range.{both-true′}
+use Rattle.line.specs.Range.{both-true′}
 use Rattle.histories.specs.Slots.{well-run}
 
 numbered : (r s : ℕ) → (r ≡ s → ⊥) → refused r ≡ refused s → ⊥

@@ -23,7 +23,8 @@ use Rattle.line.specs.declared.Plan.the-variants as plan
 use Rattle.line.specs.Attached.{Attached, saysOf, leavesOf}
 use Rattle.histories.specs.Histories.{at, answerOf, afterOf}
 use Rattle.histories.specs.Place.{at-map}
-use Rattle.histories.specs.Standing.{Stands, lineFrom, line-length, says-is, line-after}
+use Rattle.line.specs.Standing.{Stands, lineFrom, line-length}
+use Rattle.histories.specs.Standing.{says-is, line-after}
 use Rattle.wired.specs.Wired.{AllSendOne, value-exactly, Sending, moves-on}
 
 -- "Events: 0 and 1, a slot in which the host writes that bit"

@@ -24,7 +24,7 @@ use Rattle.line.specs.Line.{valueOf}
 use Rattle.line.specs.Event.{askedBy, planEvent, outsideFits}
 use Rattle.line.specs.Events.{slotEvent}
 use Rattle.histories.specs.Histories.{at, afterOf, run}
-use Rattle.histories.specs.Range.{both-true′}
+use Rattle.line.specs.Range.{both-true′}
 
 -- every chip of a line sends 1
 abbrev pub AllSendOne : List Whole → Type 0

@@ -15,7 +15,7 @@ use Rattle.scratchpad.specs.Scratchpad.{memoryInRange, registersInRange, memory
 use Rattle.scratchpad.specs.Registers.{pfSet}
 use Rattle.scratchpad.specs.declared.Registers.{Registers}
 use Rattle.ds2413.specs.Switch.{switchBegins, switchInRange, phaseInRange, switchPowerOn}
-use Rattle.histories.specs.Bounds.{sight-last, sight-end}
+use Rattle.line.specs.Bounds.{sight-last, sight-end}
 use Rattle.chip.specs.Kinds.{hasMemory, hasSwitch, knowsOf, knownKind, imageSize, padSize}
 use Rattle.chip.specs.With.{withRc, withLevel}
 use Rattle.chip.specs.declared.ChipAfter.{ChipAfter}
@@ -25,12 +25,12 @@ use Rattle.chip.specs.Range.{levelInRange, inRange}
 use Rattle.chip.specs.declared.Chip.{Chip}
 use Rattle.chip.specs.declared.Level.{Level}
 use Rattle.chip.specs.declared.Level.the-variants.{Waiting, Rom, FunctionCommand, Memory, Pio}
 use Rattle.line.specs.Line.{actOf}
 use Rattle.line.specs.Named.{Named, act-named}
 use Rattle.line.specs.Sizes.{act-sized}
 use Rattle.line.specs.declared.Act.{Act}
 use Rattle.line.specs.declared.Act.the-variants.{Take, Reset, PowerOn}
-use Rattle.histories.specs.Range.{both-true′, more-below, Clear, clear-of, of-clear, NextInRange, rom-leads, function-in-range, memory-in-range, clear-pf, reset-either, pio-function, switch-in-range}
+use Rattle.line.specs.Range.{both-true′, more-below, Clear, clear-of, of-clear, NextInRange, rom-leads, function-in-range, memory-in-range, clear-pf, reset-either, pio-function, switch-in-range}
 
 -- a record in range, part by part
 pub record InRange (c : Chip) : Type 0 where

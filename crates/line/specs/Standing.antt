@@ -1,0 +1,161 @@
+-- Laws: a table with its buffers that is refused by neither 8 nor 5, and each line that events and runs of slots leave in its places stands
+-- as well as it.
+use Prim.Native.Nat.{ℕ, zero, suc, _≤_}
+use native.Mathlib.Omega.{arith}
+use mathlib.Core.Bool.{Bool, true, false, true≢false}
+use mathlib.Core.List.{List, [], _∷_, _++_, map}
+use mathlib.Core.Path.{_≡_, refl, _∙_, ap, sym}
+use lib.Dec.{leb}
+use lib.ListN.{length, take, drop, length-append, length-drop, take-append-drop}
+use lib.Seq.{length-take-le, take-at, drop-at}
+use borrow.Author.Tests.{le-leb, eq-eqb}
+use Rattle.base.specs.Pick.{pick, pick-true, pick-if}
+use Rattle.base.specs.Both.{both-holds}
+use Rattle.chip.specs.Chip.{Whole}
+use Rattle.chip.specs.Range.{inRange}
+use Rattle.chip.specs.Kinds.{imageSize, padSize}
+use Rattle.chip.specs.declared.Chip.{Chip}
+use Rattle.line.specs.Line.{valueOf, actOf, outsideAt, afterBy}
+use Rattle.line.specs.Layout.{imagesSize, padsSize, split, chipsOf, imagesOf, padsOf, lent, lineOf, lentFrom}
+use Rattle.line.specs.Event.{allInRange, tableInRange, sizesFit, verdictOf}
+use Rattle.line.specs.Attached.{Attached, attached}
+use Rattle.line.specs.Fitted.{AllFitted, length-chips, images-length, pads-length, split-joined}
+use Rattle.line.specs.Refusals.{chips-split, images-split, pads-split, fit, in-range-few, judged-well, Comes, slot, reset, power-on, outside, refused}
+use Rattle.line.specs.Prefix.{length-split}
+use Rattle.line.specs.Slots.{runOn}
+use Rattle.line.specs.Runs.{run-full}
+use Rattle.line.specs.Range.{both-true′}
+use Rattle.line.specs.Keeps.{in-range, range-in, Good, act-good, outside-good}
+use Rattle.line.specs.declared.Act.{Act}
+use Rattle.line.specs.declared.Act.the-variants.{Take, Reset, PowerOn}
+use Rattle.line.specs.declared.Plan.{Plan}
+use Rattle.line.specs.declared.Plan.the-variants as plan
+use Rattle.line.specs.declared.Verdict.the-variants as verdict
+
+-- every chip of a line is good
+abbrev pub AllGood : List Whole → Type 0
+AllGood [] = Unit
+AllGood (w ∷ L) = Good w × AllGood L
+
+-- a table with its buffers that is refused by neither 8 nor 5, and has its chips in its places
+pub record Stands (l : Attached) : Type 0 where
+  pub range : tableInRange (l .count) (l .lent .chips) ≡ true
+  pub sizes : sizesFit (l .count) (l .lent .chips) (l .lent .images) (l .lent .pads) ≡ true
+  pub places : l .count ≤ length (l .lent .chips)
+
+-- the line of a table
+abbrev pub lineFrom : Attached → List Whole
+lineFrom l = lineOf (l .count) (l .lent .chips) (l .lent .images) (l .lent .pads)
+
+-- a table with another line in its first places
+abbrev pub withLine : Attached → List Whole → Attached
+withLine l L = record { count = l .count; lent = lentFrom (l .count) (l .lent .chips) L }
+
+-- what any event keeps of a line
+map-good : (a : Act) (L : List Whole) → AllGood L → AllGood (map (actOf a) L)
+map-good a [] g = tt
+map-good a (w ∷ L) (g, h) = (act-good a w g, map-good a L h)
+
+outside-all : (i l : ℕ) (L : List Whole) → l ≤ 3 → AllGood L → AllGood (outsideAt i l L)
+outside-all i l [] k g = tt
+outside-all zero l (w ∷ L) k (g, h) = (outside-good l w k g, h)
+outside-all (suc i) l (w ∷ L) k (g, h) = (g, outside-all i l L k h)
+
+slot-good : (b : Bool) (L : List Whole) → AllGood L → AllGood (afterBy (plan.Slot b) L)
+slot-good b L g = map-good (Take (valueOf b L)) L g
+
+pub comes-good : {cs : List Chip} {q : Plan} → Comes cs q → (L : List Whole) → AllGood L → AllGood (afterBy q L)
+comes-good (slot b) L g = slot-good b L g
+comes-good reset L g = map-good Reset L g
+comes-good power-on L g = map-good PowerOn L g
+comes-good (outside i l h k m) L g = outside-all i l L m g
+comes-good (refused r) L g = g
+
+-- and any run of slots
+run-good : (bs : List Bool) (L : List Whole) → AllGood L → AllGood (runOn bs L .line)
+run-good [] L g = g
+run-good (b ∷ bs) L g = run-good bs (afterBy (plan.Slot b) L) (slot-good b L g)
+
+-- the line of a table that stands well is good
+split-good : (cs : List Chip) (ms ss : List ℕ) → allInRange cs ≡ true → length ms ≡ imagesSize cs → length ss ≡ padsSize cs → AllGood (split cs ms ss)
+split-good [] ms ss h b t = tt
+split-good (c ∷ cs) ms ss h b t =
+    let p = both-holds (inRange c) (allInRange cs) h in (
+      record {
+        range = in-range c (p .0);
+        memory = length-take-le (imageSize (c .kind)) ms (omega arith);
+        pad = length-take-le (padSize (c .kind)) ss (omega arith);
+      },
+      split-good cs (drop (imageSize (c .kind)) ms) (drop (padSize (c .kind)) ss) (p .1) (simp length-drop (omega arith)) (simp length-drop (omega arith)),
+    )
+
+in-line : (s t : Bool) → pick s t false ≡ true → t ≡ true
+in-line s t q = pick-if (λ (b : Bool). b ≡ true → t ≡ true) s t false (λ u r. r) (λ u r. absurd (true≢false (sym r))) q
+
+all-in-range : (n : ℕ) (cs : List Chip) → tableInRange n cs ≡ true → allInRange (take n cs) ≡ true
+unfolding tableInRange
+all-in-range n cs h = in-line (leb n 16) (allInRange (take n cs)) h
+
+module _ (l : Attached) (s : Stands l) where
+  first : length (take (l .count) (l .lent .chips)) ≡ l .count
+  first = length-take-le (l .count) (l .lent .chips) (s .places)
+
+  pub line-good : AllGood (lineFrom l)
+  line-good =
+      let f = fit (l .count) (l .lent .chips) (l .lent .images) (l .lent .pads) (s .range) (s .sizes) in
+      split-good (take (l .count) (l .lent .chips)) (l .lent .images) (l .lent .pads) (all-in-range (l .count) (l .lent .chips) (s .range)) (f .images) (f .pads)
+
+  pub line-length : length (lineFrom l) ≡ l .count
+  line-length = length-split (take (l .count) (l .lent .chips)) (l .lent .images) (l .lent .pads) ∙ first
+
+  pub put-back : withLine l (lineFrom l) ≡ l
+  put-back =
+      let f = fit (l .count) (l .lent .chips) (l .lent .images) (l .lent .pads) (s .range) (s .sizes) in
+      let t = take (l .count) (l .lent .chips) in
+      let a = ap (λ (k : List Chip). k ++ drop (l .count) (l .lent .chips)) (chips-split t (l .lent .images) (l .lent .pads)) ∙ take-append-drop (l .count) (l .lent .chips) in
+      λ j. record { count = l .count; lent = lent (a j) (images-split t (l .lent .images) (l .lent .pads) (f .images) j) (pads-split t (l .lent .images) (l .lent .pads) (f .pads) j) }
+
+-- a good line has the memories and scratchpads that its kinds ask for
+good-fitted : (L : List Whole) → AllGood L → AllFitted L
+good-fitted [] g = tt
+good-fitted (w ∷ L) (g, h) = (record { memory = g .memory; pad = g .pad }, good-fitted L h)
+
+chips-in-range : (L : List Whole) → AllGood L → allInRange (chipsOf L) ≡ true
+chips-in-range [] g = refl
+chips-in-range (w ∷ L) (g, h) = both-true′ _ _ (range-in (w .chip) (g .range)) (chips-in-range L h)
+
+module _ (l : Attached) (s : Stands l) (L : List Whole) (g : AllGood L) (k : length L ≡ l .count) where
+  chips-first : take (l .count) (chipsOf L ++ drop (l .count) (l .lent .chips)) ≡ chipsOf L
+  chips-first = take-at (chipsOf L) (drop (l .count) (l .lent .chips)) (l .count) (length-chips L ∙ k)
+
+  pub line-with : lineFrom (withLine l L) ≡ L
+  line-with = ap (λ (c : List Chip). split c (imagesOf L) (padsOf L)) chips-first ∙ split-joined L (good-fitted L g)
+
+  pub stands-with : Stands (withLine l L)
+  unfolding tableInRange sizesFit
+  stands-with =
+      record {
+        range = pick-true (leb (l .count) 16) _ false (le-leb (l .count) 16 (in-range-few (l .count) (l .lent .chips) (s .range))) ∙ ap allInRange chips-first ∙ chips-in-range L g;
+        sizes = both-true′ _ _
+            (eq-eqb (length (imagesOf L)) (imagesSize (take (l .count) (chipsOf L ++ drop (l .count) (l .lent .chips)))) (images-length L (good-fitted L g) ∙ ap imagesSize (sym chips-first)))
+            (eq-eqb (length (padsOf L)) (padsSize (take (l .count) (chipsOf L ++ drop (l .count) (l .lent .chips)))) (pads-length L (good-fitted L g) ∙ ap padsSize (sym chips-first)));
+        places = let a = length-chips L in simp length-append (omega arith);
+      }
+
+-- a table in which a line was replaced twice holds the second
+pub again : (l : Attached) (L K : List Whole) → length L ≡ l .count → withLine (withLine l L) K ≡ withLine l K
+again l L K k =
+    ap (λ (c : List Chip). record { count = l .count; lent = lent (chipsOf K ++ c) (imagesOf K) (padsOf K) })
+    (drop-at (chipsOf L) (drop (l .count) (l .lent .chips)) (l .count) (length-chips L ∙ k))
+
+-- a table that is judged well stands well
+pub judged-stands : (n : ℕ) (cs : List Chip) (ms ss : List ℕ) → n ≤ length cs → verdict.Well ≡ verdictOf n cs ms ss → Stands (attached n cs ms ss)
+judged-stands n cs ms ss h e = let b = judged-well n cs ms ss e in record { range = b .0; sizes = b .1; places = h }
+
+-- so does the table that a run of slots leaves, and its line is that of the run
+module _ (bs : List Bool) (l : Attached) (s : Stands l) where
+  pub run-stands : Stands (withLine l (runOn bs (lineFrom l) .line))
+  run-stands = stands-with l s (runOn bs (lineFrom l) .line) (run-good bs (lineFrom l) (line-good l s)) (run-full bs (lineFrom l) ∙ line-length l s)
+
+  pub run-line : lineFrom (withLine l (runOn bs (lineFrom l) .line)) ≡ runOn bs (lineFrom l) .line
+  run-line = line-with l s (runOn bs (lineFrom l) .line) (run-good bs (lineFrom l) (line-good l s)) (run-full bs (lineFrom l) ∙ line-length l s)
