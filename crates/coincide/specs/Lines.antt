@@ -81,6 +81,9 @@ line-bytes-asked κs a x y v w p q = (p ∙ sym q, refl)
 pub line-slot-bit : Settled line.slot_bit.ended line.slot_bit.Reads.Learnt
 line-slot-bit κs a x y v w p q = (p ∙ sym q, refl)
 
+pub line-put-slot-bit : Settled line.put_slot_bit.ended line.put_slot_bit.Reads.Learnt
+line-put-slot-bit κs a x y v w p q = (refl, λ i. ((p ∙ sym q) i, w .1))
+
 pub line-how-stands : Settled line.how_stands.ended line.how_stands.Reads.Learnt
 line-how-stands κs a x y v w p q = (p ∙ sym q, refl)
 

@@ -15,6 +15,7 @@ pub mod Refusals
 pub mod Prefix
 pub mod Carried
 pub mod Runs
+pub mod Packing
 pub mod RunTables
 pub mod Bounds
 pub mod Range

@@ -106,11 +106,11 @@ bit-most b worth = pick-if (λ (n : ℕ). n ≤ worth) b worth 0 (λ e. omega ar
 -- ---- all slots of a run, byte after byte
 
 -- the first bits of a byte, and those of the bytes after it
-bits-length : (n x : ℕ) → length (bitsOf n x) ≡ n
+pub bits-length : (n x : ℕ) → length (bitsOf n x) ≡ n
 bits-length zero x = refl
 bits-length (suc n) x = ap suc (bits-length n (x / 2))
 
-bits-first : (k n x : ℕ) → k ≤ n → take k (bitsOf n x) ≡ bitsOf k x
+pub bits-first : (k n x : ℕ) → k ≤ n → take k (bitsOf n x) ≡ bitsOf k x
 bits-first zero n x h = refl
 bits-first (suc k) zero x h = absurd (omega arith)
 bits-first (suc k) (suc n) x h = ap (λ (l : List Bool). eqb (x % 2) 1 ∷ l) (bits-first k n (x / 2) (omega arith))
@@ -131,7 +131,7 @@ host-most n xs = let e = length-take n (bitsIn xs) in let m = min-le-left n (len
 abbrev pub countOf : ℕ → ℕ
 countOf left = pick (ltb left 8) left 8
 
-count-cases : (P : ℕ → Type 0) (left : ℕ) → (left < 8 → P left) → (8 ≤ left → P 8) → P (countOf left)
+pub count-cases : (P : ℕ → Type 0) (left : ℕ) → (left < 8 → P left) → (8 ≤ left → P 8) → P (countOf left)
 count-cases P left f g = pick-if P (ltb left 8) left 8 (λ e. f (ltb-true left 8 e)) (λ e. g (ltb-false left 8 e))
 
 pub count-few : (left : ℕ) → (countOf left ≤ 8) × (countOf left ≤ left)

@@ -1,10 +1,10 @@
 -- A run of slots: "a run of host bits packed least significant first, how many slots, a lent buffer for the answers (packed
 -- likewise)", over a table and its buffers, for every input.
-use Prim.Native.Nat.{ℕ, zero, suc, _+_, _*_, _/_, _%_}
+use Prim.Native.Nat.{ℕ, zero, suc, _+_, _*_, _/_, _%_, _^_}
 use mathlib.Core.Bool.{Bool}
 use mathlib.Core.List.{List, [], _∷_, _++_}
 use lib.Dec.{eqb, leb}
-use lib.ListN.{length, take, drop, getD}
+use lib.ListN.{length, take, drop, getD, set}
 use Rattle.base.specs.Pick.{pick}
 use Rattle.base.specs.Bits.{both, bitOf}
 use Rattle.chip.specs.Chip.{Whole}
@@ -44,6 +44,14 @@ hostBits slots bits = take slots (bitsIn bits)
 -- the bit of one slot, 0 past the end
 unfoldable pub slotBit : List ℕ → ℕ → Bool
 slotBit bits slot = bitOf (getD bits (slot / 8) 0) (slot % 8)
+
+-- a byte with a bit at a place: the bits before it stay, and there are none after it
+abbrev pub withBit : ℕ → ℕ → Bool → ℕ
+withBit x place b = x % 2 ^ place + pick b (2 ^ place) 0
+
+-- packed bits with the bit of one slot put after those before it; past the end nothing changes
+unfoldable pub withSlotBit : List ℕ → ℕ → Bool → List ℕ
+withSlotBit bits slot b = set bits (slot / 8) (withBit (getD bits (slot / 8) 0) (slot % 8) b)
 
 -- slots one after the other on a line: the bit on the bus in each, and the line that the last leaves
 pub record Run : Type 0 where

@@ -1,4 +1,5 @@
 // Up to 16 chips on one line: the table by value, and the event with its refusals.
+mod bits;
 pub mod events;
 mod judged;
 
@@ -18,7 +19,7 @@ ghost use mathlib.Core.Path.{_≡_};
 ghost use Prim.Native.Nat.{_≤_};
 ghost use Rattle.line.specs.Layout.{lent, capped};
 ghost use Rattle.line.specs.Event.{numberOf, answered, outcome, verdictOf, eventOf};
-ghost use Rattle.line.specs.Slots.{bytesAsked, slotBit};
+ghost use Rattle.line.specs.Slots.{bytesAsked, slotBit, withSlotBit};
 
 // The most bytes of images that a table asks for.
 pub const IMAGES_MOST: usize = 41984;
@@ -172,6 +173,15 @@ pub fn slot_bit(bits: &[u8], slot: usize) -> bool
 {
     let byte = base::byte_at(bits, slot / 8);
     base::bit_of(byte as u64, (slot % 8) as u8)
+}
+
+// The bit of a slot put into packed bits after those before it; past their end nothing changes.
+pub fn put_slot_bit(bits: &mut [u8], slot: usize, bit: bool)
+    ensures { λ r. ⌜ now (bits .exit) ≡ withSlotBit (now (bits .entry)) slot bit ⌝ }
+{
+    let byte = base::byte_at(bits, slot / 8);
+    let more = bits::byte_with(byte, (slot % 8) as u8, bit);
+    base::put_at(bits, slot / 8, more);
 }
 
 // How a table and its buffers stand: refusal 8, then 5.

@@ -1,1 +1,1 @@
-pub mod Packed
+pub mod Places

@@ -5,10 +5,8 @@ use line::Answer;
 use line::SLOTS_MOST;
 use line::SlotsAnswer;
 ghost use mathlib.Core.Path.{_≡_};
-ghost use mathlib.Core.List.{[], _∷_, _++_};
-ghost use Prim.Native.Nat.{_+_, _^_, _<_, _≤_};
+ghost use Prim.Native.Nat.{_<_, _≤_};
 ghost use lib.ListN.{length};
-ghost use Rattle.line.specs.Slots.{bitsOf};
 
 // A run that was gathered: how many slots it has, and where the text goes on.
 pub struct Gathered {
@@ -23,42 +21,13 @@ pub fn room() -> [u8; 8192]
     [0; 8192]
 }
 
-// What a place of a byte is worth.
-fn worth_of(place: u8) -> u64
-    requires { ⌜ place < 8 ⌝ }
-    ensures { λ r. ⌜ r ≡ 2 ^ place ⌝ }
-    ensures { λ r. ⌜ (0 < r) × (r ≤ 128) ⌝ }
-{
-    1 << (place as u64)
-}
-
-// A byte with a bit at a place: the bits before it stay, and there are none after it.
-fn with_bit(byte: u8, place: u8, bit: bool) -> u8
-    requires { ⌜ place < 8 ⌝ }
-    ensures { λ r. ⌜ bitsOf (place + 1) r ≡ bitsOf place byte ++ (bit ∷ []) ⌝ }
-{
-    let worth = worth_of(place);
-    let before = (byte as u64) % worth;
-    if bit {
-        return (before + worth) as u8;
-    }
-    before as u8
-}
-
-// The bit of a slot, put into packed bits after those before it.
-fn put_bit(bits: &mut [u8], slot: usize, bit: bool) {
-    let byte = base::byte_at(bits, slot / 8);
-    let more = with_bit(byte, (slot % 8) as u8, bit);
-    base::put_at(bits, slot / 8, more);
-}
-
 // The slots of a run with the one that a character is, if it is one.
 fn with_slot(bits: &mut [u8], slots: usize, b: u8) -> usize
     requires { ⌜ slots ≤ 65534 ⌝ }
     ensures { λ r. ⌜ r ≤ 65535 ⌝ }
 {
     if text::is_slot(b) {
-        put_bit(bits, slots, b == b'1');
+        line::put_slot_bit(bits, slots, b == b'1');
         return slots + 1;
     }
     slots

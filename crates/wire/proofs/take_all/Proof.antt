@@ -1,4 +1,4 @@
-use Rattle.wire.specs.Packed.{place-fits, less-left}
+use Rattle.wire.specs.Places.{place-fits, less-left}
 use borrow.Author.Needs.{needs}
 use lib.ListN.{length}
 use mathlib.Core.Path.{_≡_, _∙_, refl, sym}
