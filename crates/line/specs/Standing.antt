@@ -17,11 +17,11 @@ use Rattle.chip.specs.Kinds.{imageSize, padSize}
 use Rattle.chip.specs.declared.Chip.{Chip}
 use Rattle.line.specs.Line.{valueOf, actOf, outsideAt, afterBy}
 use Rattle.line.specs.Layout.{imagesSize, padsSize, split, chipsOf, imagesOf, padsOf, lent, lineOf, lentFrom}
-use Rattle.line.specs.Event.{allInRange, tableInRange, sizesFit, verdictOf}
-use Rattle.line.specs.Attached.{Attached, attached}
+use Rattle.line.specs.Event.{allInRange, tableInRange, sizesFit, verdictOf, planBy, planOf, doneOf, eventOf}
+use Rattle.line.specs.Attached.{Attached, attached, leavesOf}
 use Rattle.line.specs.Fitted.{AllFitted, length-chips, images-length, pads-length, split-joined}
 use Rattle.line.specs.Refusals.{chips-split, images-split, pads-split, fit, in-range-few, judged-well, Comes, slot, reset, power-on, outside, refused}
-use Rattle.line.specs.Prefix.{length-split}
+use Rattle.line.specs.Prefix.{length-split, length-after}
 use Rattle.line.specs.Slots.{runOn}
 use Rattle.line.specs.Runs.{run-full}
 use Rattle.line.specs.Range.{both-true′}
@@ -30,6 +30,8 @@ use Rattle.line.specs.declared.Act.{Act}
 use Rattle.line.specs.declared.Act.the-variants.{Take, Reset, PowerOn}
 use Rattle.line.specs.declared.Plan.{Plan}
 use Rattle.line.specs.declared.Plan.the-variants as plan
+use Rattle.line.specs.declared.Event.{Event}
+use Rattle.line.specs.declared.Verdict.{Verdict}
 use Rattle.line.specs.declared.Verdict.the-variants as verdict
 
 -- every chip of a line is good
@@ -148,9 +150,9 @@ again l L K k =
     ap (λ (c : List Chip). record { count = l .count; lent = lent (chipsOf K ++ c) (imagesOf K) (padsOf K) })
     (drop-at (chipsOf L) (drop (l .count) (l .lent .chips)) (l .count) (length-chips L ∙ k))
 
--- a table that is judged well stands well
-pub judged-stands : (n : ℕ) (cs : List Chip) (ms ss : List ℕ) → n ≤ length cs → verdict.Well ≡ verdictOf n cs ms ss → Stands (attached n cs ms ss)
-judged-stands n cs ms ss h e = let b = judged-well n cs ms ss e in record { range = b .0; sizes = b .1; places = h }
+-- a table of 16 places that is judged well stands well
+pub judged-stands : (n : ℕ) (cs : List Chip) (ms ss : List ℕ) → 16 ≤ length cs → verdict.Well ≡ verdictOf n cs ms ss → Stands (attached n cs ms ss)
+judged-stands n cs ms ss h e = let b = judged-well n cs ms ss e in let f = in-range-few n cs (b .0) in record { range = b .0; sizes = b .1; places = omega arith }
 
 -- so does the table that a run of slots leaves, and its line is that of the run
 module _ (bs : List Bool) (l : Attached) (s : Stands l) where
@@ -159,3 +161,36 @@ module _ (bs : List Bool) (l : Attached) (s : Stands l) where
 
   pub run-line : lineFrom (withLine l (runOn bs (lineFrom l) .line)) ≡ runOn bs (lineFrom l) .line
   run-line = line-with l s (runOn bs (lineFrom l) .line) (run-good bs (lineFrom l) (line-good l s)) (run-full bs (lineFrom l) ∙ line-length l s)
+
+-- ---- the places of a table
+
+-- a line in the places of its chips leaves as many places
+with-places : (n : ℕ) (cs : List Chip) (L : List Whole) → length L ≡ n → n ≤ length cs → length (lentFrom n cs L .chips) ≡ length cs
+with-places n cs L k h = let a = length-chips L in simp (length-append, length-drop) (omega arith)
+
+module _ (n : ℕ) (cs : List Chip) (ms ss : List ℕ) (places : 16 ≤ length cs) where
+  line-full : verdict.Well ≡ verdictOf n cs ms ss → (length (lineOf n cs ms ss) ≡ n) × (n ≤ length cs)
+  line-full e = let s = judged-stands n cs ms ss places e in (line-length (attached n cs ms ss) s, s .places)
+
+  after-places : (p : Plan) → (length (lineOf n cs ms ss) ≡ n) × (n ≤ length cs) → length (lentFrom n cs (afterBy p (lineOf n cs ms ss)) .chips) ≡ length cs
+  after-places p f = with-places n cs (afterBy p (lineOf n cs ms ss)) (length-after p (lineOf n cs ms ss) ∙ f .0) (f .1)
+
+  -- so does whatever is planned
+  done-places : (p : Plan) → (length (lineOf n cs ms ss) ≡ n) × (n ≤ length cs) → length (doneOf p n cs ms ss .lent .chips) ≡ length cs
+  done-places (plan.Refused r) f = refl
+  done-places (plan.Slot b) f = after-places (plan.Slot b) f
+  done-places plan.Reset f = after-places plan.Reset f
+  done-places plan.PowerOn f = after-places plan.PowerOn f
+  done-places (plan.Outside i x) f = after-places (plan.Outside i x) f
+
+  planned-places : (v : Verdict) (p : Plan) → v ≡ verdictOf n cs ms ss → length (doneOf (planBy v p) n cs ms ss .lent .chips) ≡ length cs
+  planned-places verdict.Well p e = done-places p (line-full e)
+  planned-places (verdict.Refused r) p e = refl
+
+  -- every event leaves as many places, and every run of slots on a table that is judged well
+  pub event-places : (e : Event) → length (leavesOf e (attached n cs ms ss) .lent .chips) ≡ length cs
+  unfolding leavesOf eventOf planOf
+  event-places e = planned-places (verdictOf n cs ms ss) _ refl
+
+  pub run-places : (bs : List Bool) → verdict.Well ≡ verdictOf n cs ms ss → length (lentFrom n cs (runOn bs (lineOf n cs ms ss) .line) .chips) ≡ length cs
+  run-places bs e = with-places n cs (runOn bs (lineOf n cs ms ss) .line) (run-full bs (lineOf n cs ms ss) ∙ line-full e .0) (line-full e .1)

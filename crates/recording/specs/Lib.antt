@@ -11,4 +11,7 @@ pub mod CardLoop
 pub mod Unpacked
 pub mod Digits
 pub mod Puts
+pub mod Joining
+pub mod JoinLoop
+pub mod JoinPlay
 pub mod PlayLoop

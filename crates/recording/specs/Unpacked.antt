@@ -2,12 +2,13 @@
 use Prim.Native.Nat.{ℕ, zero, suc, _+_, _-_, _*_, _/_, _%_, _^_, _<_, _≤_}
 use native.Mathlib.Omega.{arith}
 use native.Mathlib.Nat.{zero-add, suc-add, pow-succ', div-div-eq-div-mul}
+use native.Mathlib.Numerals.{add-one}
 use mathlib.Core.Bool.{Bool, true, false}
 use mathlib.Core.List.{List, [], _∷_, _++_, append-assoc}
 use mathlib.Core.Path.{_≡_, refl, _∙_, ap, sym, subst}
 use lib.Dec.{eqb, ltb}
 use lib.ListN.{length, take, drop, getD, List·getD-append}
-use lib.Seq.{take-append-le, getD-append-add, drop-cons, drop-nil, getD-take}
+use lib.Seq.{take-suc, take-append-le, getD-append-add, drop-cons, drop-nil, getD-take}
 use borrow.Author.Tests.{ltb-true, ltb-false}
 use Rattle.base.specs.Pick.{pick}
 use Rattle.base.specs.Bits.{both, bitOf}
@@ -69,6 +70,13 @@ pub host-next : (n : ℕ) (xs : List ℕ) (i : ℕ) → n ≤ 8 * length xs → 
 host-next n xs i h l =
     let m = host-many n xs h in
     drop-cons (hostBits n xs) i false (omega arith) ∙ ap (λ (b : Bool). b ∷ drop (suc i) (hostBits n xs)) (getD-take n (bitsIn xs) i false l ∙ slot-at xs i (omega arith))
+
+-- one bit more
+pub host-more : (n : ℕ) (xs : List ℕ) → n < 8 * length xs → hostBits (n + 1) xs ≡ hostBits n xs ++ (slotBit xs n ∷ [])
+host-more n xs h =
+    let m = bits-many xs in
+    ap (λ (k : ℕ). take k (bitsIn xs)) (add-one n) ∙ take-suc (bitsIn xs) n false (omega arith)
+    ∙ ap (λ (b : Bool). hostBits n xs ++ (b ∷ [])) (slot-at xs n h)
 
 -- ---- the bits of bytes that were made of bits
 

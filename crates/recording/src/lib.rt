@@ -1,5 +1,6 @@
 // A hall's recording: what its records are, the chips that it starts with, and its events put on a line.
 mod cards;
+mod joining;
 mod playing;
 mod reading;
 

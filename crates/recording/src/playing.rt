@@ -5,6 +5,7 @@ use crate::Found;
 use crate::Played;
 use crate::Record;
 use crate::cards;
+use crate::joining;
 use crate::reading;
 use line::Answer;
 use line::Event;
@@ -32,7 +33,7 @@ pub struct RecordPut {
     pub table: Table,
 }
 
-// Room for the answers of the longest run, packed.
+// Room for the bits of the longest run, packed.
 fn run_room() -> [u8; 8192]
     ensures { λ r. ⌜ 8192 ≡ length r ⌝ }
 {
@@ -189,11 +190,13 @@ fn play_all(t: Table, s: &[u8], more: bool, out: &mut [u8], ms: &mut [u8], ss: &
         ≡ handedFrom (now (out .entry)) (playAll more (now (s .entry)) (attached (t .n) (t .chips) (now (ms .entry)) (now (ss .entry)))) ⌝ }
 {
     let mut packed = run_room();
+    let mut host = run_room();
     let mut table = t;
     let mut at: usize = 0;
     let mut place: usize = 0;
     loop {
-        let found = reading::record_at(s, at, cards::room_for(table.n), true, more);
+        let room = cards::room_for(table.n);
+        let found = reading::record_at(s, at, room, true, more);
         let Found::Record(taken, next) = found else {
             return Played {
                 ending: cards::stopped_by(found),
@@ -202,7 +205,10 @@ fn play_all(t: Table, s: &[u8], more: bool, out: &mut [u8], ms: &mut [u8], ss: &
                 table: table,
             };
         };
-        let put = put_record(table, taken, s, &mut packed, out, place, ms, ss);
+        let whole = joining::with_next_runs(taken, s, next, room, more, &mut host);
+        let record = whole.record;
+        let after = whole.next;
+        let put = put_record(table, record, &host, &mut packed, out, place, ms, ss);
         let answer = put.answer;
         table = put.table;
         let RecordAnswer::Answered(n) = answer else {
@@ -214,7 +220,7 @@ fn play_all(t: Table, s: &[u8], more: bool, out: &mut [u8], ms: &mut [u8], ss: &
             };
         };
         place += n;
-        at = next;
+        at = after;
     }
 }
 
