@@ -19,7 +19,7 @@ use Rattle.packed.specs.Packed.{packed, packedTable, isTable}
 use Rattle.packed.specs.Laws.{unpacked-table, table-is, of-table}
 use Rattle.toemsakun.specs.Library.{minus, SearchLeft, searchNumber, packedSearch, searchBytes}
 use Rattle.histories.specs.Below.{Codes, Bytes, none-below, one-below, all-below}
-use Rattle.line.specs.Standing.{Stands}
+use Rattle.line.specs.Attached.{Stands}
 use Rattle.histories.specs.Calls.{Call, search-call}
 use Rattle.refusals.specs.Search.{given-neither}
 use Rattle.listing.specs.Order.{SameMembers}

@@ -7,7 +7,7 @@ use lib.ListN.{length}
 use Rattle.line.specs.Layout.{Lent}
 use Rattle.search.specs.Search.{searchOf}
 use Rattle.histories.specs.Below.{Codes}
-use Rattle.line.specs.Standing.{Stands}
+use Rattle.line.specs.Attached.{Stands}
 use Rattle.histories.specs.Calls.{Call, search-call}
 use Rattle.listing.specs.Order.{SameMembers}
 use Rattle.listing.specs.AfterTrouble.{ListedAlike, SameSearch, same-codes-same-list, list-after-calls, second-list}

@@ -12,10 +12,9 @@ use Rattle.line.specs.Slots.{slotsOf}
 use Rattle.line.specs.Prefix.{event-holds}
 use Rattle.line.specs.Refusals.{chips-split}
 use Rattle.search.specs.Prefix.{search-has}
-use Rattle.line.specs.Attached.{Attached, attached, leavesOf}
+use Rattle.line.specs.Attached.{Attached, attached, leavesOf, lineFrom}
 use Rattle.search.specs.Search.{searchOf}
 use Rattle.histories.specs.Histories.{codesOf}
-use Rattle.line.specs.Standing.{lineFrom}
 use Rattle.histories.specs.Standing.{codes-chips}
 use Rattle.histories.specs.Calls.{Call, event-call, search-call, slots-call, leavesCall, callsOn}
 use Rattle.agreement.specs.Slots.{slots-hold}

@@ -24,3 +24,8 @@ unfolding both pick
 both-holds true true e = (refl, refl)
 both-holds true false e = absurd (true≢false (sym e))
 both-holds false b e = absurd (true≢false (sym e))
+
+-- both hold, where each does
+pub both-true′ : (a b : Bool) → a ≡ true → b ≡ true → both a b ≡ true
+unfolding both pick
+both-true′ a b e f = rw (e, f)

@@ -7,9 +7,8 @@ use mathlib.Core.Path.{_≡_, refl, _∙_, ap}
 use Rattle.line.specs.Event.{Answered}
 use Rattle.line.specs.Slots.{RunOutcome}
 use Rattle.line.specs.declared.Event.{Event}
-use Rattle.line.specs.Attached.{Attached, saysOf, leavesOf}
+use Rattle.line.specs.Attached.{Attached, saysOf, leavesOf, Stands}
 use Rattle.search.specs.Search.{Search, searchOf}
-use Rattle.line.specs.Standing.{Stands}
 use Rattle.histories.specs.Slots.{slotsOn, leftByRun}
 use Rattle.histories.specs.Calls.{Call, event-call, search-call, slots-call, leavesCall, callsOn, stands-calls}
 

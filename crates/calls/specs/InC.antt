@@ -10,7 +10,7 @@ use lib.IntN.{ℤ}
 use Rattle.base.specs.Pick.{pick-true}
 use Rattle.line.specs.Slots.{RunOutcome}
 use Rattle.line.specs.declared.Event.{Event}
-use Rattle.line.specs.Attached.{saysOf, leavesOf}
+use Rattle.line.specs.Attached.{saysOf, leavesOf, lineFrom}
 use Rattle.search.specs.Search.{Search, searchOf}
 use Rattle.packed.specs.Packed.{isTable}
 use Rattle.toemsakun.specs.Library.{answerNumber, EventLeft, eventLeft, eventBytes, slotsNumber, SlotsLeft, slotsLeft, slotsBytes, searchNumber, SearchLeft, searchLeft, searchBytes}
@@ -24,7 +24,6 @@ use Rattle.histories.specs.Slots.{slotsOn, leftByRun}
 use Rattle.histories.specs.Calls.{event-call, search-call, slots-call}
 use Rattle.histories.specs.Below.{Codes}
 use Rattle.histories.specs.Histories.{codesOf}
-use Rattle.line.specs.Standing.{lineFrom}
 use Rattle.agreement.specs.Slice.{ofLent, codes-lent}
 use Rattle.agreement.specs.InC.{LentBytes, unpackedLent, searchIn, slotsIn, leavesBytes, leaves-bytes, searched-after}
 use Rattle.agreement.specs.AfterTroubleC.{StandsAsBytes, bytes-fit}

@@ -4,11 +4,10 @@ use mathlib.Core.List.{List}
 use mathlib.Core.Path.{_≡_, _∙_, ap, sym}
 use lib.ListN.{length}
 use Rattle.search.specs.Host.{searchHost}
-use Rattle.line.specs.Attached.{Attached}
+use Rattle.line.specs.Attached.{Attached, lineFrom}
 use Rattle.search.specs.Search.{Search, searchOf}
 use Rattle.histories.specs.Below.{Codes}
 use Rattle.histories.specs.Histories.{codesOf}
-use Rattle.line.specs.Standing.{lineFrom}
 use Rattle.histories.specs.Calls.{eventsOf}
 use Rattle.histories.specs.SearchEvents.{RunOfEvents, search-is-run}
 use Rattle.histories.specs.Kept.{calls-codes}

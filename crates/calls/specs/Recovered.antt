@@ -6,9 +6,8 @@ use mathlib.Core.List.{List, [], map}
 use mathlib.Core.Path.{_≡_, _∙_, ap, sym, subst}
 use Rattle.line.specs.Event.{Answered}
 use Rattle.line.specs.declared.Event.{Event}
-use Rattle.line.specs.Attached.{Attached}
+use Rattle.line.specs.Attached.{Attached, lineFrom}
 use Rattle.histories.specs.Histories.{came}
-use Rattle.line.specs.Standing.{lineFrom}
 use Rattle.histories.specs.Joined.{runOn, answersOn}
 use Rattle.histories.specs.Calls.{callsOn, eventsOfCalls, stands-calls}
 use Rattle.recovery.specs.CarriedOut.{NoCopy}

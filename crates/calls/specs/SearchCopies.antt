@@ -21,10 +21,9 @@ use Rattle.line.specs.Event.{Answered, bit, askedBy, planEvent, outsideFits, pl
 use Rattle.line.specs.Events.{slotEvent, resetEvent}
 use Rattle.line.specs.declared.Event.{Event}
 use Rattle.search.specs.Host.{Host, done, ask, End, Listed, bind, UnderWay, begun, nextPlace, pass, write, upTo, passes, searchHost}
-use Rattle.line.specs.Attached.{Attached, saysOf, leavesOf}
+use Rattle.line.specs.Attached.{Attached, saysOf, leavesOf, Stands, lineFrom}
 use Rattle.search.specs.Search.{searchOf}
 use Rattle.histories.specs.Histories.{noWhole, at, answerOf, afterOf, run}
-use Rattle.line.specs.Standing.{Stands, lineFrom}
 use Rattle.histories.specs.Standing.{says-is, line-after, stands-after}
 use Rattle.histories.specs.Joined.{run-joined}
 use Rattle.histories.specs.Calls.{eventsOf, Call, event-call, search-call, slots-call, leavesCall, eventsOfCall, eventsOfCalls, call-runs, stands-calls}

@@ -7,9 +7,8 @@ use mathlib.Core.Path.{_≡_, _∙_, ap}
 use Rattle.chip.specs.Chip.{takesOf}
 use Rattle.line.specs.Event.{Answered, bit, refused}
 use Rattle.line.specs.declared.Event.{Event}
-use Rattle.line.specs.Attached.{Attached, saysOf, leavesOf}
+use Rattle.line.specs.Attached.{Attached, saysOf, leavesOf, lineFrom}
 use Rattle.histories.specs.Histories.{at}
-use Rattle.line.specs.Standing.{lineFrom}
 use Rattle.wired.specs.Wired.{AllSendOne}
 use Rattle.wired.specs.Public.{Writes, Shows, slot-shows-and, reset-shows-presence, power-on-answers-1, outside-answers-1, chips-take-the-bus}
 use Rattle.calls.specs.Form.{Form, Meets, CallTold, Ran, Well, stands-on}

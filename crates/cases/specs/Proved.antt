@@ -23,7 +23,7 @@ use Rattle.scratchpad.specs.Registers.{pf, withE, withPF, withAA, targetOf, mar
 use Rattle.search.specs.Host.{bind, play, pass, write, upTo, passes}
 use Rattle.chip.specs.Range.{inRange}
 use Rattle.search.specs.Search.{Search}
-use Rattle.line.specs.Standing.{Stands}
+use Rattle.line.specs.Attached.{Stands}
 use Rattle.histories.specs.Joined.{search-joined}
 use Rattle.cases.specs.Cases.{Cases, fourTable}
 

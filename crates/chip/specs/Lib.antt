@@ -4,3 +4,5 @@ pub mod With
 pub mod Chip
 pub mod Range
 pub mod Level
+pub mod Bounds
+pub mod RangeKept

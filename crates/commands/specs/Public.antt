@@ -12,9 +12,9 @@ use Rattle.chip.specs.declared.Level.the-variants.{Memory}
 use Rattle.line.specs.Event.{planOn}
 use Rattle.line.specs.Events.{resetEvent, powerOnEvent}
 use Rattle.line.specs.declared.Event.{Event}
-use Rattle.line.specs.Attached.{Attached}
+use Rattle.line.specs.Attached.{Attached, Stands, lineFrom}
 use Rattle.histories.specs.Histories.{at, run}
-use Rattle.line.specs.Standing.{Stands, lineFrom, line-good, line-length}
+use Rattle.line.specs.Standing.{line-good, line-length}
 use Rattle.histories.specs.Joined.{runOn, run-joined, stands-on}
 use Rattle.histories.specs.Sent.{bitsFrom}
 use Rattle.recovery.specs.CarriedOut.{NoCopy, no-copy}

@@ -8,9 +8,8 @@ use lib.ListN.{length}
 use Rattle.ds28ec20.specs.Map.{lastAddress}
 use Rattle.chip.specs.Chip.{Whole, resetOf}
 use Rattle.line.specs.Event.{Answered}
-use Rattle.line.specs.Attached.{Attached}
+use Rattle.line.specs.Attached.{Attached, lineFrom}
 use Rattle.histories.specs.Histories.{at, run, answers}
-use Rattle.line.specs.Standing.{lineFrom}
 use Rattle.histories.specs.Joined.{runOn, answersOn, run-joined, answers-joined}
 use Rattle.histories.specs.Sent.{bitsFrom}
 use Rattle.recovery.specs.Sessions.{writeBits, write, WithinPage}

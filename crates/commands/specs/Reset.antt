@@ -31,7 +31,7 @@ use Rattle.line.specs.Event.{askedBy, planEvent, outsideFits}
 use Rattle.line.specs.Events.{resetEvent, powerOnEvent}
 use Rattle.line.specs.declared.Act.the-variants.{Reset, PowerOn}
 use Rattle.histories.specs.Histories.{at, afterOf, run}
-use Rattle.line.specs.Range.{pf-block}
+use Rattle.chip.specs.RangeKept.{pf-block}
 use Rattle.histories.specs.Place.{at-map}
 use Rattle.recovery.specs.Stays.{not-switch}
 use Rattle.recovery.specs.Matched.{reset-after}

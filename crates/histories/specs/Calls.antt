@@ -10,9 +10,8 @@ use Rattle.line.specs.Refusals.{well-judged}
 use Rattle.line.specs.declared.Event.{Event}
 use Rattle.line.specs.declared.Verdict.{Verdict}
 use Rattle.search.specs.Host.{Host, done, ask, play, searchHost}
-use Rattle.line.specs.Attached.{Attached, saysOf, leavesOf}
+use Rattle.line.specs.Attached.{Attached, saysOf, leavesOf, Stands}
 use Rattle.search.specs.Search.{wire, searchBy, searchOf}
-use Rattle.line.specs.Standing.{Stands}
 use Rattle.histories.specs.Joined.{runOn, stands-on}
 use Rattle.histories.specs.Slots.{slotsOn, leftByRun, eventsOfRun, slots-as-events, slots-refused}
 

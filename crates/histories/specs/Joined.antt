@@ -10,10 +10,10 @@ use Rattle.line.specs.declared.Event.{Event}
 use Rattle.search.specs.Host.{Host, done, ask, Played, played, more, resetsOf, slotsOf, play, searchHost}
 use Rattle.line.specs.Refusals.{well-judged}
 use Rattle.line.specs.declared.Verdict.{Verdict}
-use Rattle.line.specs.Attached.{Attached, saysOf, leavesOf}
+use Rattle.line.specs.Attached.{Attached, saysOf, leavesOf, Stands, lineFrom, withLine}
 use Rattle.search.specs.Search.{wire, fromPlayed, searchBy, searchOf}
 use Rattle.histories.specs.Histories.{answerOf, afterOf, run, answers, lineWire}
-use Rattle.line.specs.Standing.{Stands, lineFrom, withLine, line-length, put-back, again}
+use Rattle.line.specs.Standing.{line-length, put-back, again}
 use Rattle.histories.specs.Standing.{says-is, leaves-is, stands-after, line-after, after-length}
 
 -- what was played on the line of a table, with that line put back

@@ -16,12 +16,12 @@ use Rattle.line.specs.declared.Event.{Event}
 use Rattle.line.specs.declared.Act.{Act}
 use Rattle.line.specs.declared.Plan.{Plan}
 use Rattle.line.specs.declared.Act.the-variants.{Take, Reset, PowerOn}
-use Rattle.line.specs.Attached.{Attached}
+use Rattle.line.specs.Attached.{Attached, Stands, lineFrom}
 use Rattle.histories.specs.Histories.{noWhole, at, codesOf, kindsOf, afterOf, run}
-use Rattle.line.specs.Range.{Clear, clear-bit}
+use Rattle.chip.specs.RangeKept.{Clear, clear-bit}
 use Rattle.line.specs.Named.{Named, act-named}
 use Rattle.line.specs.Keeps.{outside-named}
-use Rattle.line.specs.Standing.{AllGood, Stands, lineFrom, line-good}
+use Rattle.line.specs.Standing.{AllGood, line-good}
 use Rattle.histories.specs.Standing.{at-chip, after-length}
 use Rattle.histories.specs.Joined.{runOn, run-joined}
 use Rattle.histories.specs.Calls.{Call, callsOn, eventsOfCalls, calls-run, stands-calls}

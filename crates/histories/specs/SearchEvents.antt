@@ -14,9 +14,8 @@ use Rattle.line.specs.Refusals.{well-judged}
 use Rattle.line.specs.declared.Event.{Event}
 use Rattle.line.specs.declared.Verdict.{Verdict}
 use Rattle.search.specs.Host.{Host, done, ask, bind, resetsOf, slotsOf, play, End, UnderWay, begun, pass, write, Listed, upTo, passes, searchHost}
-use Rattle.line.specs.Attached.{Attached, saysOf, leavesOf}
+use Rattle.line.specs.Attached.{Attached, saysOf, leavesOf, Stands}
 use Rattle.search.specs.Search.{wire, Search, searchBy, searchOf}
-use Rattle.line.specs.Standing.{Stands}
 use Rattle.histories.specs.Joined.{runOn}
 use Rattle.histories.specs.Calls.{eventsOf, play-runs}
 

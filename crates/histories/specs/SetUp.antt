@@ -29,12 +29,11 @@ use Rattle.card.specs.Card.{chips, refused, cutEntry, wholeEntry, entryOf, entr
 use Rattle.card.specs.Fits.{AtMost, read-few}
 use Rattle.card.specs.declared.Entry.{Entry}
 use Rattle.card.specs.declared.Entry.the-variants as entry
-use Rattle.line.specs.Attached.{Attached, attached}
+use Rattle.line.specs.Attached.{Attached, attached, Stands, lineFrom}
 use Rattle.histories.specs.Below.{Codes, Bytes, none-below, one-below, byte-at}
 use Rattle.histories.specs.Histories.{at, codesOf}
-use Rattle.line.specs.Range.{both-true′}
+use Rattle.base.specs.Both.{both-true′}
 use Rattle.line.specs.Keeps.{range-in}
-use Rattle.line.specs.Standing.{Stands, lineFrom}
 use Rattle.histories.specs.Standing.{at-chip, codes-chips}
 
 -- the records of a card --------------------------------------------------------------------------

@@ -6,7 +6,7 @@ use mathlib.Core.Path.{_≡_, refl, _∙_, ap, sym}
 use lib.ListN.{length}
 use Rattle.base.specs.Pick.{pick, pick-true, pick-false}
 use Rattle.base.specs.Bits.{both}
-use Rattle.base.specs.Both.{true-both}
+use Rattle.base.specs.Both.{true-both, both-true′}
 use Rattle.chip.specs.Chip.{Whole}
 use Rattle.chip.specs.declared.Chip.{Chip}
 use Rattle.line.specs.Event.{bit, askedBy, planEvent, planOn, outsideFits, answerBy, tableInRange, sizesFit}
@@ -20,11 +20,9 @@ use Rattle.line.specs.declared.Plan.the-variants as plan
 use Rattle.line.specs.declared.Refusal.the-variants.{WrongSize}
 use Rattle.line.specs.declared.Verdict.{Verdict}
 use Rattle.line.specs.declared.Verdict.the-variants as verdict
-use Rattle.line.specs.Attached.{Attached}
+use Rattle.line.specs.Attached.{Attached, Stands, lineFrom, withLine}
 use Rattle.histories.specs.Histories.{answerOf, afterOf, run, answers}
-use Rattle.line.specs.Range.{both-true′}
 use Rattle.histories.specs.Sent.{slots}
-use Rattle.line.specs.Standing.{Stands, lineFrom, withLine}
 use Rattle.histories.specs.Joined.{runOn, answersOn, answers-joined, run-left}
 
 -- a run of slots on a table with its buffers
@@ -54,7 +52,7 @@ unfolding answerOf
 answer-slot b L = ap (λ (p : Plan). answerBy p L) (planned-slot b L)
 
 -- slot events on a line leave what the run leaves, and answer its bits
-pub slots-leave : (bs : List Bool) (L : List Whole) → run (slots bs) L ≡ ranOn bs L .line
+slots-leave : (bs : List Bool) (L : List Whole) → run (slots bs) L ≡ ranOn bs L .line
 slots-leave [] L = refl
 slots-leave (b ∷ bs) L = ap (run (slots bs)) (after-slot b L) ∙ slots-leave bs (afterBy (plan.Slot b) L)
 

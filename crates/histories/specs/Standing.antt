@@ -16,9 +16,9 @@ use Rattle.line.specs.declared.Event.{Event}
 use Rattle.line.specs.declared.Plan.{Plan}
 use Rattle.line.specs.declared.Verdict.{Verdict}
 use Rattle.line.specs.declared.Plan.the-variants as plan
-use Rattle.line.specs.Attached.{Attached, saysOf, leavesOf, leftBy}
+use Rattle.line.specs.Attached.{Attached, saysOf, leavesOf, leftBy, Stands, lineFrom, withLine}
 use Rattle.histories.specs.Histories.{at, codesOf, answerOf, afterOf}
-use Rattle.line.specs.Standing.{AllGood, Stands, lineFrom, withLine, comes-good, line-good, line-length, put-back, line-with, stands-with}
+use Rattle.line.specs.Standing.{AllGood, comes-good, line-good, line-length, put-back, line-with, stands-with}
 
 -- the chips of a line, and of its table
 pub at-chip : (i : ℕ) (L : List Whole) → at i L .chip ≡ getD (chipsOf L) i noChip

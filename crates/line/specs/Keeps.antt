@@ -7,7 +7,7 @@ use lib.ListN.{length}
 use borrow.Author.Tests.{le-leb}
 use Rattle.base.specs.Pick.{pick-both, pick-if}
 use Rattle.base.specs.Bits.{both}
-use Rattle.base.specs.Both.{both-holds}
+use Rattle.base.specs.Both.{both-holds, both-true′}
 use Rattle.rom.specs.Rom.{romTakes}
 use Rattle.rom.specs.declared.RomNext.{RomNext}
 use Rattle.rom.specs.declared.RomNext.the-variants as next
@@ -15,7 +15,7 @@ use Rattle.scratchpad.specs.Scratchpad.{memoryInRange, registersInRange, memory
 use Rattle.scratchpad.specs.Registers.{pfSet}
 use Rattle.scratchpad.specs.declared.Registers.{Registers}
 use Rattle.ds2413.specs.Switch.{switchBegins, switchInRange, phaseInRange, switchPowerOn}
-use Rattle.line.specs.Bounds.{sight-last, sight-end}
+use Rattle.chip.specs.Bounds.{sight-last, sight-end}
 use Rattle.chip.specs.Kinds.{hasMemory, hasSwitch, knowsOf, knownKind, imageSize, padSize}
 use Rattle.chip.specs.With.{withRc, withLevel}
 use Rattle.chip.specs.declared.ChipAfter.{ChipAfter}
@@ -30,7 +30,7 @@ use Rattle.line.specs.Named.{Named, act-named}
 use Rattle.line.specs.Sizes.{act-sized}
 use Rattle.line.specs.declared.Act.{Act}
 use Rattle.line.specs.declared.Act.the-variants.{Take, Reset, PowerOn}
-use Rattle.line.specs.Range.{both-true′, more-below, Clear, clear-of, of-clear, NextInRange, rom-leads, function-in-range, memory-in-range, clear-pf, reset-either, pio-function, switch-in-range}
+use Rattle.chip.specs.RangeKept.{more-below, Clear, clear-of, of-clear, NextInRange, rom-leads, function-in-range, memory-in-range, clear-pf, reset-either, pio-function, switch-in-range}
 
 -- a record in range, part by part
 pub record InRange (c : Chip) : Type 0 where
@@ -95,7 +95,7 @@ level-either P c h k (Memory p) = reset-either P (c .registers) (chipMap c .cutS
 level-either P c h k (Pio p) = h
 
 -- every act keeps the ranges
-pub act-in-range : (a : Act) (w : Whole) → InRange (w .chip) → InRange (actOf a w .chip)
+act-in-range : (a : Act) (w : Whole) → InRange (w .chip) → InRange (actOf a w .chip)
 unfolding takesOf resetOf resetChip powerOnOf powerOnChip switchInRange
 act-in-range (Take v) w h = level-in w v (w .chip .level) h (h .place)
 act-in-range Reset w h = record { known = h .known; clear = level-either (λ (r : Registers). Clear (r .es)) (w .chip) (h .clear) (clear-pf (w .chip .registers .es) (h .clear)) (w .chip .level); pins = h .pins; place = refl }
@@ -111,7 +111,7 @@ act-in-range PowerOn w h =
     powered s k = both-true′ _ _ refl (both-holds (leb (s .latches) 3) (leb (s .outside) 3) k .1)
 
 -- so do outside levels of two bits
-pub outside-in-range : (l : ℕ) (w : Whole) → l ≤ 3 → InRange (w .chip) → InRange (outsideOf l w .chip)
+outside-in-range : (l : ℕ) (w : Whole) → l ≤ 3 → InRange (w .chip) → InRange (outsideOf l w .chip)
 unfolding outsideOf outsideChip switchInRange
 outside-in-range l w k h =
     record {

@@ -17,7 +17,5 @@ pub mod Carried
 pub mod Runs
 pub mod Packing
 pub mod RunTables
-pub mod Bounds
-pub mod Range
 pub mod Keeps
 pub mod Standing

@@ -2,7 +2,7 @@
 use Prim.Native.Nat.{ℕ, _+_, _≤_}
 use native.Mathlib.Omega.{arith}
 use mathlib.Core.Bool.{Bool}
-use mathlib.Core.List.{List, [], _∷_, _++_}
+use mathlib.Core.List.{List, [], _++_}
 use mathlib.Core.Path.{_≡_, refl, _∙_, ap, sym}
 use lib.Dec.{eqb, leb}
 use lib.ListN.{length, take, drop, take-append-drop, length-append, length-map}
@@ -22,7 +22,7 @@ use Rattle.line.specs.Refusals.{chips-split, images-split, pads-split, f
 use Rattle.line.specs.Carrier.{firstSpot, busOver, acts}
 use Rattle.line.specs.Carried.{slot-walked}
 use Rattle.line.specs.Slots.{bitsOf, bytesFrom, hostBits, runOn, bytesAsked, runFits, runVerdict, put, RunOutcome, runOutcome, runBy}
-use Rattle.line.specs.Runs.{run-length, run-full, host-many, InByte, Running}
+use Rattle.line.specs.Runs.{run-length, run-keeps, run-full, host-many, InByte, Running}
 use Rattle.line.specs.declared.Act.the-variants as act
 use Rattle.line.specs.declared.Plan.the-variants as plan
 use Rattle.line.specs.declared.Refusal.the-variants.{OutOfRange, WrongSize}
@@ -130,15 +130,11 @@ carrying-byte n cs₀ L m cs ms ss g count bits p ds xs ys h q =
       held = h ∙ ap (λ (M : List Whole). lentFrom m cs (runOn (bitsOf count bits) M .line)) (carrying-line n cs₀ L m cs ms ss g)
           ∙ (λ j. lent (chipsOf K ++ drop (g .number j) (g .held j .chips)) (imagesOf K) (padsOf K))
           ∙ ap (λ (z : List Chip). lent (chipsOf K ++ z) (imagesOf K) (padsOf K)) (drop-at (chipsOf L) (drop n cs₀) n (length-chips L ∙ g .full));
-      fitted = run-fitted (bitsOf count bits) L (g .fitted);
+      fitted = run-keeps AllFitted (λ b K f. map-fitted (act.Take (valueOf b K)) K f) (bitsOf count bits) L (g .fitted);
       full = run-full (bitsOf count bits) L ∙ g .full;
       few = g .few;
       places = g .places;
     }
-  where
-    run-fitted : (bs : List Bool) (L : List Whole) → AllFitted L → AllFitted (runOn bs L .line)
-    run-fitted [] L f = f
-    run-fitted (b ∷ bs) L f = run-fitted bs (afterBy (plan.Slot b) L) (map-fitted (act.Take (valueOf b L)) L f)
 
 -- ---- a run by its verdict
 

@@ -27,10 +27,13 @@ pub run-length : (bs : List Bool) (L : List Whole) → length (runOn bs L .bits)
 run-length [] L = refl
 run-length (b ∷ bs) L = ap suc (run-length bs (afterBy (plan.Slot b) L))
 
--- and as many chips after them
+-- what a slot keeps a run keeps: so as many chips
+pub run-keeps : (P : List Whole → Type 0) → ((b : Bool) (L : List Whole) → P L → P (afterBy (plan.Slot b) L)) → (bs : List Bool) (L : List Whole) → P L → P (runOn bs L .line)
+run-keeps P k [] L h = h
+run-keeps P k (b ∷ bs) L h = run-keeps P k bs (afterBy (plan.Slot b) L) (k b L h)
+
 pub run-full : (bs : List Bool) (L : List Whole) → length (runOn bs L .line) ≡ length L
-run-full [] L = refl
-run-full (b ∷ bs) L = run-full bs (afterBy (plan.Slot b) L) ∙ length-map L _
+run-full bs L = run-keeps (λ (K : List Whole). length K ≡ length L) (λ b K h. length-map K _ ∙ h) bs L refl
 
 -- ---- up to eight slots, whose host bits are the first of a byte
 
@@ -131,7 +134,7 @@ host-most n xs = let e = length-take n (bitsIn xs) in let m = min-le-left n (len
 abbrev pub countOf : ℕ → ℕ
 countOf left = pick (ltb left 8) left 8
 
-pub count-cases : (P : ℕ → Type 0) (left : ℕ) → (left < 8 → P left) → (8 ≤ left → P 8) → P (countOf left)
+count-cases : (P : ℕ → Type 0) (left : ℕ) → (left < 8 → P left) → (8 ≤ left → P 8) → P (countOf left)
 count-cases P left f g = pick-if P (ltb left 8) left 8 (λ e. f (ltb-true left 8 e)) (λ e. g (ltb-false left 8 e))
 
 pub count-few : (left : ℕ) → (countOf left ≤ 8) × (countOf left ≤ left)

@@ -46,12 +46,12 @@ unfoldable pub slotBit : List ℕ → ℕ → Bool
 slotBit bits slot = bitOf (getD bits (slot / 8) 0) (slot % 8)
 
 -- a byte with a bit at a place: the bits before it stay, and there are none after it
-abbrev pub withBit : ℕ → ℕ → Bool → ℕ
-withBit x place b = x % 2 ^ place + pick b (2 ^ place) 0
+abbrev pub byteWith : ℕ → ℕ → Bool → ℕ
+byteWith x place b = x % 2 ^ place + pick b (2 ^ place) 0
 
--- packed bits with the bit of one slot put after those before it; past the end nothing changes
+-- packed bits with the bit of one slot put after those before it, and none after it in its byte; past the end nothing changes
 unfoldable pub withSlotBit : List ℕ → ℕ → Bool → List ℕ
-withSlotBit bits slot b = set bits (slot / 8) (withBit (getD bits (slot / 8) 0) (slot % 8) b)
+withSlotBit bits slot b = set bits (slot / 8) (byteWith (getD bits (slot / 8) 0) (slot % 8) b)
 
 -- slots one after the other on a line: the bit on the bus in each, and the line that the last leaves
 pub record Run : Type 0 where

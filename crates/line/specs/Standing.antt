@@ -1,5 +1,5 @@
--- Laws: a table with its buffers that is refused by neither 8 nor 5, and each line that events and runs of slots leave in its places stands
--- as well as it.
+-- Laws: a table that neither 8 nor 5 refuses is refused by neither after a run of slots, and what events and runs keep of its chips and
+-- of its places.
 use Prim.Native.Nat.{ℕ, zero, suc, _≤_}
 use native.Mathlib.Omega.{arith}
 use mathlib.Core.Bool.{Bool, true, false, true≢false}
@@ -10,7 +10,7 @@ use lib.ListN.{length, take, drop, length-append, length-drop, take-append-drop}
 use lib.Seq.{length-take-le, take-at, drop-at}
 use borrow.Author.Tests.{le-leb, eq-eqb}
 use Rattle.base.specs.Pick.{pick, pick-true, pick-if}
-use Rattle.base.specs.Both.{both-holds}
+use Rattle.base.specs.Both.{both-holds, both-true′}
 use Rattle.chip.specs.Chip.{Whole}
 use Rattle.chip.specs.Range.{inRange}
 use Rattle.chip.specs.Kinds.{imageSize, padSize}
@@ -18,13 +18,12 @@ use Rattle.chip.specs.declared.Chip.{Chip}
 use Rattle.line.specs.Line.{valueOf, actOf, outsideAt, afterBy}
 use Rattle.line.specs.Layout.{imagesSize, padsSize, split, chipsOf, imagesOf, padsOf, lent, lineOf, lentFrom}
 use Rattle.line.specs.Event.{allInRange, tableInRange, sizesFit, verdictOf, planBy, planOf, doneOf, eventOf}
-use Rattle.line.specs.Attached.{Attached, attached, leavesOf}
+use Rattle.line.specs.Attached.{Attached, attached, leavesOf, Stands, lineFrom, withLine}
 use Rattle.line.specs.Fitted.{AllFitted, length-chips, images-length, pads-length, split-joined}
 use Rattle.line.specs.Refusals.{chips-split, images-split, pads-split, fit, in-range-few, judged-well, Comes, slot, reset, power-on, outside, refused}
 use Rattle.line.specs.Prefix.{length-split, length-after}
 use Rattle.line.specs.Slots.{runOn}
-use Rattle.line.specs.Runs.{run-full}
-use Rattle.line.specs.Range.{both-true′}
+use Rattle.line.specs.Runs.{run-keeps, run-full}
 use Rattle.line.specs.Keeps.{in-range, range-in, Good, act-good, outside-good}
 use Rattle.line.specs.declared.Act.{Act}
 use Rattle.line.specs.declared.Act.the-variants.{Take, Reset, PowerOn}
@@ -38,20 +37,6 @@ use Rattle.line.specs.declared.Verdict.the-variants as verdict
 abbrev pub AllGood : List Whole → Type 0
 AllGood [] = Unit
 AllGood (w ∷ L) = Good w × AllGood L
-
--- a table with its buffers that is refused by neither 8 nor 5, and has its chips in its places
-pub record Stands (l : Attached) : Type 0 where
-  pub range : tableInRange (l .count) (l .lent .chips) ≡ true
-  pub sizes : sizesFit (l .count) (l .lent .chips) (l .lent .images) (l .lent .pads) ≡ true
-  pub places : l .count ≤ length (l .lent .chips)
-
--- the line of a table
-abbrev pub lineFrom : Attached → List Whole
-lineFrom l = lineOf (l .count) (l .lent .chips) (l .lent .images) (l .lent .pads)
-
--- a table with another line in its first places
-abbrev pub withLine : Attached → List Whole → Attached
-withLine l L = record { count = l .count; lent = lentFrom (l .count) (l .lent .chips) L }
 
 -- what any event keeps of a line
 map-good : (a : Act) (L : List Whole) → AllGood L → AllGood (map (actOf a) L)
@@ -72,11 +57,6 @@ comes-good reset L g = map-good Reset L g
 comes-good power-on L g = map-good PowerOn L g
 comes-good (outside i l h k m) L g = outside-all i l L m g
 comes-good (refused r) L g = g
-
--- and any run of slots
-run-good : (bs : List Bool) (L : List Whole) → AllGood L → AllGood (runOn bs L .line)
-run-good [] L g = g
-run-good (b ∷ bs) L g = run-good bs (afterBy (plan.Slot b) L) (slot-good b L g)
 
 -- the line of a table that stands well is good
 split-good : (cs : List Chip) (ms ss : List ℕ) → allInRange cs ≡ true → length ms ≡ imagesSize cs → length ss ≡ padsSize cs → AllGood (split cs ms ss)
@@ -157,10 +137,10 @@ judged-stands n cs ms ss h e = let b = judged-well n cs ms ss e in let f = in-ra
 -- so does the table that a run of slots leaves, and its line is that of the run
 module _ (bs : List Bool) (l : Attached) (s : Stands l) where
   pub run-stands : Stands (withLine l (runOn bs (lineFrom l) .line))
-  run-stands = stands-with l s (runOn bs (lineFrom l) .line) (run-good bs (lineFrom l) (line-good l s)) (run-full bs (lineFrom l) ∙ line-length l s)
+  run-stands = stands-with l s (runOn bs (lineFrom l) .line) (run-keeps AllGood slot-good bs (lineFrom l) (line-good l s)) (run-full bs (lineFrom l) ∙ line-length l s)
 
   pub run-line : lineFrom (withLine l (runOn bs (lineFrom l) .line)) ≡ runOn bs (lineFrom l) .line
-  run-line = line-with l s (runOn bs (lineFrom l) .line) (run-good bs (lineFrom l) (line-good l s)) (run-full bs (lineFrom l) ∙ line-length l s)
+  run-line = line-with l s (runOn bs (lineFrom l) .line) (run-keeps AllGood slot-good bs (lineFrom l) (line-good l s)) (run-full bs (lineFrom l) ∙ line-length l s)
 
 -- ---- the places of a table
 

@@ -1,7 +1,7 @@
 // Up to 16 chips on one line: the table by value, and the event with its refusals.
-mod bits;
 pub mod events;
 mod judged;
+mod packing;
 
 pub use judged::images_asked;
 pub use judged::pads_asked;
@@ -175,12 +175,12 @@ pub fn slot_bit(bits: &[u8], slot: usize) -> bool
     base::bit_of(byte as u64, (slot % 8) as u8)
 }
 
-// The bit of a slot put into packed bits after those before it; past their end nothing changes.
+// The bit of a slot put into packed bits after those before it, and none after it in its byte; past their end nothing changes.
 pub fn put_slot_bit(bits: &mut [u8], slot: usize, bit: bool)
     ensures { λ r. ⌜ now (bits .exit) ≡ withSlotBit (now (bits .entry)) slot bit ⌝ }
 {
     let byte = base::byte_at(bits, slot / 8);
-    let more = bits::byte_with(byte, (slot % 8) as u8, bit);
+    let more = packing::byte_with(byte, (slot % 8) as u8, bit);
     base::put_at(bits, slot / 8, more);
 }
 

@@ -9,11 +9,10 @@ use mathlib.Core.Path.{_≡_, refl, _∙_, ap, sym}
 use lib.ListN.{length, drop, length-take}
 use Rattle.line.specs.declared.Event.{Event}
 use Rattle.search.specs.Host.{Listed, play, searchHost}
-use Rattle.line.specs.Attached.{Attached}
+use Rattle.line.specs.Attached.{Attached, Stands, lineFrom}
 use Rattle.search.specs.Search.{Search, completeOr4, searchOf}
 use Rattle.histories.specs.Below.{Codes}
 use Rattle.histories.specs.Histories.{lineWire, codesOf}
-use Rattle.line.specs.Standing.{Stands, lineFrom}
 use Rattle.histories.specs.Joined.{search-joined, runOn, stands-on}
 use Rattle.histories.specs.Calls.{Call, search-call, callsOn, eventsOfCalls, calls-run, stands-calls}
 use Rattle.histories.specs.Kept.{run-on-codes, calls-codes}

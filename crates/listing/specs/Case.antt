@@ -23,12 +23,11 @@ use Rattle.line.specs.Event.{planEvent, askedBy, outsideFits, tableInRange, siz
 use Rattle.line.specs.Events.{resetEvent, outsideEvent}
 use Rattle.line.specs.declared.Event.{Event}
 use Rattle.search.specs.Host.{bind, play, pass, write, upTo, passes, searchHost}
-use Rattle.line.specs.Attached.{Attached, attached}
+use Rattle.line.specs.Attached.{Attached, attached, Stands, lineFrom}
 use Rattle.search.specs.Search.{Search, complete, fromPlayed, searchOf}
 use Rattle.histories.specs.Below.{Codes, none-below, one-below, all-below}
 use Rattle.histories.specs.Sent.{bitsFrom, slots, byteSlots}
 use Rattle.histories.specs.Histories.{at, codesOf, answerOf, afterOf, run, lineWire}
-use Rattle.line.specs.Standing.{Stands, lineFrom}
 use Rattle.histories.specs.Kept.{run-on-codes}
 use Rattle.histories.specs.Joined.{inTable, runOn, run-joined, stands-on, search-joined}
 use Rattle.listing.specs.Order.{branch, branchOrder, SameMembers}

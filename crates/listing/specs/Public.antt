@@ -8,11 +8,11 @@ use lib.ListN.{length, take, drop}
 use Rattle.base.specs.Pick.{pick}
 use Rattle.line.specs.Refusals.{in-range-few}
 use Rattle.search.specs.Host.{Listed, play, searchHost}
-use Rattle.line.specs.Attached.{Attached}
+use Rattle.line.specs.Attached.{Attached, Stands, lineFrom}
 use Rattle.search.specs.Search.{Search, complete, refused, searchOf}
 use Rattle.histories.specs.Below.{Codes}
 use Rattle.histories.specs.Histories.{lineWire, codesOf}
-use Rattle.line.specs.Standing.{Stands, lineFrom, line-length}
+use Rattle.line.specs.Standing.{line-length}
 use Rattle.histories.specs.Joined.{search-joined}
 use Rattle.listing.specs.Order.{branchOrder}
 use Rattle.listing.specs.Listing.{listing-of-16}

@@ -17,11 +17,10 @@ use Rattle.line.specs.declared.Refusal.{Refusal}
 use Rattle.line.specs.declared.Refusal.the-variants.{OutOfRange, WrongSize, NoSuchEvent, NoSuchOutside}
 use Rattle.line.specs.declared.Verdict.{Verdict}
 use Rattle.line.specs.declared.Verdict.the-variants as verdict
-use Rattle.line.specs.Attached.{Attached}
+use Rattle.line.specs.Attached.{Attached, Stands, lineFrom}
 use Rattle.search.specs.Search.{Searched, complete, refused, searchBy, searchOf}
 use Rattle.histories.specs.Below.{Codes}
 use Rattle.histories.specs.Histories.{codesOf}
-use Rattle.line.specs.Standing.{Stands, lineFrom}
 use Rattle.listing.specs.Order.{Distinct, branchOrder}
 use Rattle.listing.specs.Listing.{branch-order}
 use Rattle.listing.specs.Public.{orderOf, search-finds}

@@ -3,26 +3,22 @@ use Prim.Native.Nat.{ℕ, _+_, _-_, _≤_}
 use native.Mathlib.Nat.{add-zero}
 use native.Mathlib.Omega.{arith}
 use mathlib.Core.Bool.{Bool, true, false}
-use mathlib.Core.List.{List, [], _∷_, _++_, append-assoc, map-append}
-use mathlib.Core.Path.{_≡_, refl, _∙_, ap, sym, subst}
-use lib.Dec.{eqb, ltb}
+use mathlib.Core.List.{List, [], _++_, append-assoc, map-append}
+use mathlib.Core.Path.{_≡_, _∙_, ap, sym, subst}
+use lib.Dec.{ltb}
 use lib.ListN.{length, take, drop, length-append, length-drop, take-append-drop}
 use lib.Seq.{length-take-le, drop-at}
-use borrow.Author.Tests.{eqb-true, lt-ltb, le-ltb}
-use Rattle.base.specs.Pick.{pick, pick-true, pick-false, pick-if}
-use Rattle.chip.specs.Chip.{Whole}
-use Rattle.line.specs.Attached.{Attached}
+use borrow.Author.Tests.{lt-ltb, le-ltb}
+use Rattle.base.specs.Pick.{pick, pick-true, pick-false}
+use Rattle.line.specs.Attached.{Attached, Stands}
 use Rattle.line.specs.declared.Event.{Event}
 use Rattle.line.specs.declared.Table.{Table}
 use Rattle.line.specs.Events.{slotEvent}
-use Rattle.line.specs.Refusals.{well-judged}
-use Rattle.line.specs.Runs.{run-append}
-use Rattle.line.specs.Slots.{bytesAsked, hostBits, Run, runOn as ranOn}
-use Rattle.line.specs.declared.Verdict.{Verdict}
-use Rattle.line.specs.declared.Verdict.the-variants as verdict
+use Rattle.line.specs.Slots.{bytesAsked, hostBits}
 use Rattle.recording.specs.Reading.{foundAt, startsEvent}
 use Rattle.recording.specs.Cards.{roomFor, cardsRead, cardsOf, cardsFrom}
-use Rattle.recording.specs.Playing.{Ends, bits, Step, step, runStep, slotsStep, Played, played, after, further, onStep, playOn, playFrom, playAll, setUpLine, playback}
+use Rattle.recording.specs.Playing.{Ends, bits, Step, step, slotsStep, Played, played, after, further, onStep, playOn, playFrom, playAll, setUpLine, playback}
+use Rattle.recording.specs.JoinPlay.{runOf, afterRun, slots-step, runs-said}
 use Rattle.recording.specs.Unpacked.{unpacked}
 use Rattle.recording.specs.declared.CardsEnding.the-variants as cards
 use Rattle.recording.specs.declared.CardsRead.{CardsRead}
@@ -30,10 +26,9 @@ use Rattle.recording.specs.declared.Record.the-variants as record-of
 use Rattle.recording.specs.declared.Found.the-variants as found
 use Rattle.histories.specs.Below.{Bytes}
 use Rattle.histories.specs.Sent.{slots}
-use Rattle.line.specs.Standing.{Stands, lineFrom}
-use Rattle.histories.specs.Joined.{runOn, run-joined, stands-on}
+use Rattle.histories.specs.Joined.{runOn, stands-on}
 use Rattle.histories.specs.Calls.{run-on-append}
-use Rattle.histories.specs.Slots.{slots-leave, slots-left}
+use Rattle.histories.specs.Slots.{slots-left}
 use Rattle.played.specs.Packing.{packed}
 use Rattle.played.specs.Written.{slotsBytes, slotsSize, bits-written, found-written, starts-written, written-length}
 use Rattle.played.specs.Handed.{Stage, carding, playing, over, Hand, start, handAfter, cardAfter, handBytes, handPiece, cameTo}
@@ -48,21 +43,14 @@ use Rattle.played.specs.Staged.{StageStands, piece-stands, start-stands}
 
 -- the bits that a run gives there
 abbrev saidBits : List Bool → Attached → List Bool
-saidBits hs l = ranOn hs (lineFrom l) .bits
+saidBits hs l = runOf hs l .bits
 
 -- a run answers its bits, and leaves what its slot events leave; one without slots leaves all as it was
 run-step : (hs : List Bool) (l : Attached) → Stands l → slotsStep (length hs) (packed hs) l ≡ step (bits (saidBits hs l)) (runOn (slots hs) l)
-unfolding slotsStep
 run-step hs l s =
-    pick-if (λ (x : Step). x ≡ step (bits (saidBits hs l)) (runOn (slots hs) l)) (eqb (length hs) 0) _ _
-    (λ e. none hs (eqb-true (length hs) 0 e))
-    (λ e. ap (λ (v : Verdict). runStep v (hostBits (length hs) (packed hs)) l) (well-judged (l .count) (l .lent .chips) (l .lent .images) (l .lent .pads) (s .range) (s .sizes))
-    ∙ ap (λ (bs : List Bool). runStep verdict.Well bs l) (unpacked (bytesAsked (length hs)) hs (omega arith))
-    ∙ ap (step (bits (saidBits hs l))) (sym (slots-left hs l s)))
-  where
-    none : (bs : List Bool) → length bs ≡ 0 → step (bits []) l ≡ step (bits (saidBits bs l)) (runOn (slots bs) l)
-    none [] z = refl
-    none (b ∷ bs) z = absurd (omega arith)
+    slots-step (length hs) (packed hs) l s
+    ∙ ap (λ (bs : List Bool). step (bits (saidBits bs l)) (afterRun bs l)) (unpacked (bytesAsked (length hs)) hs (omega arith))
+    ∙ ap (step (bits (saidBits hs l))) (sym (slots-left hs l s))
 
 -- ---- one run after another
 
@@ -71,8 +59,7 @@ slots-joined : (hs bs : List Bool) (l : Attached) → runOn (slots bs) (runOn (s
 slots-joined hs bs l = sym (run-on-append (slots hs) (slots bs) l) ∙ ap (λ (es : List Event). runOn es l) (sym (map-append slotEvent hs bs))
 
 bits-joined : (hs bs : List Bool) (l : Attached) → Stands l → saidBits hs l ++ saidBits bs (runOn (slots hs) l) ≡ saidBits (hs ++ bs) l
-bits-joined hs bs l s =
-    ap (λ (K : List Whole). saidBits hs l ++ ranOn bs K .bits) (run-joined (slots hs) l s ∙ slots-leave hs (lineFrom l)) ∙ sym (ap (λ (r : Run). r .bits) (run-append hs bs (lineFrom l)))
+bits-joined hs bs l s = ap (λ (m : Attached). saidBits hs l ++ saidBits bs m) (slots-left hs l s) ∙ runs-said hs bs l s
 
 -- ---- records played
 

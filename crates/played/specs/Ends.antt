@@ -9,7 +9,7 @@ use lib.ListN.{drop}
 use borrow.Author.Tests.{le-leb}
 use Rattle.base.specs.Pick.{pick, pick-both}
 use Rattle.chip.specs.Chip.{setUpChip}
-use Rattle.line.specs.Attached.{Attached, saysOf}
+use Rattle.line.specs.Attached.{Attached, saysOf, Stands}
 use Rattle.line.specs.Event.{Answered, bit, refused, numberOf}
 use Rattle.line.specs.Refusals.{well-judged}
 use Rattle.line.specs.Tables.{blankTable}
@@ -35,7 +35,6 @@ use Rattle.recording.specs.declared.Record.{Record}
 use Rattle.recording.specs.declared.Record.the-variants as record-of
 use Rattle.histories.specs.Joined.{stands-on}
 use Rattle.histories.specs.SetUp.{set-up-range}
-use Rattle.line.specs.Standing.{Stands}
 use Rattle.refusals.specs.Event.{refused-8, refused-5, refused-6}
 use Rattle.played.specs.Standing.{CardTable, table-stands, blank-table, join-keeps, FoundFits, found-fits}
 use Rattle.played.specs.History.{eventsIn, Comes, record-comes}

@@ -8,7 +8,7 @@ use lib.Dec.{eqb}
 use lib.ListN.{length, take, drop}
 use borrow.Author.Tests.{eqb-true}
 use Rattle.base.specs.Pick.{pick-if}
-use Rattle.line.specs.Attached.{Attached, saysOf, leavesOf, leftBy}
+use Rattle.line.specs.Attached.{Attached, saysOf, leavesOf, leftBy, Stands}
 use Rattle.line.specs.Event.{Answered, bit, refused}
 use Rattle.line.specs.Refusals.{well-judged}
 use Rattle.line.specs.Slots.{hostBits}
@@ -27,7 +27,6 @@ use Rattle.recording.specs.declared.CardsEnding.the-variants as cards
 use Rattle.histories.specs.Joined.{runOn, answersOn, run-left, stands-on}
 use Rattle.histories.specs.Sent.{slots}
 use Rattle.histories.specs.Slots.{slots-left, slots-answered}
-use Rattle.line.specs.Standing.{Stands}
 use Rattle.refusals.specs.Event.{refused-leaves}
 use Rattle.played.specs.Standing.{set-up-line-stands}
 

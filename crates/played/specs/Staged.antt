@@ -3,14 +3,13 @@ use Prim.Native.Nat.{ℕ, suc}
 use mathlib.Core.Bool.{Bool}
 use mathlib.Core.List.{List, _++_}
 use lib.ListN.{length, take, drop}
-use Rattle.line.specs.Attached.{Attached}
+use Rattle.line.specs.Attached.{Attached, Stands}
 use Rattle.line.specs.declared.Table.{Table}
 use Rattle.recording.specs.Cards.{roomFor, cardsOf}
 use Rattle.recording.specs.Playing.{Ends, ended, part, refusal, playFrom, playAll, setUpLine}
 use Rattle.recording.specs.declared.Ending.the-variants as ending
 use Rattle.recording.specs.declared.CardsEnding.{CardsEnding}
 use Rattle.recording.specs.declared.CardsEnding.the-variants as cards
-use Rattle.line.specs.Standing.{Stands}
 use Rattle.histories.specs.Joined.{stands-on}
 use Rattle.played.specs.Handed.{Stage, carding, playing, over, Hand, start, stageAfter, cardAfter, handBytes, handPiece}
 use Rattle.played.specs.Standing.{CardTable, table-stands, blank-table, cards-keep}

@@ -10,7 +10,7 @@ use lib.ListN.{length, take, set, length-set, length-replicate}
 use lib.Seq.{take-suc-set}
 use borrow.Author.Tests.{le-leb, lt-ltb, eq-eqb}
 use Rattle.base.specs.Pick.{pick-true, pick-both}
-use Rattle.base.specs.Both.{both-holds}
+use Rattle.base.specs.Both.{both-holds, both-true′}
 use Rattle.chip.specs.Chip.{setUpChip}
 use Rattle.chip.specs.Range.{inRange}
 use Rattle.chip.specs.Kinds.{knownKind}
@@ -27,9 +27,8 @@ use Rattle.recording.specs.declared.Record.the-variants as record-of
 use Rattle.recording.specs.declared.Found.{Found}
 use Rattle.recording.specs.declared.Found.the-variants as found
 use Rattle.recording.specs.declared.CardsRead.{CardsRead}
-use Rattle.line.specs.Range.{both-true′}
 use Rattle.histories.specs.SetUp.{set-up-range}
-use Rattle.line.specs.Standing.{Stands}
+use Rattle.line.specs.Attached.{Stands}
 
 -- a table of 16 places whose chips lie in their ranges
 pub record CardTable (t : Table) : Type 0 where

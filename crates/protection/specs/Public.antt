@@ -6,9 +6,8 @@ use mathlib.Core.Path.{_≡_, sym, subst}
 use lib.Bits.{bitAnd}
 use Rattle.chip.specs.Chip.{Whole}
 use Rattle.line.specs.declared.Event.{Event}
-use Rattle.line.specs.Attached.{Attached}
+use Rattle.line.specs.Attached.{Attached, Stands, lineFrom}
 use Rattle.histories.specs.Histories.{at}
-use Rattle.line.specs.Standing.{Stands, lineFrom}
 use Rattle.histories.specs.Joined.{runOn, run-joined}
 use Rattle.histories.specs.Calls.{Call, callsOn, eventsOfCalls, calls-run}
 use Rattle.protection.specs.Guarded.{Protected, OnlyFalls}

@@ -6,10 +6,10 @@ use mathlib.Core.Bool.{Bool}
 use mathlib.Core.List.{List, [], _∷_, _++_}
 use mathlib.Core.Path.{_≡_, refl, _∙_, ap, sym}
 use lib.ListN.{length, drop, set, length-set, drop-of-length-le}
+use Rattle.line.specs.Packing.{host-rest}
 use Rattle.line.specs.Runs.{host-many}
 use Rattle.line.specs.Slots.{hostBits, slotBit}
 use Rattle.recording.specs.Playing.{digit, putDigits}
-use Rattle.recording.specs.Unpacked.{host-next}
 
 -- the text stays as long as it is
 pub put-length : (bs : List Bool) (place : ℕ) (out : List ℕ) → length (putDigits bs place out) ≡ length out
@@ -54,7 +54,7 @@ module _ (answers : List ℕ) (n place : ℕ) (out₀ out : List ℕ) (i : ℕ) 
             (λ j. putDigits (drop (add-one i j) bs) (s j) (m j))
             ∙ (λ j. putDigits rest (suc (place + i)) (set out (place + i) (f j)))
             ∙ ap (λ (x : Bool). putDigits (x ∷ rest) (place + i) out) e
-            ∙ ap (λ (l : List Bool). putDigits l (place + i) out) (sym (host-next n answers i (g .there) h))
+            ∙ ap (λ (l : List Bool). putDigits l (place + i) out) (sym (host-rest n answers i (g .there) h))
             ∙ g .left;
         within = omega arith;
         there = g .there;

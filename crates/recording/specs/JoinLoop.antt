@@ -1,24 +1,21 @@
--- Laws: the loop that joins runs of slots, and what it leaves for a record.
+-- Laws: the loops that put bits after others and gather runs of slots, and what is put on the line for a record.
 use Prim.Native.Nat.{ℕ, _+_, _-_, _*_, _<_, _≤_}
 use native.Mathlib.Omega.{arith}
 use native.Mathlib.Nat.{zero-add}
 use mathlib.Core.Bool.{Bool, true}
 use mathlib.Core.List.{List, [], _∷_, _++_, append-assoc, append-nil}
 use mathlib.Core.Path.{_≡_, refl, _∙_, ap, sym, subst}
-use lib.Dec.{eqb}
-use lib.ListN.{length, take, drop, length-drop, take-append-drop}
+use lib.ListN.{length, take, drop, take-append-drop}
 use lib.Seq.{length-take-le}
-use borrow.Author.Tests.{eq-eqb, ne-eqb}
-use Rattle.base.specs.Pick.{pick-true, pick-false}
-use Rattle.line.specs.Attached.{Attached}
-use Rattle.line.specs.Packing.{host-put, put-long}
+use Rattle.line.specs.Attached.{verdictAt}
+use Rattle.line.specs.Packing.{host-put, put-long, host-more, host-before}
 use Rattle.line.specs.Slots.{hostBits, bytesAsked, slotBit, withSlotBit}
 use Rattle.recording.specs.Reading.{foundAt}
-use Rattle.recording.specs.Playing.{step, bits, runStep, slotsStep, recordStep}
+use Rattle.recording.specs.Playing.{bits, runStep, slotsStep, recordStep}
 use Rattle.recording.specs.Putting.{answersMost}
 use Rattle.recording.specs.Next.{Lies, found-lies}
-use Rattle.recording.specs.Unpacked.{host-before, host-more}
-use Rattle.recording.specs.Joining.{Joins, none, run, JoinedTo, verdictAt, alone, joined, Stood}
+use Rattle.recording.specs.Puts.{with-slots, without-slots}
+use Rattle.recording.specs.Joining.{Row, none, run, GatheredTo, alone, joined, JoinedTo}
 use Rattle.recording.specs.declared.Found.{Found}
 use Rattle.recording.specs.declared.Found.the-variants as found
 use Rattle.recording.specs.declared.Record.{Record}
@@ -66,51 +63,42 @@ module _ (host₀ : List ℕ) (slots : ℕ) (bytes : List ℕ) (count : ℕ) (ho
 -- ---- runs that follow one another
 
 -- one run more after others
-joins-more : {more : Bool} {s : List ℕ} {room at : ℕ} {bs : List Bool} {next : ℕ} → Joins more s room at bs next
+row-more : {more : Bool} {s : List ℕ} {room at : ℕ} {bs : List Bool} {next : ℕ} → Row more s room at bs next
     → (count from to end : ℕ) → foundAt s next room true more ≡ found.Record (record-of.Slots count from to) end
-    → Joins more s room at (bs ++ hostBits count (take (to - from) (drop from s))) end
-joins-more {more = more} {s = s} {room = room} (none k) count from to end e =
-    subst (λ (x : List Bool). Joins more s room k x end) (append-nil (hostBits count (take (to - from) (drop from s)))) (run k count from to end end [] e (none end))
-joins-more {more = more} {s = s} {room = room} (run k n i j m q cs f g) count from to end e =
+    → Row more s room at (bs ++ hostBits count (take (to - from) (drop from s))) end
+row-more {more = more} {s = s} {room = room} (none k) count from to end e =
+    subst (λ (x : List Bool). Row more s room k x end) (append-nil (hostBits count (take (to - from) (drop from s)))) (run k count from to end end [] e (none end))
+row-more {more = more} {s = s} {room = room} (run k n i j m q cs f g) count from to end e =
     let hs = hostBits n (take (j - i) (drop i s)) in
     let ds = hostBits count (take (to - from) (drop from s)) in
-    subst (λ (x : List Bool). Joins more s room k x end) (sym (append-assoc hs cs ds)) (run k n i j m end (cs ++ ds) f (joins-more g count from to end e))
+    subst (λ (x : List Bool). Row more s room k x end) (sym (append-assoc hs cs ds)) (run k n i j m end (cs ++ ds) f (row-more g count from to end e))
 
 -- before any is joined
-pub joined-start : (more : Bool) (s : List ℕ) (room at slots : ℕ) (host : List ℕ) → slots ≤ 65535 → at ≤ length s → JoinedTo more s room at slots host slots at host
-joined-start more s room at slots host h w =
-    record { bits = []; joins = none at; packed = sym (append-nil (hostBits slots host)); counted = omega arith; grown = omega arith; few = h; within = w; long = refl }
+pub gathered-start : (more : Bool) (s : List ℕ) (room at slots : ℕ) (host : List ℕ) → slots ≤ 65535 → at ≤ length s → GatheredTo more s room at slots host slots at host
+gathered-start more s room at slots host h w =
+    record { bits = []; row = none at; packed = sym (append-nil (hostBits slots host)); counted = omega arith; grown = omega arith; few = h; within = w; long = refl }
 
-module _ (more : Bool) (s : List ℕ) (room at slots : ℕ) (host : List ℕ) (all next : ℕ) (room-of : List ℕ) (g : JoinedTo more s room at slots host all next room-of)
+module _ (more : Bool) (s : List ℕ) (room at slots : ℕ) (host : List ℕ) (all next : ℕ) (held : List ℕ) (g : GatheredTo more s room at slots host all next held)
     (f : Found) (d : f ≡ foundAt s next room true more) (r : Record) (end : ℕ) (k : f ≡ found.Record r end) (count from to : ℕ) (q : r ≡ record-of.Slots count from to) where
   here : foundAt s next room true more ≡ found.Record (record-of.Slots count from to) end
   here = sym d ∙ k ∙ ap (λ (x : Record). found.Record x end) q
 
   -- the run lies in the recording
-  pub joined-lies : Lies s next (record-of.Slots count from to) end
-  joined-lies = found-lies s next room true more (record-of.Slots count from to) end here
-
-  -- as many bytes as its bits ask
-  pub joined-bytes : length (take (to - from) (drop from s)) ≡ bytesAsked count
-  joined-bytes =
-      let f = joined-lies .fits in
-      let a = f .0 in
-      let w = f .1 in
-      let d = length-drop from s in
-      length-take-le (to - from) (drop from s) (omega arith) ∙ omega arith
+  pub gathered-lies : Lies s next (record-of.Slots count from to) end
+  gathered-lies = found-lies s next room true more (record-of.Slots count from to) end here
 
   -- its bits are put after the others
-  pub joined-next : (after : List ℕ) → all + count ≤ 65535 → hostBits (all + count) after ≡ hostBits all room-of ++ hostBits count (take (to - from) (drop from s)) → length after ≡ length room-of
-      → JoinedTo more s room at slots host (all + count) end after
-  joined-next after h p l =
-      let w = joined-lies in
+  pub gathered-next : (after : List ℕ) → all + count ≤ 65535 → hostBits (all + count) after ≡ hostBits all held ++ hostBits count (take (to - from) (drop from s)) → length after ≡ length held
+      → GatheredTo more s room at slots host (all + count) end after
+  gathered-next after h p l =
+      let w = gathered-lies in
       let a = w .few in
       let b = w .further in
       let c = g .counted in
       let e = g .grown in
       record {
         bits = g .bits ++ hostBits count (take (to - from) (drop from s));
-        joins = joins-more (g .joins) count from to end here;
+        row = row-more (g .row) count from to end here;
         packed = p ∙ ap (λ (x : List Bool). x ++ hostBits count (take (to - from) (drop from s))) (g .packed) ∙ append-assoc (hostBits slots host) (g .bits) _;
         counted = omega arith;
         grown = omega arith;
@@ -119,31 +107,21 @@ module _ (more : Bool) (s : List ℕ) (room at slots : ℕ) (host : List ℕ) (a
         long = l ∙ g .long;
       }
 
--- ---- what stands for a record
+-- ---- what is put on the line for a record
 
--- any record but a run of slots stands for itself: its events do not look at the room
-pub stood-other : (more : Bool) (s : List ℕ) (room : ℕ) (taken : Record) (next : ℕ) (host : List ℕ) → ((count from to : ℕ) → taken ≡ record-of.Slots count from to → ⊥) → next ≤ length s
-    → Stood more s room taken next host taken next
-stood-other more s room (record-of.Chip code kind) next host o w = record { follows = alone (record-of.Chip code kind) (λ l. refl); fits = tt; few = omega arith; further = omega arith; within = w }
-stood-other more s room (record-of.Slots count from to) next host o w = absurd (o count from to refl)
-stood-other more s room (record-of.Event e) next host o w = record { follows = alone (record-of.Event e) (λ l. refl); fits = tt; few = omega arith; further = omega arith; within = w }
-
--- a run with slots goes by the verdict
-by-verdict : (count : ℕ) (bytes : List ℕ) (l : Attached) → (count ≡ 0 → ⊥) → slotsStep count bytes l ≡ runStep (verdictAt l) (hostBits count bytes) l
-unfolding slotsStep
-by-verdict count bytes l h = pick-false (eqb count 0) _ _ (ne-eqb count 0 h)
-
--- one without is no event
-no-event : (count : ℕ) (bytes : List ℕ) (l : Attached) → count ≡ 0 → slotsStep count bytes l ≡ step (bits []) l
-unfolding slotsStep
-no-event count bytes l h = pick-true (eqb count 0) _ _ (eq-eqb count 0 h)
+-- any record but a run of slots stands for itself: its events do not look at the buffer
+pub joined-other : (more : Bool) (s : List ℕ) (room : ℕ) (taken : Record) (next : ℕ) (host : List ℕ) → ((count from to : ℕ) → taken ≡ record-of.Slots count from to → ⊥) → next ≤ length s
+    → JoinedTo more s room taken next host taken next
+joined-other more s room (record-of.Chip code kind) next host o w = record { plays = alone (record-of.Chip code kind) (λ l. refl); fits = tt; few = omega arith; further = omega arith; within = w }
+joined-other more s room (record-of.Slots count from to) next host o w = absurd (o count from to refl)
+joined-other more s room (record-of.Event e) next host o w = record { plays = alone (record-of.Event e) (λ l. refl); fits = tt; few = omega arith; further = omega arith; within = w }
 
 module _ (more : Bool) (s : List ℕ) (room : ℕ) (taken : Record) (next : ℕ) (count from to : ℕ) (q : taken ≡ record-of.Slots count from to) where
   -- a run without a slot stands for itself
-  pub stood-none : (host : List ℕ) → count ≡ 0 → next ≤ length s → Stood more s room taken next host (record-of.Slots count 0 0) next
-  stood-none host z w =
+  pub joined-none : (host : List ℕ) → count ≡ 0 → next ≤ length s → JoinedTo more s room taken next host (record-of.Slots count 0 0) next
+  joined-none host z w =
       record {
-        follows = alone (record-of.Slots count 0 0) (λ l. no-event count (take 0 host) l z ∙ sym (no-event count (take (to - from) (drop from s)) l z) ∙ ap (λ (r : Record). recordStep s r l) (sym q));
+        plays = alone (record-of.Slots count 0 0) (λ l. without-slots count (take 0 host) l z ∙ sym (without-slots count (take (to - from) (drop from s)) l z) ∙ ap (λ (r : Record). recordStep s r l) (sym q));
         fits = (omega arith, omega arith);
         few = let e = ap answersMost q in omega arith;
         further = omega arith;
@@ -151,9 +129,9 @@ module _ (more : Bool) (s : List ℕ) (room : ℕ) (taken : Record) (next : ℕ)
       }
 
   -- a run with slots, and those that follow it
-  pub stood-runs : (host host₁ host₂ : List ℕ) (slots size end : ℕ) → (count ≡ 0 → ⊥) → hostBits (0 + count) host₁ ≡ hostBits 0 host ++ hostBits count (take (to - from) (drop from s))
-      → JoinedTo more s room next count host₁ slots end host₂ → size ≡ bytesAsked slots → length host₂ ≡ 8192 → Stood more s room taken next host₂ (record-of.Slots slots 0 size) end
-  stood-runs host host₁ host₂ slots size end z p g e l =
+  pub joined-runs : (host host₁ host₂ : List ℕ) (slots size end : ℕ) → (count ≡ 0 → ⊥) → hostBits (0 + count) host₁ ≡ hostBits 0 host ++ hostBits count (take (to - from) (drop from s))
+      → GatheredTo more s room next count host₁ slots end host₂ → size ≡ bytesAsked slots → length host₂ ≡ 8192 → JoinedTo more s room taken next host₂ (record-of.Slots slots 0 size) end
+  joined-runs host host₁ host₂ slots size end z p g e l =
       let hs = hostBits count (take (to - from) (drop from s)) in
       let a = g .few in
       let b = g .grown in
@@ -165,10 +143,10 @@ module _ (more : Bool) (s : List ℕ) (room : ℕ) (taken : Record) (next : ℕ)
       = sym (host-before slots (take size host₂) (drop size host₂) (omega arith)) ∙ ap (hostBits slots) (take-append-drop size host₂) ∙ g .packed
       ∙ ap (λ (x : List Bool). x ++ g .bits) (ap (λ (n : ℕ). hostBits n host₁) (sym (zero-add count)) ∙ p) in
       record {
-        follows = joined (record-of.Slots slots 0 size) end hs (g .bits)
-            (λ x. ap (λ (r : Record). recordStep s r x) q ∙ by-verdict count (take (to - from) (drop from s)) x z)
-            (λ x. ap (λ (n : ℕ). slotsStep slots (take n host₂) x) whole ∙ by-verdict slots (take size host₂) x (λ n. z (omega arith)) ∙ ap (λ (bs : List Bool). runStep (verdictAt x) bs x) own)
-            (g .joins);
+        plays = joined (record-of.Slots slots 0 size) end hs (g .bits)
+            (λ x. ap (λ (r : Record). recordStep s r x) q ∙ with-slots count (take (to - from) (drop from s)) x z)
+            (λ x. ap (λ (n : ℕ). slotsStep slots (take n host₂) x) whole ∙ with-slots slots (take size host₂) x (λ n. z (omega arith)) ∙ ap (λ (bs : List Bool). runStep (verdictAt x) bs x) own)
+            (g .row);
         fits = (omega arith, omega arith);
         few = let n = ap answersMost q in omega arith;
         further = omega arith;

@@ -8,8 +8,8 @@ use mathlib.Core.Path.{_≡_, refl, _∙_, ap, sym}
 use lib.Dec.{eqb}
 use lib.ListN.{length, take, drop, length-append}
 use Rattle.base.specs.Pick.{pick-both}
-use Rattle.line.specs.Attached.{Attached, saysOf}
-use Rattle.line.specs.Event.{Answered, bit, refused, verdictOf}
+use Rattle.line.specs.Attached.{Attached, saysOf, verdictAt}
+use Rattle.line.specs.Event.{Answered, bit, refused}
 use Rattle.line.specs.Layout.{lineOf}
 use Rattle.line.specs.Runs.{run-length, host-most}
 use Rattle.line.specs.Slots.{hostBits}
@@ -22,8 +22,8 @@ use Rattle.recording.specs.Playing.{Ends, endsOf, Said, bits, none, Step
 use Rattle.recording.specs.Putting.{Written, wrote, unwritten, endsAfter, Put, put, putSaid, putFrom, answersMost}
 use Rattle.recording.specs.Next.{Lies, found-lies}
 use Rattle.recording.specs.Digits.{put-length, put-append}
-use Rattle.recording.specs.Joining.{Stood}
-use Rattle.recording.specs.JoinPlay.{after-after, Onward, onward}
+use Rattle.recording.specs.Joining.{JoinedTo}
+use Rattle.recording.specs.JoinPlay.{after-after, Onward, joined-plays}
 use Rattle.recording.specs.declared.Record.{Record}
 use Rattle.recording.specs.declared.Record.the-variants as record-of
 use Rattle.recording.specs.declared.Found.{Found}
@@ -55,7 +55,7 @@ slots-few : (count : ℕ) (host : List ℕ) (l : Attached) → length (bitsSaid 
 unfolding slotsStep
 slots-few count host l =
     pick-both (λ (d : Step). length (bitsSaid (d .said)) ≤ count) (eqb count 0) _ _ (omega arith)
-    (run-few (verdictOf (l .count) (l .lent .chips) (l .lent .images) (l .lent .pads)) count host l)
+    (run-few (verdictAt l) count host l)
 
 -- a record has no more answers than the most of it
 pub said-few : (s : List ℕ) (r : Record) (l : Attached) → length (bitsSaid (recordStep s r l .said)) ≤ answersMost r
@@ -64,7 +64,7 @@ said-few s (record-of.Slots count from to) l = slots-few count (take (to - from)
 said-few s (record-of.Event e) l = event-few (saysOf e l)
 
 -- a record leaves as many places in the table: a run by its verdict, and so any
-run-leaves : (v : Verdict) (hs : List Bool) (l : Attached) → 16 ≤ length (l .lent .chips) → v ≡ verdictOf (l .count) (l .lent .chips) (l .lent .images) (l .lent .pads)
+run-leaves : (v : Verdict) (hs : List Bool) (l : Attached) → 16 ≤ length (l .lent .chips) → v ≡ verdictAt l
     → length (runStep v hs l .line .lent .chips) ≡ length (l .lent .chips)
 run-leaves verdict.Well hs l h e = run-places (l .count) (l .lent .chips) (l .lent .images) (l .lent .pads) h hs e
 run-leaves (verdict.Refused r) hs l h e = refl
@@ -74,7 +74,7 @@ unfolding slotsStep
 step-places s (record-of.Chip code kind) l h = refl
 step-places s (record-of.Slots count from to) l h =
     pick-both (λ (d : Step). length (d .line .lent .chips) ≡ length (l .lent .chips)) (eqb count 0) _ _ refl
-    (run-leaves (verdictOf (l .count) (l .lent .chips) (l .lent .images) (l .lent .pads)) (hostBits count (take (to - from) (drop from s))) l h refl)
+    (run-leaves (verdictAt l) (hostBits count (take (to - from) (drop from s))) l h refl)
 step-places s (record-of.Event e) l h = event-places (l .count) (l .lent .chips) (l .lent .images) (l .lent .pads) h e
 
 -- ---- the loop
@@ -155,7 +155,7 @@ module _ (more : Bool) (s out₀ : List ℕ) (l₀ : Attached) (packed host out 
     pub underway-lies : Lies s at taken next
     underway-lies = found-lies s at room true more taken next (sym d ∙ k)
 
-    module _ (bytes : List ℕ) (r : Record) (end : ℕ) (o : Stood more s room taken next bytes r end) where
+    module _ (bytes : List ℕ) (r : Record) (end : ℕ) (o : JoinedTo more s room taken next bytes r end) where
       -- the answers of what stands for it have room
       pub underway-room : place + answersMost r ≤ length out
       underway-room =
@@ -177,13 +177,13 @@ module _ (more : Bool) (s out₀ : List ℕ) (l₀ : Attached) (packed host out 
           let a = underway-lies .further in
           let b = underway-lies .within in
           let c = g .enough in
-          onward more s room at next l q (let p = g .places in omega arith) (g .turns - 1) (omega arith) (o .follows)
+          joined-plays more s room at next l q (let p = g .places in omega arith) (g .turns - 1) (omega arith) (o .plays)
 
       abbrev later : ℕ → Attached → Played
       later n m = playFrom (suc (goes .turns)) more s n m
 
-      by-stood : after (g .said) (onStep later at end (recordStep bytes r l .said) (recordStep bytes r l .line)) ≡ playAll more s l₀
-      by-stood =
+      by-joined : after (g .said) (onStep later at end (recordStep bytes r l .said) (recordStep bytes r l .line)) ≡ playAll more s l₀
+      by-joined =
           let a = underway-lies .further in
           let b = underway-lies .within in
           let c = g .enough in
@@ -208,7 +208,7 @@ module _ (more : Bool) (s out₀ : List ℕ) (l₀ : Attached) (packed host out 
         pub underway-refused : (n : ℕ) (e : Ends) → w ≡ unwritten n → e ≡ endsAfter w → put w text m ≡ putFrom place out (recordStep bytes r l)
             → handed e at place text m ≡ handedFrom out₀ (playAll more s l₀)
         underway-refused n e u y p =
-            ap (λ (x : Ends). handed x at place text m) y ∙ refused-by n (recordStep bytes r l .said) (recordStep bytes r l .line) u p by-stood
+            ap (λ (x : Ends). handed x at place text m) y ∙ refused-by n (recordStep bytes r l .said) (recordStep bytes r l .line) u p by-joined
 
         module _ (pack : List ℕ) (n : ℕ) (size : length pack ≡ length packed) (long : length bytes ≡ length host) (images : length (m .lent .images) ≡ length (l .lent .images))
             (pads : length (m .lent .pads) ≡ length (l .lent .pads)) where
@@ -253,4 +253,4 @@ module _ (more : Bool) (s out₀ : List ℕ) (l₀ : Attached) (packed host out 
 
           -- its answers are put, and playing goes on after it
           pub underway-next : w ≡ wrote n → put w text m ≡ putFrom place out (recordStep bytes r l) → Underway more s out₀ l₀ pack bytes text m end (place + n)
-          underway-next u p = next-by (recordStep bytes r l .said) (recordStep bytes r l .line) u p (said-few bytes r l) (step-places bytes r l (let a = g .places in omega arith)) by-stood
+          underway-next u p = next-by (recordStep bytes r l .said) (recordStep bytes r l .line) u p (said-few bytes r l) (step-places bytes r l (let a = g .places in omega arith)) by-joined

@@ -2,7 +2,7 @@
 use Prim.Native.Nat.{ℕ, _≤_}
 use native.Mathlib.Omega.{arith}
 use mathlib.Core.Bool.{Bool, true, false}
-use mathlib.Core.List.{List, _++_}
+use mathlib.Core.List.{List, [], _++_}
 use mathlib.Core.Path.{_≡_, _∙_, ap, sym}
 use lib.Dec.{eqb, leb}
 use lib.ListN.{length, set}
@@ -12,9 +12,10 @@ use Rattle.base.specs.Pick.{pick-true, pick-false}
 use Rattle.base.specs.Bits.{both}
 use Rattle.base.specs.Both.{both-true}
 use Rattle.chip.specs.declared.Chip.{Chip}
-use Rattle.line.specs.Attached.{Attached, attached, leftBy, saysOf, leavesOf}
+use Rattle.line.specs.Attached.{Attached, attached, leftBy, saysOf, leavesOf, verdictAt}
 use Rattle.line.specs.Event.{answered, numberOf, judge, tableTests, tableInRange, sizesFit, verdictOf, Outcome, outcome, eventOf}
 use Rattle.line.specs.Layout.{lent, lineOf}
+use Rattle.line.specs.Packing.{host-before}
 use Rattle.line.specs.Runs.{run-length, host-many}
 use Rattle.line.specs.Slots.{hostBits, bytesFrom, runOn, bytesAsked, runFits, Slotted, slotted, RunOutcome, runOutcome, runVerdict, runBy, slotsOf}
 use Rattle.line.specs.Slots as slots
@@ -26,10 +27,10 @@ use Rattle.line.specs.declared.SlotsAnswer.{SlotsAnswer}
 use Rattle.line.specs.declared.SlotsAnswer.the-variants as slots-answer
 use Rattle.line.specs.declared.Verdict.{Verdict}
 use Rattle.line.specs.declared.Verdict.the-variants as verdict
-use Rattle.recording.specs.Playing.{step, saidBy, eventStep, runStep, slotsStep, recordStep, digit, putDigits}
+use Rattle.recording.specs.Playing.{step, bits, saidBy, eventStep, runStep, slotsStep, recordStep, digit, putDigits}
 use Rattle.recording.specs.Putting.{Written, wrote, unwritten, writtenIn, writtenRun, Put, put, putFrom}
 use Rattle.recording.specs.declared.Record.{Record}
-use Rattle.recording.specs.Unpacked.{unpacked, bytes-length, host-before}
+use Rattle.recording.specs.Unpacked.{unpacked, bytes-length}
 
 -- ---- an event
 
@@ -53,6 +54,16 @@ module _ (e : Event) (n : ℕ) (cs : List Chip) (ms ss : List ℕ) (a : Answer) 
       ap (λ (x : Written). put x out (attached m ds xs ys)) (f ∙ ap (λ (q : Answer). writtenIn (answered q)) k) ∙ event-put (answer.Refused r) k
 
 -- ---- a run of slots
+
+-- one with slots goes by the verdict
+pub with-slots : (count : ℕ) (host : List ℕ) (l : Attached) → (count ≡ 0 → ⊥) → slotsStep count host l ≡ runStep (verdictAt l) (hostBits count host) l
+unfolding slotsStep
+with-slots count host l z = pick-false (eqb count 0) _ _ (ne-eqb count 0 z)
+
+-- one without is no event
+pub without-slots : (count : ℕ) (host : List ℕ) (l : Attached) → count ≡ 0 → slotsStep count host l ≡ step (bits []) l
+unfolding slotsStep
+without-slots count host l z = pick-true (eqb count 0) _ _ (eq-eqb count 0 z)
 
 -- with bits and answers of the sizes asked it is judged as the table is
 judged : (n : ℕ) (cs : List Chip) (count : ℕ) (host answers ms ss : List ℕ) → count ≤ 65535 → length host ≡ bytesAsked count → length answers ≡ bytesAsked count
@@ -120,10 +131,9 @@ module _ (n : ℕ) (cs : List Chip) (count : ℕ) (host answers ms ss : List ℕ
         absurd (omega arith)
     refused-by (verdict.Refused q) r g = λ j. put (unwritten (numberIn (g j .answer))) out (record { count = g j .count; lent = g j .lent })
 
-    -- a run with slots goes by the verdict
+    -- so what is put goes by it
     judged-step : (count ≡ 0 → ⊥) → putFrom place out (runStep (verdictOf n cs ms ss) (hostBits count host) (attached n cs ms ss)) ≡ putFrom place out (slotsStep count host (attached n cs ms ss))
-    unfolding slotsStep
-    judged-step z = ap (putFrom place out) (sym (pick-false (eqb count 0) _ _ (ne-eqb count 0 z)))
+    judged-step z = ap (putFrom place out) (sym (with-slots count host (attached n cs ms ss) z))
 
     -- put on the line, with the characters of the answers in the text
     pub slots-put : (k : ℕ) (rest text : List ℕ) → (count ≡ 0 → ⊥) → a ≡ slots-answer.Put k → text ≡ putDigits (hostBits k (back ++ rest)) place out
@@ -137,10 +147,9 @@ module _ (n : ℕ) (cs : List Chip) (count : ℕ) (host answers ms ss : List ℕ
         ap (λ (x : Written). put x out (attached m ds xs ys)) (f ∙ ap (λ (q : SlotsAnswer). writtenRun (slotted q)) e)
         ∙ refused-by (verdictOf n cs ms ss) (numberOf r) (by-verdict (slots-answer.Refused r) e) ∙ judged-step z
 
--- a run without a slot is no event
+-- a run without a slot puts nothing
 pub slots-none : (count : ℕ) (host : List ℕ) (l : Attached) (place : ℕ) (out : List ℕ) → count ≡ 0 → put (wrote 0) out l ≡ putFrom place out (slotsStep count host l)
-unfolding slotsStep
-slots-none count host l place out z = ap (putFrom place out) (sym (pick-true (eqb count 0) _ _ (eq-eqb count 0 z)))
+slots-none count host l place out z = ap (putFrom place out) (sym (without-slots count host l z))
 
 -- ---- a record
 

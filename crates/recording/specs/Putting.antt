@@ -51,7 +51,7 @@ putSaid place out (none r) l = put (unwritten r) out l
 abbrev pub putFrom : ℕ → List ℕ → Step → Put
 putFrom place out d = putSaid place out (d .said) (d .line)
 
--- the host's bits of a run stand in the recording, as many bytes as they ask
+-- the host's bits of a run stand in the bytes that it names them in, as many bytes as they ask
 abbrev pub RecordFits : List ℕ → Record → Type 0
 RecordFits s (record-of.Chip code kind) = Unit
 RecordFits s (record-of.Slots count from to) = (from + bytesAsked count ≡ to) × (to ≤ length s)

@@ -1,82 +1,17 @@
--- Laws: bits that were packed, eight to a byte, are found again bit by bit.
-use Prim.Native.Nat.{ℕ, zero, suc, _+_, _-_, _*_, _/_, _%_, _^_, _<_, _≤_}
+-- Laws: bits that were packed, eight to a byte, are found again.
+use Prim.Native.Nat.{ℕ, zero, suc, _+_, _*_, _/_, _%_, _≤_}
 use native.Mathlib.Omega.{arith}
-use native.Mathlib.Nat.{zero-add, suc-add, pow-succ', div-div-eq-div-mul}
-use native.Mathlib.Numerals.{add-one}
+use native.Mathlib.Nat.{zero-add, suc-add}
 use mathlib.Core.Bool.{Bool, true, false}
-use mathlib.Core.List.{List, [], _∷_, _++_, append-assoc}
-use mathlib.Core.Path.{_≡_, refl, _∙_, ap, sym, subst}
-use lib.Dec.{eqb, ltb}
-use lib.ListN.{length, take, drop, getD, List·getD-append}
-use lib.Seq.{take-suc, take-append-le, getD-append-add, drop-cons, drop-nil, getD-take}
-use borrow.Author.Tests.{ltb-true, ltb-false}
+use mathlib.Core.List.{List, [], _∷_, _++_}
+use mathlib.Core.Path.{_≡_, refl, _∙_, ap, sym}
+use lib.Dec.{eqb}
+use lib.ListN.{length, take, drop}
+use lib.Seq.{drop-nil}
 use Rattle.base.specs.Pick.{pick}
-use Rattle.base.specs.Bits.{both, bitOf}
-use Rattle.line.specs.Runs.{bits-many, host-many}
-use Rattle.line.specs.Slots.{bitsOf, bitsIn, numberFrom, bytesFrom, hostBits, slotBit}
+use Rattle.base.specs.Bits.{both}
+use Rattle.line.specs.Slots.{bitsOf, bitsIn, numberFrom, bytesFrom, hostBits}
 use Rattle.recording.specs.Reading.{noneSet, unusedClear}
-
--- less than eight, or eight and so many
-below-eight : (P : ℕ → Type 0) → ((i : ℕ) → i < 8 → P i) → ((k : ℕ) → P (8 + k)) → (i : ℕ) → P i
-below-eight P f g i = by (ltb i 8) refl
-  where
-    rest : (i k : ℕ) → 8 + k ≡ i → P i
-    rest i k e = subst P e (g k)
-
-    by : (t : Bool) → ltb i 8 ≡ t → P i
-    by true e = f i (ltb-true i 8 e)
-    by false e = let h = ltb-false i 8 e in rest i (i - 8) (omega arith)
-
--- ---- the bit of a slot
-
--- a bit of a byte
-bit-at : (n x i : ℕ) → i < n → getD (bitsOf n x) i false ≡ bitOf x i
-unfolding bitOf
-bit-at zero x i h = absurd (omega arith)
-bit-at (suc n) x zero h = ap (λ (k : ℕ). eqb (k % 2) 1) (whole x)
-  where
-    whole : (x : ℕ) → x ≡ x / 1
-    whole x = omega arith
-bit-at (suc n) x (suc i) h = bit-at n (x / 2) i (omega arith) ∙ ap (λ (k : ℕ). eqb (k % 2) 1) (div-div-eq-div-mul x 2 (2 ^ i) ∙ ap (λ (k : ℕ). x / k) (sym (pow-succ' 2 i)))
-
--- a bit of the first of bytes
-in-first : (x : ℕ) (xs : List ℕ) (i : ℕ) → i < 8 → getD (bitsIn (x ∷ xs)) i false ≡ slotBit (x ∷ xs) i
-unfolding slotBit
-in-first x xs i l =
-    let z : i / 8 ≡ 0 = omega arith in
-    let m : i % 8 ≡ i = omega arith in
-    List·getD-append (bitsOf 8 x) (bitsIn xs) false i l ∙ bit-at 8 x i l ∙ (λ j. bitOf (getD (x ∷ xs) (sym z j) 0) (sym m j))
-
--- a bit of the bytes after the first
-in-later : (x : ℕ) (xs : List ℕ) (k : ℕ) → getD (bitsIn xs) k false ≡ slotBit xs k → getD (bitsIn (x ∷ xs)) (8 + k) false ≡ slotBit (x ∷ xs) (8 + k)
-unfolding slotBit
-in-later x xs k h =
-    let s : (8 + k) / 8 ≡ suc (k / 8) = omega arith in
-    let m : (8 + k) % 8 ≡ k % 8 = omega arith in
-    getD-append-add (bitsOf 8 x) (bitsIn xs) k false ∙ h ∙ (λ j. bitOf (getD (x ∷ xs) (sym s j) 0) (sym m j))
-
--- a bit of bytes
-slot-at : (xs : List ℕ) (i : ℕ) → i < 8 * length xs → getD (bitsIn xs) i false ≡ slotBit xs i
-slot-at [] i h = absurd (omega arith)
-slot-at (x ∷ xs) i h =
-    below-eight (λ i. i < 8 * length (x ∷ xs) → getD (bitsIn (x ∷ xs)) i false ≡ slotBit (x ∷ xs) i)
-    (λ i l h. in-first x xs i l)
-    (λ k h. in-later x xs k (slot-at xs k (omega arith)))
-    i
-    h
-
--- what is left of the host's bits starts with that of the slot
-pub host-next : (n : ℕ) (xs : List ℕ) (i : ℕ) → n ≤ 8 * length xs → i < n → drop i (hostBits n xs) ≡ slotBit xs i ∷ drop (suc i) (hostBits n xs)
-host-next n xs i h l =
-    let m = host-many n xs h in
-    drop-cons (hostBits n xs) i false (omega arith) ∙ ap (λ (b : Bool). b ∷ drop (suc i) (hostBits n xs)) (getD-take n (bitsIn xs) i false l ∙ slot-at xs i (omega arith))
-
--- one bit more
-pub host-more : (n : ℕ) (xs : List ℕ) → n < 8 * length xs → hostBits (n + 1) xs ≡ hostBits n xs ++ (slotBit xs n ∷ [])
-host-more n xs h =
-    let m = bits-many xs in
-    ap (λ (k : ℕ). take k (bitsIn xs)) (add-one n) ∙ take-suc (bitsIn xs) n false (omega arith)
-    ∙ ap (λ (b : Bool). hostBits n xs ++ (b ∷ [])) (slot-at xs n h)
 
 -- ---- the bits of bytes that were made of bits
 
@@ -159,16 +94,3 @@ unused-clear k bs h = ap (λ (l : List Bool). noneSet (drop (length bs) l)) (byt
 pub bytes-length : (k : ℕ) (bs : List Bool) → length (bytesFrom k bs) ≡ k
 bytes-length zero bs = refl
 bytes-length (suc k) bs = ap suc (bytes-length k (drop 8 bs))
-
--- ---- bytes after those of the answers
-
--- the bits of bytes after bytes
-bits-append : (xs ys : List ℕ) → bitsIn (xs ++ ys) ≡ bitsIn xs ++ bitsIn ys
-bits-append [] ys = refl
-bits-append (x ∷ xs) ys = ap (λ (l : List Bool). bitsOf 8 x ++ l) (bits-append xs ys) ∙ sym (append-assoc (bitsOf 8 x) (bitsIn xs) (bitsIn ys))
-
--- the bytes after those of the answers are not looked at
-pub host-before : (n : ℕ) (xs ys : List ℕ) → n ≤ 8 * length xs → hostBits n (xs ++ ys) ≡ hostBits n xs
-host-before n xs ys h =
-    let m = bits-many xs in
-    ap (take n) (bits-append xs ys) ∙ take-append-le n (bitsIn xs) (bitsIn ys) (omega arith)

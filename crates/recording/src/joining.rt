@@ -8,17 +8,18 @@ ghost use mathlib.Core.List.{_++_};
 ghost use Prim.Native.Nat.{_+_, _*_, _≤_};
 ghost use lib.ListN.{length};
 ghost use Rattle.line.specs.Slots.{hostBits};
-ghost use Rattle.recording.specs.Joining.{JoinedTo, Stood};
+ghost use Rattle.recording.specs.Joining.{GatheredTo, JoinedTo};
 ghost use Rattle.recording.specs.Putting.{RecordFits};
 
-// Slots whose host bits stand in a room, and the offset after the records that they are of.
-pub struct Joined {
+// Runs that were gathered: how many slots they have, and the offset after their records.
+pub struct Gathered {
     pub slots: usize,
     pub next: usize,
 }
 
-// What stands for a record, with host bits in a room, and the offset after all that it stands for.
-pub struct Whole {
+// What is put on the line for a record, and the offset after all that it stands for. A run's host bits stand in a buffer of
+// their own.
+pub struct Joined {
     pub record: Record,
     pub next: usize,
 }
@@ -36,42 +37,45 @@ fn add_bits(host: &mut [u8], slots: usize, bits: &[u8], count: usize)
     }
 }
 
-// The runs from an offset on put after so many slots, until another record comes or one run could not have them all.
-fn join_runs(s: &[u8], at: usize, room: usize, more: bool, slots: usize, host: &mut [u8]) -> Joined
+// The runs from an offset on, put after so many slots, as far as they go and one run may have them all. Whatever else stands
+// there is left to its own turn, a fault too.
+fn gather_runs(
+    s: &[u8],
+    at: usize,
+    room: usize,
+    more: bool,
+    slots: usize,
+    host: &mut [u8],
+) -> Gathered
     requires { ⌜ (at ≤ length (now s)) × (slots ≤ 65535) × (length (now host) ≡ 8192) ⌝ }
-    ensures { λ r. ⌜ JoinedTo more (now (s .entry)) room at slots (now (host .entry)) (r .slots) (r .next) (now (host .exit)) ⌝ }
+    ensures { λ r. ⌜ GatheredTo more (now (s .entry)) room at slots (now (host .entry)) (r .slots) (r .next) (now (host .exit)) ⌝ }
 {
     let mut all = slots;
     let mut next = at;
     loop {
         let found = reading::record_at(s, next, room, true, more);
         let Found::Record(taken, after) = found else {
-            return Joined {
-                slots: all,
-                next: next,
-            };
+            break;
         };
         let Record::Slots { count, from, to } = taken else {
-            return Joined {
-                slots: all,
-                next: next,
-            };
+            break;
         };
         let n = count as usize;
         if SLOTS_MOST - all < n {
-            return Joined {
-                slots: all,
-                next: next,
-            };
+            break;
         }
         add_bits(host, all, &s[from..to], n);
         all += n;
         next = after;
     }
+    Gathered {
+        slots: all,
+        next: next,
+    }
 }
 
-// What stands for the record before an offset: a run of slots with those that follow it, and any other record by itself. A run
-// without a slot is no event, so none is joined to it.
+// What is put on the line for the record before an offset: a run of slots with those that follow it, and any other record by
+// itself. A run without a slot is no event, so none is joined to it.
 pub fn with_next_runs(
     taken: Record,
     s: &[u8],
@@ -79,18 +83,18 @@ pub fn with_next_runs(
     room: usize,
     more: bool,
     host: &mut [u8],
-) -> Whole
+) -> Joined
     requires { ⌜ (RecordFits (now s) taken) × (next ≤ length (now s)) × (length (now host) ≡ 8192) ⌝ }
-    ensures { λ r. ⌜ Stood more (now (s .entry)) room taken next (now (host .exit)) (r .record) (r .next) ⌝ }
+    ensures { λ r. ⌜ JoinedTo more (now (s .entry)) room taken next (now (host .exit)) (r .record) (r .next) ⌝ }
 {
     let Record::Slots { count, from, to } = taken else {
-        return Whole {
+        return Joined {
             record: taken,
             next: next,
         };
     };
     if count == 0 {
-        return Whole {
+        return Joined {
             record: Record::Slots {
                 count: count,
                 from: 0,
@@ -100,8 +104,8 @@ pub fn with_next_runs(
         };
     }
     add_bits(host, 0, &s[from..to], count as usize);
-    let run = join_runs(s, next, room, more, count as usize, host);
-    Whole {
+    let run = gather_runs(s, next, room, more, count as usize, host);
+    Joined {
         record: Record::Slots {
             count: run.slots as u16,
             from: 0,

@@ -205,9 +205,9 @@ fn play_all(t: Table, s: &[u8], more: bool, out: &mut [u8], ms: &mut [u8], ss: &
                 table: table,
             };
         };
-        let whole = joining::with_next_runs(taken, s, next, room, more, &mut host);
-        let record = whole.record;
-        let after = whole.next;
+        let joined = joining::with_next_runs(taken, s, next, room, more, &mut host);
+        let record = joined.record;
+        let after = joined.next;
         let put = put_record(table, record, &host, &mut packed, out, place, ms, ss);
         let answer = put.answer;
         table = put.table;

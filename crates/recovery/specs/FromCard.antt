@@ -15,7 +15,7 @@ use Rattle.records.specs.Records.{headAt}
 use Rattle.card.specs.Card.{chips, wholeEntry, entryAt, readFrom, setUpOf}
 use Rattle.histories.specs.Below.{Bytes, all-below}
 use Rattle.histories.specs.SetUp.{kindIn, codeIn, codesFrom, codes-below, sets-up, tableFrom, SizesAsked, set-up-stands, set-up-codes, set-up-chip}
-use Rattle.line.specs.Standing.{lineFrom}
+use Rattle.line.specs.Attached.{lineFrom}
 use Rattle.histories.specs.Joined.{runOn}
 use Rattle.recovery.specs.Sessions.{write, Page}
 use Rattle.recovery.specs.CarriedOut.{NoCopy}

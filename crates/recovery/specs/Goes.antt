@@ -7,7 +7,7 @@ use mathlib.Core.Path.{_≡_, refl, _∙_, ap, sym, subst}
 use borrow.Author.Tests.{lt-ltb, le-ltb}
 use Rattle.base.specs.Pick.{pick}
 use Rattle.base.specs.Bits.{bitOf, both, filled}
-use Rattle.base.specs.Both.{both-holds}
+use Rattle.base.specs.Both.{both-holds, both-true′}
 use Rattle.base.specs.Same.{same-own}
 use Rattle.rom.specs.Rom.{commandOf, commandBit, matchBit}
 use Rattle.rom.specs.declared.RomStep.the-variants.{Command, Match}
@@ -22,7 +22,6 @@ use Rattle.chip.specs.declared.Chip.{Chip}
 use Rattle.chip.specs.declared.Level.{Level}
 use Rattle.chip.specs.declared.Level.the-variants.{Rom, FunctionCommand, Memory}
 use Rattle.histories.specs.Fed.{fed, sendsNothing}
-use Rattle.line.specs.Range.{both-true′}
 use Rattle.histories.specs.Sent.{bitsFrom}
 use Rattle.recovery.specs.Sessions.{opening}
 use Rattle.recovery.specs.Filled.{filledBy, byte-taken, address-taken}

@@ -2,8 +2,7 @@
 use Prim.Native.Nat.{ℕ}
 use mathlib.Core.List.{List, _++_}
 use mathlib.Core.Path.{_≡_, _∙_, ap, sym, subst}
-use Rattle.line.specs.Attached.{Attached}
-use Rattle.line.specs.Standing.{lineFrom}
+use Rattle.line.specs.Attached.{Attached, lineFrom}
 use Rattle.histories.specs.Joined.{runOn}
 use Rattle.histories.specs.Calls.{Call, callsOn, eventsOfCalls, run-on-append, calls-run, stands-calls}
 use Rattle.recovery.specs.Sessions.{write, Page}

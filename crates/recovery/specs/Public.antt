@@ -7,10 +7,10 @@ use mathlib.Core.Path.{_≡_, _∙_, ap, sym, subst}
 use lib.ListN.{length}
 use Rattle.chip.specs.Chip.{Whole}
 use Rattle.line.specs.declared.Event.{Event}
-use Rattle.line.specs.Attached.{Attached}
+use Rattle.line.specs.Attached.{Attached, Stands, lineFrom}
 use Rattle.histories.specs.Histories.{at, run, answers, came, codesOf}
 use Rattle.line.specs.Keeps.{Good}
-use Rattle.line.specs.Standing.{AllGood, Stands, lineFrom, line-good, line-length}
+use Rattle.line.specs.Standing.{AllGood, line-good, line-length}
 use Rattle.histories.specs.Joined.{runOn, answersOn, run-joined, answers-joined, stands-on}
 use Rattle.histories.specs.Below.{Codes}
 use Rattle.recovery.specs.Sessions.{Addressed, write, Page}

@@ -12,9 +12,8 @@ use Rattle.line.specs.Event.{tableInRange, sizesFit, verdictOf}
 use Rattle.line.specs.Refusals.{in-range-few}
 use Rattle.line.specs.declared.Verdict.{Verdict}
 use Rattle.search.specs.Host.{play, searchHost}
-use Rattle.line.specs.Attached.{Attached}
+use Rattle.line.specs.Attached.{Attached, Stands}
 use Rattle.search.specs.Search.{Searched, complete, refused, completeOr4, wire, Search, outcome, searchBy, searchOf}
-use Rattle.line.specs.Standing.{Stands}
 
 numbered : (r s : ℕ) → (r ≡ s → ⊥) → refused r ≡ refused s → ⊥
 numbered r s n e = n (number e)

@@ -10,7 +10,7 @@ use lib.ListN.{length}
 use borrow.Author.Tests.{leb-true, le-leb}
 use Rattle.base.specs.Pick.{pick, pick-true, pick-if, pick-of}
 use Rattle.base.specs.Bits.{both}
-use Rattle.base.specs.Both.{both-holds}
+use Rattle.base.specs.Both.{both-holds, both-true′}
 use Rattle.base.specs.Exactly.{Iff, then-exactly, both-exactly, equal-exactly, by-else, by-then, by-neither}
 use Rattle.chip.specs.declared.Chip.{Chip}
 use Rattle.line.specs.Layout.{lineOf, lent}
@@ -18,7 +18,6 @@ use Rattle.line.specs.Event.{tableInRange, sizesFit}
 use Rattle.line.specs.Slots.{hostBits, runOn, bytesAsked, runFits, Slotted, put, refused, RunOutcome, runOutcome, runVerdict, runBy, slotsOf}
 use Rattle.line.specs.RunTables.{run-well, put-all}
 use Rattle.line.specs.declared.Verdict.{Verdict}
-use Rattle.line.specs.Range.{both-true′}
 use Rattle.histories.specs.Slots.{well-run}
 
 numbered : (r s : ℕ) → (r ≡ s → ⊥) → refused r ≡ refused s → ⊥

@@ -20,10 +20,10 @@ use Rattle.line.specs.declared.Refusal.the-variants.{NoSuchOutside}
 use Rattle.line.specs.declared.Verdict.the-variants as verdict
 use Rattle.line.specs.declared.Plan.{Plan}
 use Rattle.line.specs.declared.Plan.the-variants as plan
-use Rattle.line.specs.Attached.{Attached, saysOf, leavesOf}
+use Rattle.line.specs.Attached.{Attached, saysOf, leavesOf, Stands, lineFrom}
 use Rattle.histories.specs.Histories.{at, answerOf, afterOf}
 use Rattle.histories.specs.Place.{at-map}
-use Rattle.line.specs.Standing.{Stands, lineFrom, line-length}
+use Rattle.line.specs.Standing.{line-length}
 use Rattle.histories.specs.Standing.{says-is, line-after}
 use Rattle.wired.specs.Wired.{AllSendOne, value-exactly, Sending, moves-on}
 

@@ -10,7 +10,7 @@ use lib.ListN.{replicate}
 use borrow.Author.Tests.{lt-ltb, ne-eqb}
 use Rattle.base.specs.Pick.{pick, pick-false}
 use Rattle.base.specs.Bits.{both, filled}
-use Rattle.base.specs.Both.{both-holds}
+use Rattle.base.specs.Both.{both-holds, both-true′}
 use Rattle.base.specs.Exactly.{Iff}
 use Rattle.rom.specs.Rom.{commandBit, searchBit, searchSends}
 use Rattle.rom.specs.declared.RomStep.the-variants.{Command, Read, Match, Search}
@@ -24,7 +24,6 @@ use Rattle.line.specs.Line.{valueOf}
 use Rattle.line.specs.Event.{askedBy, planEvent, outsideFits}
 use Rattle.line.specs.Events.{slotEvent}
 use Rattle.histories.specs.Histories.{at, afterOf, run}
-use Rattle.line.specs.Range.{both-true′}
 
 -- every chip of a line sends 1
 abbrev pub AllSendOne : List Whole → Type 0

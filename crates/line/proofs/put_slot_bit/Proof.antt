@@ -6,7 +6,7 @@ use Rattle.line.proofs.put_slot_bit.Reads as reads
 use Rattle.line.proofs.put_slot_bit.Lts as lts
 use Rattle.base.proofs.byte_at.Reads as byte-at-reads
 use Rattle.base.proofs.put_at.Reads as put-at-reads
-use Rattle.line.proofs.bits.byte_with.Reads as byte-with-reads
+use Rattle.line.proofs.packing.byte_with.Reads as byte-with-reads
 
 -- src/lib.rt:182:9
 byte-at-requires : tie.Need-byte-at-requires

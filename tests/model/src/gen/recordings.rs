@@ -176,6 +176,8 @@ pub enum Good {
     Long,
     /// Runs of up to 65,535 slots.
     Largest,
+    /// Runs in a row that have 65,535 slots together, or more: one of the rows, small enough to be at hand as a whole.
+    Row(usize),
     /// A line that is read before any power on.
     Fresh,
     /// Cards and no event.
@@ -189,6 +191,7 @@ pub fn all_good() -> Vec<Good> {
         .map(Good::Stories)
         .into_iter()
         .chain(others)
+        .chain((0..ROWS).map(Good::Row))
         .collect()
 }
 
@@ -203,6 +206,7 @@ pub fn good(rng: &mut Rng, sort: Good) -> Vec<Record> {
         }
         Good::Long => long(rng),
         Good::Largest => largest(rng),
+        Good::Row(number) => row(rng, number),
         Good::Fresh => fresh(rng),
         Good::Cards => cards(&good_card(rng, Style::Mixed)),
     }
@@ -234,15 +238,46 @@ fn largest(rng: &mut Rng) -> Vec<Record> {
     let card = records[..4].to_vec();
     let slots = [MOST_SLOTS, 65_528, 8_193, 8_192];
     for (slots, card) in slots.into_iter().zip(&card) {
-        let Record::Card(kind, code) = card else {
-            continue;
-        };
-        let command: &[u8] = if *kind == 1 { &[0xF0, 0, 0] } else { &[0xF5] };
-        let mut run = bits(&[&[0x55], &code.to_le_bytes()[..], command].concat());
-        run.resize(slots, 1);
         records.push(Record::Reset);
-        records.push(Record::Run(run));
+        records.push(Record::Run(read_on(card, slots)));
     }
+    records
+}
+
+/// So many slots that match a chip and read on from it.
+fn read_on(card: &Record, slots: usize) -> Vec<u8> {
+    let Record::Card(kind, code) = card else {
+        panic!("no chip of the card");
+    };
+    let command: &[u8] = if *kind == 1 { &[0xF0, 0, 0] } else { &[0xF5] };
+    let mut run = bits(&[&[0x55], &code.to_le_bytes()[..], command].concat());
+    run.resize(slots, 1);
+    run
+}
+
+/// The number of rows of runs.
+const ROWS: usize = 4;
+
+/// Runs in a row that have 65,535 slots together, or more.
+fn row(rng: &mut Rng, number: usize) -> Vec<Record> {
+    let mut records = cards(&card_of(rng, 2));
+    let any = rng.between(1, 60_000);
+    let rows: [&[usize]; ROWS] = [
+        &[any, MOST_SLOTS - any, 1],
+        &[MOST_SLOTS, 0, 1],
+        &[any, 0, 65_530 - any, 0, 6],
+        &[40_000, 30_000],
+    ];
+    let lengths = rows[number];
+    let all = read_on(&records[number % 2], lengths.iter().sum());
+    records.push(Record::Reset);
+    let mut rest = &all[..];
+    for slots in lengths {
+        let (part, later) = rest.split_at(*slots);
+        records.push(Record::Run(part.to_vec()));
+        rest = later;
+    }
+    records.push(Record::Reset);
     records
 }
 

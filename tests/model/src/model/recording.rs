@@ -58,6 +58,10 @@ pub struct Playback {
     records: usize,
     /// Slots of the record before the one at hand, if that is a run.
     run: Option<Vec<u8>>,
+    /// The lengths of the runs since the last record of another kind.
+    row: Vec<usize>,
+    /// Where the first of them stands.
+    row_at: usize,
     /// Whether the recording has had a power on.
     powered: bool,
     /// Answers given.
@@ -81,6 +85,8 @@ impl Playback {
             line: None,
             records: 0,
             run: None,
+            row: Vec::new(),
+            row_at: 0,
             powered: false,
             answers: 0,
             put_off: None,
@@ -201,6 +207,8 @@ impl Playback {
             at += 4;
         } else if book.slips(Slip::PlaceLow) {
             at &= 0xFFFF;
+        } else if book.slips(Slip::PlaceRow) && !self.row.is_empty() {
+            at = self.row_at;
         }
         let empty = self.answers == 0 && book.slips(Slip::EmptyLineLeft);
         if !empty && !book.slips(Slip::SameLine) {
@@ -220,6 +228,7 @@ impl Playback {
         };
         book.saw(place);
         book.saw_if(self.at > 0xFFFF, Rule::PlayRefusedFar);
+        book.saw_if(self.row.len() > 1, Rule::PlayRefusedRow);
         let length = rest
             .get(..2)
             .map(|two| u16::from_le_bytes([two[0], two[1]]));
@@ -500,10 +509,20 @@ impl Playback {
             return Ok(());
         }
         let run = self.run.take();
+        let ends_row = !matches!(record, Record::Run(_));
         let line = self.line.as_mut().expect("a line that is set up");
         match record {
             Record::Run(bits) => {
                 note_run(&bits, run.is_some(), book);
+                let before: usize = self.row.iter().sum();
+                if self.row.is_empty() {
+                    self.row_at = self.at;
+                }
+                self.row.push(bits.len());
+                note_row(&self.row, book);
+                if book.slips(Slip::RowLost) && before + bits.len() > MOST_SLOTS {
+                    return Ok(());
+                }
                 if bits.is_empty() && book.slips(Slip::NoSlotsAnswer) {
                     self.held.push(b'1');
                 }
@@ -558,6 +577,9 @@ impl Playback {
             }
             Record::Passed => {}
         }
+        if ends_row {
+            self.row.clear();
+        }
         Ok(())
     }
 
@@ -609,6 +631,17 @@ fn note_run(bits: &[u8], behind: bool, book: &mut Book) {
     book.saw_if(bits.len() > 255, Rule::PlayRunOver255);
     book.saw_if(bits.len() > 8192, Rule::PlayRunOver8192);
     book.saw_if(behind, Rule::PlayRunBehind);
+}
+
+/// Counts what runs in a row come to, after each of them.
+fn note_row(row: &[usize], book: &mut Book) {
+    let slots: usize = row.iter().sum();
+    let more = row.len() > 1;
+    book.saw_if(more && slots == MOST_SLOTS, Rule::PlayRowMost);
+    book.saw_if(more && slots > MOST_SLOTS, Rule::PlayRowOver);
+    if let [.., before, 0, after] = row {
+        book.saw_if(*before > 0 && *after > 0, Rule::PlayRowNone);
+    }
 }
 
 /// So many bits, least significant first.

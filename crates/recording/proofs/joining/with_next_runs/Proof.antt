@@ -1,13 +1,13 @@
 use borrow.Author.Needs.{needs}
 use native.Mathlib.Omega.{arith}
 use Prim.Native.Nat.{_-_, _≤_}
-use mathlib.Core.Path.{_≡_, _∙_, subst}
-use lib.ListN.{length, take, drop, length-drop}
+use mathlib.Core.Path.{_∙_, subst}
+use lib.ListN.{drop, length-drop}
 use lib.Seq.{length-take-le}
 use denote.Ref.{now}
-use Rattle.line.specs.Slots.{bytesAsked}
 use Rattle.recording.specs.Putting.{RecordFits}
-use Rattle.recording.specs.JoinLoop.{stood-other, stood-none, stood-runs}
+use Rattle.recording.specs.Next.{run-bytes}
+use Rattle.recording.specs.JoinLoop.{joined-other, joined-none, joined-runs}
 use Rattle.recording.proofs.Absent.{no-slots}
 use Rattle.recording.proofs.joining.with_next_runs.Statement.{statement}
 use Rattle.recording.proofs.joining.with_next_runs.Tie as tie
@@ -15,7 +15,7 @@ use Rattle.recording.proofs.joining.with_next_runs.Reads as reads
 use Rattle.recording.proofs.joining.with_next_runs.Lts as lts
 use Rattle.line.proofs.bytes_asked.Reads as bytes-asked-reads
 use Rattle.recording.proofs.joining.add_bits.Reads as add-bits-reads
-use Rattle.recording.proofs.joining.join_runs.Reads as join-runs-reads
+use Rattle.recording.proofs.joining.gather_runs.Reads as gather-runs-reads
 
 -- src/joining.rt:93:25
 enum-known-taken : tie.Need-enum-known-taken
@@ -23,11 +23,11 @@ enum-known-taken c = search needs
 
 -- src/joining.rt:94:9
 returns : tie.Need-returns
-returns c = let s = c .before .before .before in let a = s .args in stood-other (a .more) (now (a .s)) (a .room) (a .taken) (a .next) (now (a .host)) (no-slots _ (c .match .keys2)) (s .pre .1)
+returns c = let s = c .before .before .before in let a = s .args in joined-other (a .more) (now (a .s)) (a .room) (a .taken) (a .next) (now (a .host)) (no-slots _ (c .match .keys2)) (s .pre .1)
 
 -- src/joining.rt:100:9
 returns-2 : tie.Need-returns-2
-returns-2 c = let s = c .before .before .before .before .before .before in let a = s .args in stood-none (a .more) (now (a .s)) (a .room) (a .taken) (a .next) _ _ _ (c .before .before .taken .given .1) (now (a .host)) (c .if1 .taken) (s .pre .1)
+returns-2 c = let s = c .before .before .before .before .before .before in let a = s .args in joined-none (a .more) (now (a .s)) (a .room) (a .taken) (a .next) _ _ _ (c .before .before .taken .given .1) (now (a .host)) (c .if1 .taken) (s .pre .1)
 
 -- src/joining.rt:109:23
 sub-add-bits : tie.Need-sub-add-bits
@@ -47,15 +47,15 @@ cast-add-bits c = search needs
 
 -- src/joining.rt:109:5
 add-bits-requires : tie.Need-add-bits-requires
-add-bits-requires c κs = let s = c .before .before .before .before .before .before .before .before in let a = s .args in let f = subst (RecordFits (now (a .s))) (c .before .before .before .before .taken .given .1) (s .pre .0) in let few : c .before .before .before .before .taken .given .0 .0 ≤ 65535 = search needs in let e = f .0 in let w = f .1 in let d = length-drop (c .before .before .before .before .taken .given .0 .1 .0) (now (a .s)) in let b = length-take-le (c .before .before .before .before .taken .given .0 .1 .1 .0 - c .before .before .before .before .taken .given .0 .1 .0) (drop (c .before .before .before .before .taken .given .0 .1 .0) (now (a .s))) (omega arith) in (omega arith, omega arith, s .pre .2)
+add-bits-requires c κs = let s = c .before .before .before .before .before .before .before .before in let a = s .args in let g = c .before .before .before .before .taken .given in let f = subst (RecordFits (now (a .s))) (g .1) (s .pre .0) in let few : g .0 .0 ≤ 65535 = search needs in let b = run-bytes (now (a .s)) _ _ _ f in (omega arith, omega arith, s .pre .2)
 
 -- src/joining.rt:110:46
-cast-join-runs : tie.Need-cast-join-runs
-cast-join-runs c = search needs
+cast-gather-runs : tie.Need-cast-gather-runs
+cast-gather-runs c = search needs
 
 -- src/joining.rt:110:9
-join-runs-requires : tie.Need-join-runs-requires
-join-runs-requires c κs = search needs
+gather-runs-requires : tie.Need-gather-runs-requires
+gather-runs-requires c κs = search needs
 
 -- src/joining.rt:113:20
 cast-t23 : tie.Need-cast-t23
@@ -71,7 +71,7 @@ same-length c = search needs
 
 -- src/joining.rt:82:1
 returns-3 : tie.Need-returns-3
-returns-3 c = let s = c .before .before .before .before .before .before .before .before .before .before .before .before .before .before .before .before .before in let a = s .args in let j = c .before .before .before .before .join-runs in let b = c .before .before .before .before .before .before .before .before .add-bits in stood-runs (a .more) (now (a .s)) (a .room) (a .taken) (a .next) _ _ _ (c .before .before .before .before .before .before .before .before .before .before .before .before .before .taken .given .1) (now (a .host)) _ _ _ _ _ (c .before .before .before .before .before .before .before .before .before .before .before .if1 .left) (b .ensures) (j .ensures) (c .bytes-asked .ensures) (j .kept .1 .1 .1 .1 .1 .0 ∙ b .kept .0 ∙ s .pre .2)
+returns-3 c = let s = c .before .before .before .before .before .before .before .before .before .before .before .before .before .before .before .before .before in let a = s .args in let j = c .before .before .before .before .gather-runs in let b = c .before .before .before .before .before .before .before .before .add-bits in joined-runs (a .more) (now (a .s)) (a .room) (a .taken) (a .next) _ _ _ (c .before .before .before .before .before .before .before .before .before .before .before .before .before .taken .given .1) (now (a .host)) _ _ _ _ _ (c .before .before .before .before .before .before .before .before .before .before .before .if1 .left) (b .ensures) (j .ensures) (c .bytes-asked .ensures) (j .kept .1 .1 .1 .1 .1 .0 ∙ b .kept .0 ∙ s .pre .2)
 
 pub with-next-runs-spec : {M : Type 1} → statement M
 with-next-runs-spec =
@@ -85,8 +85,8 @@ with-next-runs-spec =
     part-add-bits-end
     cast-add-bits
     add-bits-requires
-    cast-join-runs
-    join-runs-requires
+    cast-gather-runs
+    gather-runs-requires
     cast-t23
     bytes-asked-requires
     same-length

@@ -1,12 +1,10 @@
 use borrow.Author.Needs.{needs}
 use native.Mathlib.Omega.{arith}
-use Prim.Native.Nat.{_-_}
-use mathlib.Core.Path.{refl, _∙_, ap, subst}
-use lib.ListN.{drop, length-drop}
-use lib.Seq.{length-take-le}
+use mathlib.Core.Path.{refl, ap, subst}
 use denote.Ref.{now}
 use Rattle.line.specs.Attached.{attached}
 use Rattle.recording.specs.Putting.{RecordFits, answersMost}
+use Rattle.recording.specs.Next.{run-bytes}
 use Rattle.recording.specs.Puts.{record-put}
 use Rattle.recording.proofs.playing.put_record.Statement.{statement}
 use Rattle.recording.proofs.playing.put_record.Tie as tie
@@ -37,7 +35,7 @@ part-put-slots-end c = let s = c .before .before .before .before .before .before
 
 -- src/playing.rt:180:13
 put-slots-requires : tie.Need-put-slots-requires
-put-slots-requires c κs = let s = c .before .before .before .before .before .before .before .before .before .before .before .before .before in let a = s .args in let f = subst (RecordFits (now (a .s))) (c .before .before .before .before .before .before .taken .given .1) (s .pre .0) in let g = c .before .before .before .before .before .before .taken .given in let e = f .0 in let w = f .1 in let d = length-drop (g .0 .1 .0) (now (a .s)) in let m = ap answersMost (g .1) in let o = s .pre .2 in (length-take-le (g .0 .1 .1 .0 - g .0 .1 .0) (drop (g .0 .1 .0) (now (a .s))) (omega arith) ∙ omega arith, s .pre .1, omega arith)
+put-slots-requires c κs = let s = c .before .before .before .before .before .before .before .before .before .before .before .before .before in let a = s .args in let f = subst (RecordFits (now (a .s))) (c .before .before .before .before .before .before .taken .given .1) (s .pre .0) in let g = c .before .before .before .before .before .before .taken .given in let m = ap answersMost (g .1) in let o = s .pre .2 in (run-bytes (now (a .s)) (g .0 .0) (g .0 .1 .0) (g .0 .1 .1 .0) f, s .pre .1, omega arith)
 
 -- src/playing.rt:182:23
 enum-known-taken-2 : tie.Need-enum-known-taken-2

@@ -6,9 +6,9 @@ use mathlib.Core.Bool.{Bool, true, false, not, true≢false}
 use mathlib.Core.Path.{_≡_, refl, _∙_, ap, sym}
 use lib.Dec.{eqb, ltb, leb}
 use borrow.Author.Tests.{ltb-true, eq-eqb, ne-eqb, lt-ltb, le-leb}
-use Rattle.base.specs.Pick.{pick, pick-if, pick-both}
+use Rattle.base.specs.Pick.{pick-if, pick-both}
 use Rattle.base.specs.Bits.{bitOf, both}
-use Rattle.base.specs.Both.{both-holds}
+use Rattle.base.specs.Both.{both-holds, both-true′}
 use Rattle.rom.specs.declared.Knows.{Knows}
 use Rattle.rom.specs.Rom.{commandOf, commandBit, readBit, matchBit, searchBit, romTakes, romInRange}
 use Rattle.rom.specs.declared.RomNext.{RomNext}
@@ -28,10 +28,6 @@ use Rattle.ds2413.specs.declared.Switch.{Switch}
 use Rattle.ds2413.specs.declared.SwitchAfter.{SwitchAfter}
 use Rattle.ds2413.specs.declared.SwitchPhase.{SwitchPhase}
 use Rattle.ds2413.specs.declared.SwitchPhase.the-variants as pio
-
-pub both-true′ : (a b : Bool) → a ≡ true → b ≡ true → both a b ≡ true
-unfolding both pick
-both-true′ a b e f = rw (e, f)
 
 -- a count that is below one less than its end may grow
 pub more-below : (count n : ℕ) → ltb count n ≡ true → ltb (count + 1) (n + 1) ≡ true

@@ -1,7 +1,7 @@
 // Packed bits: a byte with one bit more.
 ghost use mathlib.Core.Path.{_≡_};
 ghost use Prim.Native.Nat.{_^_, _<_, _≤_};
-ghost use Rattle.line.specs.Slots.{withBit};
+ghost use Rattle.line.specs.Slots.{byteWith};
 
 // What a place of a byte is worth.
 fn worth_of(place: u8) -> u64
@@ -15,7 +15,7 @@ fn worth_of(place: u8) -> u64
 // A byte with a bit at a place: the bits before it stay, and there are none after it.
 pub fn byte_with(byte: u8, place: u8, bit: bool) -> u8
     requires { ⌜ place < 8 ⌝ }
-    ensures { λ r. ⌜ r ≡ withBit byte place bit ⌝ }
+    ensures { λ r. ⌜ r ≡ byteWith byte place bit ⌝ }
 {
     let worth = worth_of(place);
     let before = (byte as u64) % worth;
