@@ -149,13 +149,15 @@ with-places : (n : ℕ) (cs : List Chip) (L : List Whole) → length L ≡ n →
 with-places n cs L k h = let a = length-chips L in simp (length-append, length-drop) (omega arith)
 
 module _ (n : ℕ) (cs : List Chip) (ms ss : List ℕ) (places : 16 ≤ length cs) where
+  -- the line of a table that is judged well has as many chips as the table counts, and there is a place for each
   line-full : verdict.Well ≡ verdictOf n cs ms ss → (length (lineOf n cs ms ss) ≡ n) × (n ≤ length cs)
   line-full e = let s = judged-stands n cs ms ss places e in (line-length (attached n cs ms ss) s, s .places)
 
+  -- a plan that is carried out leaves as many places
   after-places : (p : Plan) → (length (lineOf n cs ms ss) ≡ n) × (n ≤ length cs) → length (lentFrom n cs (afterBy p (lineOf n cs ms ss)) .chips) ≡ length cs
   after-places p f = with-places n cs (afterBy p (lineOf n cs ms ss)) (length-after p (lineOf n cs ms ss) ∙ f .0) (f .1)
 
-  -- so does whatever is planned
+  -- so does any plan, a refused one too
   done-places : (p : Plan) → (length (lineOf n cs ms ss) ≡ n) × (n ≤ length cs) → length (doneOf p n cs ms ss .lent .chips) ≡ length cs
   done-places (plan.Refused r) f = refl
   done-places (plan.Slot b) f = after-places (plan.Slot b) f

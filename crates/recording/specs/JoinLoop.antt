@@ -32,6 +32,7 @@ pub record Adding (host₀ : List ℕ) (slots : ℕ) (bytes : List ℕ) (count :
   pub size : length host ≡ 8192
   pub long : length host ≡ length host₀
 
+-- before any is put
 pub adding-start : (host : List ℕ) (slots : ℕ) (bytes : List ℕ) (count : ℕ) → count ≤ 8 * length bytes → slots + count ≤ 65535 → length host ≡ 8192 → Adding host slots bytes count host 0
 adding-start host slots bytes count h f l =
     let z : slots + 0 ≡ slots = omega arith in
@@ -73,13 +74,14 @@ row-more {more = more} {s = s} {room = room} (run k n i j m q cs f g) count from
     let ds = hostBits count (take (to - from) (drop from s)) in
     subst (λ (x : List Bool). Row more s room k x end) (sym (append-assoc hs cs ds)) (run k n i j m end (cs ++ ds) f (row-more g count from to end e))
 
--- before any is joined
+-- before any is gathered
 pub gathered-start : (more : Bool) (s : List ℕ) (room at slots : ℕ) (host : List ℕ) → slots ≤ 65535 → at ≤ length s → GatheredTo more s room at slots host slots at host
 gathered-start more s room at slots host h w =
     record { bits = []; row = none at; packed = sym (append-nil (hostBits slots host)); counted = omega arith; grown = omega arith; few = h; within = w; long = refl }
 
 module _ (more : Bool) (s : List ℕ) (room at slots : ℕ) (host : List ℕ) (all next : ℕ) (held : List ℕ) (g : GatheredTo more s room at slots host all next held)
     (f : Found) (d : f ≡ foundAt s next room true more) (r : Record) (end : ℕ) (k : f ≡ found.Record r end) (count from to : ℕ) (q : r ≡ record-of.Slots count from to) where
+  -- a run stands here
   here : foundAt s next room true more ≡ found.Record (record-of.Slots count from to) end
   here = sym d ∙ k ∙ ap (λ (x : Record). found.Record x end) q
 

@@ -131,7 +131,7 @@ module _ (more : Bool) (s : List ℕ) (room at next : ℕ) (l : Attached) (q : r
       record { turns = r .turns; enough = r .enough; goes = all-runs more s hs bs l w (r .turns) end (playFrom (suc turns) more s next (afterRun hs l)) (r .goes) }
   runs-play hs bs end j (verdict.Refused r) e = record { turns = turns; enough = let f = row-further j in omega arith; goes = refl }
 
-  -- LAW: what is put on the line for a record, a run with some that follow it or the record alone, plays as the records that it stands for
+  -- what is put on the line for a record, a run with some that follow it or the record alone, plays as the records that it stands for
   pub joined-plays : {taken : Record} {host : List ℕ} {r : Record} {end : ℕ} → PlaysAs more s room taken next host r end → Onward more s at end (recordStep host r l) (goesOn (recordStep s taken l))
   joined-plays (alone r e) = record { turns = turns; enough = h; goes = ap goesOn (sym (e l)) }
   joined-plays (joined r end hs bs e f j) =

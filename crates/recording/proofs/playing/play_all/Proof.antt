@@ -69,7 +69,7 @@ same-length-3 c = c .before .before .before .before .loop .inv .pads
 returns : tie.Need-returns Inv-loop μ-loop
 returns c = underway-stopped _ _ _ _ _ _ _ _ _ _ (c .before .before .before .before .loop .inv) _ (c .before .before .before .room-for .ensures) _ (c .before .before .record-at .ensures) _ (no-record _ (c .before .match .keys2)) (c .stopped-by .ensures)
 
--- src/playing.rt:208:73
+-- src/playing.rt:208:74
 slice-aggregate-with-next-runs : tie.Need-slice-aggregate-with-next-runs Inv-loop μ-loop
 slice-aggregate-with-next-runs c = sym (c .before .before .before .before .before .before .loop .inv .held)
 
