@@ -9,7 +9,7 @@ use denote.Ref.{RefT}
 use denote.Triple.Clauses.{atExit}
 use Rattle.base.specs.Pick.{pick}
 use Rattle.chip.specs.declared.Chip.{Chip}
-use Rattle.line.specs.Event.{Answered, answered, verdictOf, Outcome, outcome, planOf, doneOf, eventOf}
+use Rattle.line.specs.Event.{Answered, answered, Outcome, outcome, planOf, doneOf, eventOf}
 use Rattle.line.specs.Slots.{slotted, runOutcome, runVerdict, runBy, slotsOf}
 use Rattle.line.specs.declared.Event.{Event}
 use Rattle.line.specs.declared.Answer.{Answer}
@@ -27,7 +27,7 @@ use Rattle.line.proofs.take_slots as take-slots
 use Rattle.line.proofs.take_slots.Reads as take-slots-reads
 use Rattle.search.proofs.search_line as search-line
 use Rattle.search.proofs.search_line.Reads as search-line-reads
-use Rattle.line.specs.Attached.{Attached, attached, leftBy, saysOf, leavesOf}
+use Rattle.line.specs.Attached.{Attached, attached, leftBy, saysOf, leavesOf, verdictAt}
 use Rattle.search.specs.Search.{searched, Search, outcome as found, completeOr4, searchBy, searchOf}
 use Rattle.search.specs.declared.SearchAnswer.{SearchAnswer}
 use Rattle.search.specs.declared.SearchAnswer.the-variants as search
@@ -170,7 +170,7 @@ pub some-search : Lfts 3 → (list : List ℕ) (l : Attached) → PermitsSearch 
 unfolding searchOf
 some-search κs list l =
     let o = searchOf list l in
-    let q = search-for (verdictOf (l .count) (l .lent .chips) (l .lent .images) (l .lent .pads)) list l in
+    let q = search-for (verdictAt l) list l in
     record {
       κs = κs;
       places = lentAs list;

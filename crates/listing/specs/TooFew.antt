@@ -11,13 +11,12 @@ use lib.ListN.{length}
 use borrow.Author.Tests.{eqb-true, eq-eqb, leb-true, leb-false, le-leb, lt-leb}
 use Rattle.base.specs.Pick.{pick, pick-if}
 use Rattle.base.specs.Exactly.{Iff, then-exactly, by-first, by-else}
-use Rattle.line.specs.Event.{verdictOf}
 use Rattle.line.specs.Refusals.{in-range-few, judged-well}
 use Rattle.line.specs.declared.Refusal.{Refusal}
 use Rattle.line.specs.declared.Refusal.the-variants.{OutOfRange, WrongSize, NoSuchEvent, NoSuchOutside}
 use Rattle.line.specs.declared.Verdict.{Verdict}
 use Rattle.line.specs.declared.Verdict.the-variants as verdict
-use Rattle.line.specs.Attached.{Attached, Stands, lineFrom}
+use Rattle.line.specs.Attached.{Attached, Stands, lineFrom, verdictAt}
 use Rattle.search.specs.Search.{Searched, complete, refused, searchBy, searchOf}
 use Rattle.histories.specs.Below.{Codes}
 use Rattle.histories.specs.Histories.{codesOf}
@@ -151,7 +150,7 @@ module _ (list : List ℕ) (l : Attached) where
 
   -- the places of a table hold its chips where it has at most 16: a `Table` has 16 places, a slice as many as chips
   module _ (places : l .count ≤ 16 → l .count ≤ length (l .lent .chips)) (fits : Codes (codesOf (lineFrom l))) where
-    well : (v : Verdict) → v ≡ verdictOf (l .count) (l .lent .chips) (l .lent .images) (l .lent .pads) → Done (searchBy v list l .answer) → Stands l
+    well : (v : Verdict) → v ≡ verdictAt l → Done (searchBy v list l .answer) → Stands l
     well verdict.Well h d =
         let j = judged-well (l .count) (l .lent .chips) (l .lent .images) (l .lent .pads) h in
         record { range = j .0; sizes = j .1; places = places (in-range-few (l .count) (l .lent .chips) (j .0)) }
@@ -159,7 +158,7 @@ module _ (list : List ℕ) (l : Attached) where
 
     stands : Done (searchOf list l .answer) → Stands l
     unfolding searchOf
-    stands d = well (verdictOf (l .count) (l .lent .chips) (l .lent .images) (l .lent .pads)) refl d
+    stands d = well (verdictAt l) refl d
 
     -- by what the search found
     found : {a : Searched} {B : Type 0} → Iff (pick (leb (length (orderOf l)) (length list)) complete (refused 4) ≡ a) B → (a ≡ complete) ⊎ (a ≡ refused 4)

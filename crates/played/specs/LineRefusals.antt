@@ -6,8 +6,8 @@ use mathlib.Core.Path.{_≡_, refl}
 use lib.Dec.{eqb}
 use Rattle.base.specs.Pick.{pick-both}
 use Rattle.chip.specs.declared.Chip.{Chip}
-use Rattle.line.specs.Attached.{Attached, saysOf}
-use Rattle.line.specs.Event.{numberOf, verdictOf, planOf, doneOf, eventOf}
+use Rattle.line.specs.Attached.{Attached, saysOf, verdictAt}
+use Rattle.line.specs.Event.{numberOf, planOf, doneOf, eventOf}
 use Rattle.line.specs.Slots.{hostBits}
 use Rattle.line.specs.declared.Event.{Event}
 use Rattle.line.specs.declared.Plan.{Plan}
@@ -45,7 +45,7 @@ slots-refusal : (count : ℕ) (bytes : List ℕ) (l : Attached) → RefusalFor (
 unfolding slotsStep
 slots-refusal count bytes l =
     pick-both (λ (d : Step). RefusalFor (d .said)) (eqb count 0) _ _ tt
-    (run-refusal (verdictOf (l .count) (l .lent .chips) (l .lent .images) (l .lent .pads)) (hostBits count bytes) l)
+    (run-refusal (verdictAt l) (hostBits count bytes) l)
 
 -- of any record
 pub record-refusal : (s : List ℕ) (r : Record) (l : Attached) → RefusalFor (recordStep s r l .said)

@@ -8,9 +8,8 @@ use mathlib.Core.Path.{_≡_, refl, _∙_, ap, sym}
 use lib.Dec.{eqb}
 use lib.ListN.{length, take, drop, length-append}
 use Rattle.base.specs.Pick.{pick-both}
-use Rattle.line.specs.Attached.{Attached, saysOf, verdictAt}
+use Rattle.line.specs.Attached.{Attached, saysOf, verdictAt, lineFrom}
 use Rattle.line.specs.Event.{Answered, bit, refused}
-use Rattle.line.specs.Layout.{lineOf}
 use Rattle.line.specs.Runs.{run-length, host-most}
 use Rattle.line.specs.Slots.{hostBits}
 use Rattle.line.specs.Standing.{event-places, run-places}
@@ -45,7 +44,7 @@ event-few (refused r) = omega arith
 -- a run has no more answers than slots, by its verdict
 run-few : (v : Verdict) (count : ℕ) (host : List ℕ) (l : Attached) → length (bitsSaid (runStep v (hostBits count host) l .said)) ≤ count
 run-few verdict.Well count host l =
-    let h = run-length (hostBits count host) (lineOf (l .count) (l .lent .chips) (l .lent .images) (l .lent .pads)) in
+    let h = run-length (hostBits count host) (lineFrom l) in
     let m = host-most count host in
     omega arith
 run-few (verdict.Refused r) count host l = omega arith

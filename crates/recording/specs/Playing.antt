@@ -7,9 +7,9 @@ use mathlib.Core.List.{List, [], _∷_, _++_}
 use lib.Dec.{eqb}
 use lib.ListN.{length, take, drop, set, replicate}
 use Rattle.base.specs.Pick.{pick}
-use Rattle.line.specs.Attached.{Attached, attached, saysOf, leavesOf}
-use Rattle.line.specs.Event.{Answered, bit, refused, numberOf, verdictOf}
-use Rattle.line.specs.Layout.{lineOf, lentFrom, imagesAsked, padsAsked}
+use Rattle.line.specs.Attached.{Attached, attached, saysOf, leavesOf, verdictAt, lineFrom, withLine}
+use Rattle.line.specs.Event.{Answered, bit, refused, numberOf}
+use Rattle.line.specs.Layout.{imagesAsked, padsAsked}
 use Rattle.line.specs.Slots.{hostBits, runOn}
 use Rattle.line.specs.Tables.{blankTable}
 use Rattle.line.specs.declared.Event.{Event}
@@ -61,16 +61,12 @@ eventStep e l = step (saidBy (saysOf e l)) (leavesOf e l)
 
 -- a run of slots, judged once: 8, then 5
 abbrev pub runStep : Verdict → List Bool → Attached → Step
-runStep verdict.Well hs l =
-    let r = runOn hs (lineOf (l .count) (l .lent .chips) (l .lent .images) (l .lent .pads)) in
-    step (bits (r .bits)) (record { count = l .count; lent = lentFrom (l .count) (l .lent .chips) (r .line) })
+runStep verdict.Well hs l = let r = runOn hs (lineFrom l) in step (bits (r .bits)) (withLine l (r .line))
 runStep (verdict.Refused r) hs l = step (none (numberOf r)) l
 
 -- the request: "Count 0 is a record without an event"
 unfoldable pub slotsStep : ℕ → List ℕ → Attached → Step
-slotsStep count bytes l =
-    pick (eqb count 0) (step (bits []) l)
-    (runStep (verdictOf (l .count) (l .lent .chips) (l .lent .images) (l .lent .pads)) (hostBits count bytes) l)
+slotsStep count bytes l = pick (eqb count 0) (step (bits []) l) (runStep (verdictAt l) (hostBits count bytes) l)
 
 -- the events of a record; a card record has none
 abbrev pub recordStep : List ℕ → Record → Attached → Step

@@ -5,13 +5,13 @@ use mathlib.Core.List.{List, _++_}
 use mathlib.Core.Path.{_≡_, refl, _∙_, ap}
 use lib.ListN.{length}
 use Rattle.chip.specs.declared.Chip.{Chip}
-use Rattle.line.specs.Event.{Outcome, verdictOf}
+use Rattle.line.specs.Event.{Outcome}
 use Rattle.line.specs.Prefix.{verdict-rest, event-rest, event-holds, many-verdict}
 use Rattle.line.specs.declared.Event.{Event}
 use Rattle.line.specs.declared.Verdict.{Verdict}
 use Rattle.line.specs.declared.Verdict.the-variants as verdict
 use Rattle.search.specs.Host.{Host, done, ask, Played, Listed, played, more, resetsOf, slotsOf, play, searchHost}
-use Rattle.line.specs.Attached.{Attached, attached, leftBy, saysOf, leavesOf}
+use Rattle.line.specs.Attached.{Attached, attached, leftBy, saysOf, leavesOf, verdictAt}
 use Rattle.search.specs.Search.{refused, wire, Search, outcome, fromPlayed, searchBy, searchOf}
 
 -- the same table with the places Z after its own, and what was played or searched on it
@@ -51,7 +51,7 @@ module _ (n m : ℕ) (few : n ≤ m) where
   -- every search keeps the number of chips and of places
   pub search-has : (list : List ℕ) (l : Attached) → Has n m l → Has n m (searchOf list l .line)
   unfolding searchOf
-  search-has list l s = go (verdictOf (l .count) (l .lent .chips) (l .lent .images) (l .lent .pads))
+  search-has list l s = go (verdictAt l)
     where
       go : (v : Verdict) → Has n m (searchBy v list l .line)
       go verdict.Well = play-has (searchHost (length list)) l s
@@ -81,7 +81,7 @@ module _ (n m : ℕ) (few : n ≤ m) where
         let c = s .chips in
         let p = s .places in
         ap (λ (v : Verdict). searchBy v list (attachedRest Z l)) (verdict-rest (l .count) (l .lent .chips) Z (omega arith) (l .lent .images) (l .lent .pads))
-        ∙ go (verdictOf (l .count) (l .lent .chips) (l .lent .images) (l .lent .pads))
+        ∙ go (verdictAt l)
       where
         go : (v : Verdict) → searchBy v list (attachedRest Z l) ≡ searchRest Z (searchBy v list l)
         go verdict.Well = ap (λ (x : Played Listed Attached). fromPlayed list x) (play-rest (searchHost (length list)) l s)

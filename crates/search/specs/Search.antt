@@ -4,8 +4,8 @@ use mathlib.Core.Bool.{Bool, true, false}
 use mathlib.Core.List.{List, _++_}
 use lib.ListN.{length, drop}
 use Rattle.base.specs.Pick.{pick}
-use Rattle.line.specs.Attached.{Attached, saysOf, leavesOf}
-use Rattle.line.specs.Event.{numberOf, verdictOf}
+use Rattle.line.specs.Attached.{Attached, saysOf, leavesOf, verdictAt}
+use Rattle.line.specs.Event.{numberOf}
 use Rattle.line.specs.declared.Verdict.{Verdict}
 use Rattle.line.specs.declared.Verdict.the-variants as verdict
 use Rattle.search.specs.Host.{Wire, Played, played, End, end, Listed, play, searchHost}
@@ -62,4 +62,4 @@ searchBy verdict.Well list l = fromPlayed list (play wire (searchHost (length li
 searchBy (verdict.Refused r) list l = outcome (refused (numberOf r)) 0 list 0 0 l
 
 unfoldable pub searchOf : List ℕ → Attached → Search
-searchOf list l = searchBy (verdictOf (l .count) (l .lent .chips) (l .lent .images) (l .lent .pads)) list l
+searchOf list l = searchBy (verdictAt l) list l

@@ -7,7 +7,6 @@ use mathlib.Core.Path.{sym, subst}
 use lib.Dec.{eqb}
 use lib.ListN.{length, length-append}
 use Rattle.base.specs.Pick.{pick}
-use Rattle.line.specs.Event.{verdictOf}
 use Rattle.line.specs.declared.Verdict.{Verdict}
 use Rattle.line.specs.declared.Verdict.the-variants as verdict
 use Rattle.line.specs.Layout.{capped}
@@ -15,7 +14,7 @@ use Rattle.line.specs.Prefix.{capped-few}
 use Rattle.line.specs.Events.{resetEvent}
 use Rattle.search.specs.Host.{Host, done, bind, Played, Listed, listed, End, write, begun, pass, heard, play, passes, goOn, searchHost, upTo}
 use Rattle.search.specs.Counts.{play-bind}
-use Rattle.line.specs.Attached.{Attached, saysOf, leavesOf}
+use Rattle.line.specs.Attached.{Attached, saysOf, leavesOf, verdictAt}
 use Rattle.search.specs.Search.{wire, searchBy, searchOf}
 
 -- what a host comes to after another, from what it comes to whatever the other came to
@@ -56,7 +55,7 @@ module _ (m : ℕ) where
 -- a search lists at most 16 codes
 pub search-few : (list : List ℕ) (l : Attached) → searchOf list l .number ≤ 16
 unfolding searchOf
-search-few list l = go (verdictOf (l .count) (l .lent .chips) (l .lent .images) (l .lent .pads))
+search-few list l = go (verdictAt l)
   where
     go : (v : Verdict) → searchBy v list l .number ≤ 16
     go verdict.Well = passes-few 16 (capped (length list)) 0 [] l (omega (arith, capped-few (length list) .0))

@@ -44,6 +44,16 @@ enum Front {
     Short,
 }
 
+/// How a record begins.
+struct Head {
+    kind: u16,
+    length: usize,
+    /// Whether all of its bytes are there.
+    whole: bool,
+    /// Whether no more bytes come.
+    ended: bool,
+}
+
 /// The playback program under way.
 pub struct Playback {
     /// Bytes taken of records that are not whole yet.
@@ -265,9 +275,15 @@ impl Playback {
         if book.slips(Slip::RecordKindLow) {
             kind &= 0xFF;
         }
+        let head = |length: usize| Head {
+            kind,
+            length,
+            whole: left.len() >= 2 + length,
+            ended,
+        };
         let card = part_of(kind.into()).is_some();
         if !card && !(RUN..=LEVELS).contains(&kind) {
-            return self.unknown(kind, length, left, ended, book);
+            return self.unknown(&head(length), book);
         }
         let length = if book.slips(Slip::LengthLow) {
             length & 0xFF
@@ -310,7 +326,7 @@ impl Playback {
         };
         let longer = length > right && kind == RUN && book.slips(Slip::RunLonger);
         if length != right && !longer {
-            return self.wrong_length(kind, length, left, ended, book);
+            return self.wrong_length(&head(length), book);
         }
         let Some(body) = left.get(4..2 + length) else {
             if kind == RUN && book.slips(Slip::CutPlayed) && ended {
@@ -339,20 +355,14 @@ impl Playback {
     }
 
     /// A kind that is not named: refusal 2, whatever its length and body.
-    fn unknown(
-        &self,
-        kind: u16,
-        length: usize,
-        left: &[u8],
-        ended: bool,
-        book: &mut Book,
-    ) -> Result<Front, u8> {
-        let cut = left.len() < 2 + length;
+    fn unknown(&self, head: &Head, book: &mut Book) -> Result<Front, u8> {
+        let Head { kind, length, .. } = *head;
+        let cut = !head.whole;
         if book.slips(Slip::KindLate) && length < 2 {
             return Err(3);
         }
         if cut && book.slips(Slip::KindCut) {
-            return if ended { Err(3) } else { Ok(Front::Short) };
+            return if head.ended { Err(3) } else { Ok(Front::Short) };
         }
         if !cut && book.slips(Slip::KindPassed) && length > 1 {
             return Ok(Front::Whole(Record::Passed, 2 + length));
@@ -367,25 +377,19 @@ impl Playback {
             _ => Rule::Play2High,
         });
         book.saw_if(length < 2, Rule::Play2Length);
-        book.saw_if(cut && ended, Rule::Play2Cut);
+        book.saw_if(cut && head.ended, Rule::Play2Cut);
         book.saw_if(!cut && length > 2 + LONG, Rule::Play2Long);
         Err(2)
     }
 
     /// A length that its kind does not have: refusal 3.
-    fn wrong_length(
-        &self,
-        kind: u16,
-        length: usize,
-        left: &[u8],
-        ended: bool,
-        book: &mut Book,
-    ) -> Result<Front, u8> {
+    fn wrong_length(&self, head: &Head, book: &mut Book) -> Result<Front, u8> {
+        let Head { kind, length, .. } = *head;
         let late = self.line.is_some();
-        let whole = left.len() >= 2 + length;
+        let whole = head.whole;
         let long = length > 2 + LONG;
         let passed = long && book.slips(Slip::LongPassed);
-        if !whole && !ended && (passed || book.slips(Slip::LengthWhole)) {
+        if !whole && !head.ended && (passed || book.slips(Slip::LengthWhole)) {
             return Ok(Front::Short);
         }
         if whole && passed {
