@@ -1,0 +1,91 @@
+-- Laws: numbers with their sign, as words of 64 bits hold them.
+use Prim.Native.Nat.{ℕ, zero, suc, _+_, _≤_}
+use native.Mathlib.Omega.{arith}
+use native.Mathlib.Numerals.{add-one}
+use mathlib.Core.Bool.{Bool, true, false, true≢false}
+use mathlib.Core.Path.{_≡_, refl, _∙_, ap, sym, subst}
+use lib.Dec.{T, ltb}
+use lib.IntN.{ℤ, pos, negsuc, negℤ, sucℤ, natAbs, _+ℤ_, _-ℤ_, +ℤ-one, +ℤ-idl}
+use lib.Signed.{mag, nonNeg, ltZ}
+use borrow.Author.Tests.{ltb-true}
+use mir.Syntax.{w64}
+use mir.Val.{Fits, SFits, toZ, ofZ}
+use mir.ValLaws.{toZ-pos, toZ-ofZ}
+use Rattle.numerals.specs.Numerals.{most, capped, minus}
+use Rattle.numerals.specs.Digits.{capped-most}
+
+-- the word that a signed number is held as, read back
+abbrev word : ℤ → ℤ
+word z = toZ w64 (ofZ w64 z)
+
+-- ---- a number that was cut to fit, and its negative
+module _ (n r : ℕ) (e : r ≡ capped n) where
+  r-most : r ≤ most
+  r-most = let h : capped n ≤ most = capped-most n in omega arith
+
+  pub number-fits : SFits w64 (pos r)
+  number-fits = let h = r-most in record { sfits = omega arith }
+
+  pub number-word : toZ w64 r ≡ pos (capped n)
+  number-word = toZ-pos w64 r (number-fits .sfits) ∙ ap pos e
+
+  minus-small : (m : ℕ) → m ≤ most → SFits w64 (minus m)
+  minus-small zero h = record { sfits = omega arith }
+  minus-small (suc m) h = record { sfits = omega arith }
+
+  pub minus-is : pos 0 -ℤ toZ w64 r ≡ minus (capped n)
+  minus-is = +ℤ-idl (negℤ (toZ w64 r)) ∙ ap negℤ number-word
+
+  pub minus-fits : SFits w64 (pos 0 -ℤ toZ w64 r)
+  minus-fits = subst (SFits w64) (sym minus-is) (minus-small (capped n) (capped-most n))
+
+  pub minus-word : word (pos 0 -ℤ toZ w64 r) ≡ minus (capped n)
+  minus-word = toZ-ofZ w64 _ minus-fits ∙ minus-is
+
+-- ---- a negative number without its sign: one more than that of the number above it
+up-fits : (k : ℕ) → SFits w64 (negsuc k) → SFits w64 (sucℤ (negsuc k))
+up-fits zero f = record { sfits = omega arith }
+up-fits (suc k) f = record { sfits = let h = f .sfits in omega arith }
+
+up-negative : (k : ℕ) → negℤ (sucℤ (negsuc k)) ≡ pos k
+up-negative zero = refl
+up-negative (suc k) = refl
+
+negative : (z : ℤ) → SFits w64 z → ltZ (word z) (pos 0) ≡ true → z ≡ negsuc (mag z)
+negative (pos n) f t =
+    let h : ltb n 0 ≡ true = sym (ap (λ (x : ℤ). ltZ x (pos 0)) (toZ-ofZ w64 (pos n) f)) ∙ t in
+    absurd (let l = ltb-true n 0 h in omega arith)
+negative (negsuc k) f t = refl
+
+module _ (z : ℤ) (f : SFits w64 z) (t : ltZ (word z) (pos 0) ≡ true) where
+  up : word z +ℤ pos 1 ≡ sucℤ (negsuc (mag z))
+  up = ap (λ (x : ℤ). x +ℤ pos 1) (toZ-ofZ w64 z f) ∙ +ℤ-one z ∙ ap sucℤ (negative z f t)
+
+  pub above-fits : SFits w64 (word z +ℤ pos 1)
+  above-fits = subst (SFits w64) (sym up) (up-fits (mag z) (subst (SFits w64) (negative z f t) f))
+
+  below : pos 0 -ℤ word (word z +ℤ pos 1) ≡ pos (mag z)
+  below = +ℤ-idl _ ∙ ap negℤ (toZ-ofZ w64 _ above-fits ∙ up) ∙ up-negative (mag z)
+
+  pub below-fits : SFits w64 (pos 0 -ℤ word (word z +ℤ pos 1))
+  below-fits = subst (SFits w64) (sym below) (record { sfits = f .sfits })
+
+  rest : word (pos 0 -ℤ word (word z +ℤ pos 1)) ≡ pos (mag z)
+  rest = toZ-ofZ w64 _ below-fits ∙ below
+
+  pub rest-cast : T (nonNeg (word (pos 0 -ℤ word (word z +ℤ pos 1)))) × Fits w64 (natAbs (word (pos 0 -ℤ word (word z +ℤ pos 1))))
+  rest-cast = subst (λ (x : ℤ). T (nonNeg x) × Fits w64 (natAbs x)) (sym rest) (tt, record { fits = let h = f .sfits in omega arith })
+
+  pub rest-more : Fits w64 (natAbs (word (pos 0 -ℤ word (word z +ℤ pos 1))) + 1)
+  rest-more = subst (λ (x : ℤ). Fits w64 (natAbs x + 1)) (sym rest) (record { fits = let h = f .sfits in omega arith })
+
+  pub rest-is : natAbs (word (pos 0 -ℤ word (word z +ℤ pos 1))) + 1 ≡ natAbs z
+  rest-is = ap (λ (x : ℤ). natAbs x + 1) rest ∙ add-one (mag z) ∙ ap natAbs (sym (negative z f t))
+
+-- ---- any other number
+pub plain-cast : (z : ℤ) → SFits w64 z → ltZ (word z) (pos 0) ≡ false → T (nonNeg (word z)) × Fits w64 (natAbs (word z))
+plain-cast z f t = by z f (toZ-ofZ w64 z f) t
+  where
+    by : (z : ℤ) → SFits w64 z → word z ≡ z → ltZ (word z) (pos 0) ≡ false → T (nonNeg (word z)) × Fits w64 (natAbs (word z))
+    by (pos n) f e t = subst (λ (x : ℤ). T (nonNeg x) × Fits w64 (natAbs x)) (sym e) (tt, record { fits = let h = f .sfits in omega arith })
+    by (negsuc k) f e t = absurd (true≢false (sym (ap (λ (x : ℤ). ltZ x (pos 0)) e) ∙ t))

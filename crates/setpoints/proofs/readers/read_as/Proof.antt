@@ -1,0 +1,81 @@
+use mir.Syntax.{w64}
+use mir.Val.{toZ, ofZ}
+use Rattle.setpoints.specs.Heads.{no-page, another-kind, wrong-length, whole-record}
+use Rattle.setpoints.specs.Pages.{judged}
+use Rattle.setpoints.specs.Kinds.{formOf}
+use denote.Ref.{now}
+use mathlib.Core.Path.{_≡_, _∙_, ap, sym}
+use borrow.Author.Needs.{needs}
+use Rattle.setpoints.proofs.readers.read_as.Statement.{statement}
+use Rattle.setpoints.proofs.readers.read_as.Tie as tie
+use Rattle.setpoints.proofs.readers.read_as.Reads as reads
+use Rattle.setpoints.proofs.readers.read_as.Lts as lts
+use Rattle.setpoints.proofs.kinds.length.Reads as length-reads
+use Rattle.setpoints.proofs.kinds.number.Reads as number-reads
+use Rattle.setpoints.proofs.readers.judge.Reads as judge-reads
+use Rattle.setpoints.proofs.readers.said_in.Reads as said-in-reads
+use Rattle.setpoints.proofs.readers.value_in.Reads as value-in-reads
+
+-- src/readers.rt:74:9
+returns : tie.Need-returns
+returns c = no-page _ _ (c .if1 .taken)
+
+-- src/readers.rt:76:9
+said-in-requires : tie.Need-said-in-requires
+said-in-requires c κs = search needs
+
+-- src/readers.rt:77:21
+number-requires : tie.Need-number-requires
+number-requires c κs = search needs
+
+-- src/readers.rt:78:9
+returns-2 : tie.Need-returns-2
+returns-2 c =
+    let a = c .before .before .before .before .before .before .args in
+    let n = c .before .before .number .ensures in
+    another-kind (formOf (a .kind)) (now (a .page)) _ (c .before .before .before .before .if1 .left) (c .before .before .before .said-in .ensures) (λ q. c .if2 .taken (q ∙ sym n))
+
+-- src/readers.rt:80:23
+length-requires : tie.Need-length-requires
+length-requires c κs = search needs
+
+-- src/readers.rt:81:9
+returns-3 : tie.Need-returns-3
+returns-3 c =
+    let a = c .before .before .before .before .before .before .before .before .before .args in
+    let n = c .before .before .before .before .before .number .ensures in
+    let m = c .before .before .length .ensures in
+    wrong-length (formOf (a .kind)) (now (a .page)) _ (c .before .before .before .before .before .before .before .if1 .left) (c .before .before .before .before .before .before .said-in .ensures) (c .before .before .before .if2 .left ∙ n) (λ q. c .if3 .taken (q ∙ sym m))
+
+-- src/readers.rt:83:17
+value-in-requires : tie.Need-value-in-requires
+value-in-requires c κs = search needs
+
+-- src/readers.rt:83:5
+judge-requires : tie.Need-judge-requires
+judge-requires c κs = search needs
+
+-- src/readers.rt:70:1
+returns-4 : tie.Need-returns-4
+returns-4 c =
+    let a = c .before .before .before .before .before .before .before .before .before .before .before .args in
+    let n = c .before .before .before .before .before .before .before .number .ensures in
+    let m = c .before .before .before .before .length .ensures in
+    let v = c .before .value-in in
+    let e : toZ w64 (ofZ w64 (v .result)) ≡ v .result = search needs in
+    c .judge .ensures ∙ ap (judged (formOf (a .kind))) (e ∙ v .ensures)
+    ∙ whole-record (formOf (a .kind)) (now (a .page)) _ (c .before .before .before .before .before .before .before .before .before .if1 .left) (c .before .before .before .before .before .before .before .before .said-in .ensures) (c .before .before .before .before .before .if2 .left ∙ n) (c .before .before .if3 .left ∙ m)
+
+pub read-as-spec : {M : Type 1} → statement M
+read-as-spec =
+    tie.close
+    (tie.spec
+    returns
+    said-in-requires
+    number-requires
+    returns-2
+    length-requires
+    returns-3
+    value-in-requires
+    judge-requires
+    returns-4)
