@@ -1,0 +1,71 @@
+// The words of the command line.
+ghost use Prim.Native.Nat.{_≤_};
+ghost use lib.ListN.{length};
+
+// Which records are read.
+pub enum Reader {
+    Either,
+    Kind101,
+    Kind102,
+}
+
+// Which records are written.
+pub enum Writer {
+    Kind101,
+    Kind102,
+}
+
+// What the program is asked to do.
+pub enum Command {
+    Read(Reader),
+    Write(Writer),
+    Unknown,
+}
+
+// Room for a word: one byte more than the longest has, so that none is cut to one.
+pub const WORD_MOST: usize = 9;
+
+// Two texts are the same.
+fn is_same(a: &[u8], b: &[u8]) -> bool {
+    if a.len() != b.len() {
+        return false;
+    }
+    let mut i: usize = 0;
+    while i < a.len() {
+        if base::byte_at(a, i) != base::byte_at(b, i) {
+            return false;
+        }
+        i += 1;
+    }
+    true
+}
+
+// The command that a word names.
+pub fn command_of(word: &[u8]) -> Command {
+    if is_same(word, b"read") {
+        return Command::Read(Reader::Either);
+    }
+    if is_same(word, b"read101") {
+        return Command::Read(Reader::Kind101);
+    }
+    if is_same(word, b"read102") {
+        return Command::Read(Reader::Kind102);
+    }
+    if is_same(word, b"write101") {
+        return Command::Write(Writer::Kind101);
+    }
+    if is_same(word, b"write102") {
+        return Command::Write(Writer::Kind102);
+    }
+    Command::Unknown
+}
+
+// The longest argument that the system hands over.
+pub const VALUE_MOST: usize = 131072;
+
+// Room for it.
+pub fn value_room() -> [u8; VALUE_MOST]
+    ensures { λ r. ⌜ 131072 ≤ length r ⌝ }
+{
+    [0; VALUE_MOST]
+}
