@@ -59,7 +59,7 @@ tenfold-fits kind z r e a t =
     subst (λ (x : ℤ). SFits w64 (x *ℤ pos 10)) (p .0) (record { sfits = omega (arith, p .1) })
 
 -- once is no change
-times-one : (z : ℤ) → z *ℤ pos 1 ≡ z
+pub times-one : (z : ℤ) → z *ℤ pos 1 ≡ z
 times-one (pos n) = let e : n * 1 ≡ n = omega arith in ap pos e
 times-one (negsuc n) = let e : suc n * 1 ≡ suc n = omega arith in ap (λ (k : ℕ). negℤ (pos k)) e
 

@@ -1,6 +1,7 @@
 use mir.Syntax.{w64}
 use mir.Val.{toZ, ofZ}
-use Rattle.setpoints.specs.Heads.{no-page, another-kind, wrong-length, whole-record}
+use Rattle.setpoints.specs.Readers.{no-page, another-kind, wrong-length, whole-record}
+use Rattle.setpoints.specs.Heads.{length-said, kind-said}
 use Rattle.setpoints.specs.Pages.{judged}
 use Rattle.setpoints.specs.Kinds.{formOf}
 use denote.Ref.{now}
@@ -32,8 +33,9 @@ number-requires c κs = search needs
 returns-2 : tie.Need-returns-2
 returns-2 c =
     let a = c .before .before .before .before .before .before .args in
-    let n = c .before .before .number .ensures in
-    another-kind (formOf (a .kind)) (now (a .page)) _ (c .before .before .before .before .if1 .left) (c .before .before .before .said-in .ensures) (λ q. c .if2 .taken (q ∙ sym n))
+    let e = c .before .before .before .before .if1 .left in
+    let k = kind-said (now (a .page)) _ e (c .before .before .before .said-in .ensures) in
+    another-kind (formOf (a .kind)) (now (a .page)) e (λ q. c .if2 .taken (k ∙ q ∙ sym (c .before .before .number .ensures)))
 
 -- src/readers.rt:80:23
 length-requires : tie.Need-length-requires
@@ -43,9 +45,12 @@ length-requires c κs = search needs
 returns-3 : tie.Need-returns-3
 returns-3 c =
     let a = c .before .before .before .before .before .before .before .before .before .args in
-    let n = c .before .before .before .before .before .number .ensures in
-    let m = c .before .before .length .ensures in
-    wrong-length (formOf (a .kind)) (now (a .page)) _ (c .before .before .before .before .before .before .before .if1 .left) (c .before .before .before .before .before .before .said-in .ensures) (c .before .before .before .if2 .left ∙ n) (λ q. c .if3 .taken (q ∙ sym m))
+    let e = c .before .before .before .before .before .before .before .if1 .left in
+    let h = c .before .before .before .before .before .before .said-in .ensures in
+    let k = kind-said (now (a .page)) _ e h in
+    let l = length-said (now (a .page)) _ e h in
+    wrong-length (formOf (a .kind)) (now (a .page)) e (sym k ∙ c .before .before .before .if2 .left ∙ c .before .before .before .before .before .number .ensures)
+    (λ q. c .if3 .taken (l ∙ q ∙ sym (c .before .before .length .ensures)))
 
 -- src/readers.rt:83:17
 value-in-requires : tie.Need-value-in-requires
@@ -59,12 +64,15 @@ judge-requires c κs = search needs
 returns-4 : tie.Need-returns-4
 returns-4 c =
     let a = c .before .before .before .before .before .before .before .before .before .before .before .args in
-    let n = c .before .before .before .before .before .before .before .number .ensures in
-    let m = c .before .before .before .before .length .ensures in
+    let e = c .before .before .before .before .before .before .before .before .before .if1 .left in
+    let h = c .before .before .before .before .before .before .before .before .said-in .ensures in
+    let k = kind-said (now (a .page)) _ e h in
+    let l = length-said (now (a .page)) _ e h in
     let v = c .before .value-in in
-    let e : toZ w64 (ofZ w64 (v .result)) ≡ v .result = search needs in
-    c .judge .ensures ∙ ap (judged (formOf (a .kind))) (e ∙ v .ensures)
-    ∙ whole-record (formOf (a .kind)) (now (a .page)) _ (c .before .before .before .before .before .before .before .before .before .if1 .left) (c .before .before .before .before .before .before .before .before .said-in .ensures) (c .before .before .before .before .before .if2 .left ∙ n) (c .before .before .if3 .left ∙ m)
+    let z : toZ w64 (ofZ w64 (v .result)) ≡ v .result = search needs in
+    c .judge .ensures ∙ ap (judged (formOf (a .kind))) (z ∙ v .ensures)
+    ∙ whole-record (formOf (a .kind)) (now (a .page)) e (sym k ∙ c .before .before .before .before .before .if2 .left ∙ c .before .before .before .before .before .before .before .number .ensures)
+    (sym l ∙ c .before .before .if3 .left ∙ c .before .before .before .before .length .ensures)
 
 pub read-as-spec : {M : Type 1} → statement M
 read-as-spec =

@@ -1,0 +1,10 @@
+pub mod Calls
+pub mod Stands
+pub mod Laws
+pub mod Written
+pub mod Either
+pub mod Refusals
+pub mod Tests
+pub mod Refused
+pub mod Table
+pub mod AnyLength
