@@ -1,9 +1,11 @@
--- Two outcomes that a contract permits are the same: of base, crc and records the functions whose contract gives the answer, or the one thing that
+-- Two outcomes that a contract permits are the same: of base, crc, records, numerals and setpoints the functions whose contract gives the answer, or the one thing that
 -- is changed, by an equation. Written by tools/ties.
 use mathlib.Core.Path.{refl, _∙_, sym}
 use Rattle.base.proofs as base
 use Rattle.crc.proofs as crc
 use Rattle.records.proofs as records
+use Rattle.numerals.proofs as numerals
+use Rattle.setpoints.proofs as setpoints
 use Rattle.coincide.specs.Settled.{Settled}
 
 -- base
@@ -83,3 +85,31 @@ records-code-at κs a x y v w p q = (p ∙ sym q, refl)
 
 pub records-head-at : Settled records.head_at.ended records.head_at.Reads.Learnt
 records-head-at κs a x y v w p q = (p ∙ sym q, refl)
+
+-- numerals
+
+pub numerals-read-number : Settled numerals.read_number.ended numerals.read_number.Reads.Learnt
+numerals-read-number κs a x y v w p q = (p ∙ sym q, refl)
+
+pub numerals-magnitude : Settled numerals.magnitude.ended numerals.magnitude.Reads.Learnt
+numerals-magnitude κs a x y v w p q = (p ∙ sym q, refl)
+
+-- setpoints
+
+pub setpoints-number-of : Settled setpoints.number_of.ended setpoints.number_of.Reads.Learnt
+setpoints-number-of κs a x y v w p q = (p ∙ sym q, refl)
+
+pub setpoints-read-101 : Settled setpoints.read_101.ended setpoints.read_101.Reads.Learnt
+setpoints-read-101 κs a x y v w p q = (p ∙ sym q, refl)
+
+pub setpoints-read-102 : Settled setpoints.read_102.ended setpoints.read_102.Reads.Learnt
+setpoints-read-102 κs a x y v w p q = (p ∙ sym q, refl)
+
+pub setpoints-read-either : Settled setpoints.read_either.ended setpoints.read_either.Reads.Learnt
+setpoints-read-either κs a x y v w p q = (p ∙ sym q, refl)
+
+pub setpoints-signed-byte : Settled setpoints.signed_byte.ended setpoints.signed_byte.Reads.Learnt
+setpoints-signed-byte κs a x y v w p q = (p ∙ sym q, refl)
+
+pub setpoints-signed-pair : Settled setpoints.signed_pair.ended setpoints.signed_pair.Reads.Learnt
+setpoints-signed-pair κs a x y v w p q = (p ∙ sym q, refl)

@@ -10,6 +10,7 @@ use Rattle.memory.proofs as memory
 use Rattle.chip.proofs as chip
 use Rattle.line.proofs as line
 use Rattle.card.proofs as card
+use Rattle.setpoints.proofs as setpoints
 use Rattle.recording.proofs as recording
 use Rattle.search.proofs as search
 use Rattle.packed.proofs as packed
@@ -68,6 +69,13 @@ card-set-up κs a x y v w p q =
     let r = p ∙ sym q in
     let s = carded-once (x .answer) (y .answer) (ap (λ (o : SetUp). o .answer) r) in
     (λ i. record { answer = s i; table = record { n = r i .count; chips = r i .table } }, refl)
+
+-- answer and page
+pub setpoints-write-101 : Settled setpoints.write_101.ended setpoints.write_101.Reads.Learnt
+setpoints-write-101 κs a x y v w p q = let r = p ∙ sym q in (λ i. r i .answer, λ i. (r i .page, w .1))
+
+pub setpoints-write-102 : Settled setpoints.write_102.ended setpoints.write_102.Reads.Learnt
+setpoints-write-102 κs a x y v w p q = let r = p ∙ sym q in (λ i. r i .answer, λ i. (r i .page, w .1))
 
 -- ending, offset, number of answers and table; text, images and scratchpads
 pub recording-play : Settled recording.play.ended recording.play.Reads.Learnt

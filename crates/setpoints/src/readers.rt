@@ -74,13 +74,17 @@ fn read_as(kind: Kind, page: &[u8]) -> Reading
         return Reading::Refused(Fault::WrongLength);
     }
     let said = said_in(page);
-    if said.kind != kinds::number(kind) {
-        return Reading::Refused(Fault::AnotherKind);
+    let own = said.kind == kinds::number(kind);
+    let whole = said.length == kinds::length(kind);
+    if own {
+        if whole {
+            judge(kind, value_in(kind, page))
+        } else {
+            Reading::Refused(Fault::WrongLength)
+        }
+    } else {
+        Reading::Refused(Fault::AnotherKind)
     }
-    if said.length != kinds::length(kind) {
-        return Reading::Refused(Fault::WrongLength);
-    }
-    judge(kind, value_in(kind, page))
 }
 
 // The setpoint of a page whose record is of kind 101.
