@@ -1,6 +1,7 @@
 -- The table of M-109: six pages by their beginnings, whatever follows, and what each reader answers.
 use Prim.Native.Nat.{ℕ, _+_}
 use native.Mathlib.Omega.{arith}
+use mathlib.Core.Bool.{true, false}
 use mathlib.Core.List.{List, [], _∷_, _++_}
 use mathlib.Core.Path.{_≡_, refl, _∙_, ap}
 use lib.Dec.{eqb}
@@ -10,7 +11,7 @@ use borrow.Author.Tests.{eq-eqb}
 use Rattle.base.specs.Bits.{both}
 use Rattle.base.specs.Pick.{pick, pick-true}
 use Rattle.setpoints.specs.Signed.{signed}
-use Rattle.setpoints.specs.Kinds.{Form, between}
+use Rattle.setpoints.specs.Kinds.{Form, degrees, tenths, between, allowed}
 use Rattle.setpoints.specs.Pages.{pageSize, judged, readRecord, readAmong, readPage, read101, read102, readEither, Answered, setpoint, refused, answeredBy}
 use Rattle.setpoints.specs.declared.Reading.{Reading}
 
@@ -44,3 +45,18 @@ table =
       too-long = λ rest e. (on-page _ _ _ e refl, (on-page _ _ _ e refl, on-page _ _ _ e refl));
       blank = λ rest e. (on-page _ _ _ e refl, (on-page _ _ _ e refl, on-page _ _ _ e refl));
     }
+
+-- THEOREM: "allowed from 10 to 35", "allowed from 180 to 270", both ends included
+pub record Ends (f : Form) (below least most above : ℤ) : Type 0 where
+  pub too-low : allowed f below ≡ false
+  pub lowest : allowed f least ≡ true
+  pub highest : allowed f most ≡ true
+  pub too-high : allowed f above ≡ false
+
+pub degrees-ends : Ends degrees (pos 9) (pos 10) (pos 35) (pos 36)
+unfolding between both pick
+degrees-ends = record { too-low = refl; lowest = refl; highest = refl; too-high = refl }
+
+pub tenths-ends : Ends tenths (pos 179) (pos 180) (pos 270) (pos 271)
+unfolding between both pick
+tenths-ends = record { too-low = refl; lowest = refl; highest = refl; too-high = refl }
