@@ -84,7 +84,7 @@ value-written kind v rest t =
 
 -- so its own reader gives the setpoint back
 pub read-written : (kind : Kind) (v : ℤ) (page : List ℕ) → length page ≡ pageSize → allowed (formOf kind) v ≡ true
-    → readPage (formOf kind ∷ []) (written kind v (drop (4 + formOf kind .bytes) page)) ≡ Setpoint (v *ℤ pos (formOf kind .tenths))
+    → readPage (formOf kind ∷ []) (written kind v (drop (4 + formOf kind .bytes) page)) ≡ Setpoint (v *ℤ pos (formOf kind .worth))
 unfolding judged
 read-written kind v page e t =
     let rest = drop (4 + formOf kind .bytes) page in

@@ -29,7 +29,7 @@ Fine f page = allowed f (valueIn f page) ≡ true
 
 -- the setpoint in it
 abbrev pub Gives : Form → List ℕ → ℤ → Type 0
-Gives f page z = z ≡ valueIn f page *ℤ pos (f .tenths)
+Gives f page z = z ≡ valueIn f page *ℤ pos (f .worth)
 
 -- ---- what each answer says
 

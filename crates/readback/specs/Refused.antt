@@ -34,10 +34,10 @@ module _ (f : Form) (page : List ℕ) where
   abbrev fine : Bool
   fine = allowed f (valueIn f page)
 
-  abbrev tenfold : ℤ
-  tenfold = valueIn f page *ℤ pos (f .tenths)
+  abbrev given : ℤ
+  given = valueIn f page *ℤ pos (f .worth)
 
-  reads-by : answeredBy (readPage (f ∷ []) page) ≡ chain sized own whole fine tenfold
+  reads-by : answeredBy (readPage (f ∷ []) page) ≡ chain sized own whole fine given
   unfolding readPage readAmong readRecord judged
   reads-by =
       pick-of answeredBy _ _ _
@@ -58,15 +58,15 @@ module _ (f : Form) (page : List ℕ) where
   same : {A : Type 0} → Iff A A
   same = ((λ a. a), (λ a. a))
 
-  by-chain : ReadAs f page (chain sized own whole fine tenfold)
+  by-chain : ReadAs f page (chain sized own whole fine given)
   by-chain =
       record {
-        thirteen = then-exactly (is-13 sized own whole fine tenfold) (both-exactly is-page (unequal-exactly (kindIn page) (f .kind)));
+        thirteen = then-exactly (is-13 sized own whole fine given) (both-exactly is-page (unequal-exactly (kindIn page) (f .kind)));
         fourteen =
-            then-exactly (is-14 sized own whole fine tenfold)
+            then-exactly (is-14 sized own whole fine given)
             (or-exactly (unequal-exactly (length page) pageSize) (both-exactly is-page (both-exactly is-own (unequal-exactly (lengthIn page) (lengthOf f)))));
-        fifteen = then-exactly (is-15 sized own whole fine tenfold) (both-exactly is-page (both-exactly is-own (both-exactly is-whole (no-exactly fine))));
-        given = λ z. then-exactly (is-given sized own whole fine tenfold z) (both-exactly is-page (both-exactly is-own (both-exactly is-whole same)));
+        fifteen = then-exactly (is-15 sized own whole fine given) (both-exactly is-page (both-exactly is-own (both-exactly is-whole (no-exactly fine))));
+        given = λ z. then-exactly (is-given sized own whole fine given z) (both-exactly is-page (both-exactly is-own (both-exactly is-whole same)));
       }
 
   reads-as : (r : Reading) → r ≡ readPage (f ∷ []) page → ReadAs f page (answeredBy r)

@@ -38,7 +38,7 @@ number (Refused f) = 1
 
 -- what the readers make of a page that was written
 back-by : (kind : Kind) (v : ℤ) (page : List ℕ) (a : Writing) (after : List ℕ) → Did (formOf kind) v page a after → a ≡ Written
-    → (readPage (formOf kind ∷ []) after ≡ reading.Setpoint (v *ℤ pos (formOf kind .tenths))) × ((length after ≡ pageSize) × (kindIn after ≡ formOf kind .kind))
+    → (readPage (formOf kind ∷ []) after ≡ reading.Setpoint (v *ℤ pos (formOf kind .worth))) × ((length after ≡ pageSize) × (kindIn after ≡ formOf kind .kind))
 unfolding number
 back-by kind v page a after (wrote-it e t) q = (read-written kind v page e t, (size-written kind v page e, kind-written kind v (drop (4 + formOf kind .bytes) page)))
 back-by kind v page a after (left-it f) q = absurd (apart number (Refused f) Written (λ n. omega arith) q)

@@ -68,7 +68,7 @@ module _ (kind : Kind) (v : ℤ) (r : Bool) (f : SFits w64 v) (a : r ≡ allowed
   pub is-allowed : allowed (formOf kind) v ≡ r
   is-allowed = sym (a ∙ ap (allowed (formOf kind)) (toZ-ofZ w64 v f))
 
-  yes : (z : ℤ) → r ≡ true → z ≡ v *ℤ pos (formOf kind .tenths) → Setpoint z ≡ judged (formOf kind) v
+  yes : (z : ℤ) → r ≡ true → z ≡ v *ℤ pos (formOf kind .worth) → Setpoint z ≡ judged (formOf kind) v
   unfolding judged
   yes z t e = ap (λ (x : ℤ). Setpoint x) e ∙ sym (pick-true _ _ _ (is-allowed ∙ t))
 
@@ -76,10 +76,10 @@ module _ (kind : Kind) (v : ℤ) (r : Bool) (f : SFits w64 v) (a : r ≡ allowed
       → Setpoint (toZ w64 (ofZ w64 (toZ w64 (ofZ w64 v) *ℤ pos 10))) ≡ judged (formOf kind) v
   judged-degrees e t g =
       yes _ t
-      (toZ-ofZ w64 _ g ∙ ap (λ (x : ℤ). x *ℤ pos 10) (toZ-ofZ w64 v f) ∙ ap (λ (k : Kind). v *ℤ pos (formOf k .tenths)) (sym e))
+      (toZ-ofZ w64 _ g ∙ ap (λ (x : ℤ). x *ℤ pos 10) (toZ-ofZ w64 v f) ∙ ap (λ (k : Kind). v *ℤ pos (formOf k .worth)) (sym e))
 
   pub judged-tenths : kind ≡ Tenths → r ≡ true → Setpoint (toZ w64 (ofZ w64 v)) ≡ judged (formOf kind) v
-  judged-tenths e t = yes _ t (toZ-ofZ w64 v f ∙ sym (times-one v) ∙ ap (λ (k : Kind). v *ℤ pos (formOf k .tenths)) (sym e))
+  judged-tenths e t = yes _ t (toZ-ofZ w64 v f ∙ sym (times-one v) ∙ ap (λ (k : Kind). v *ℤ pos (formOf k .worth)) (sym e))
 
   pub judged-none : r ≡ false → Refused OutOfRange ≡ judged (formOf kind) v
   unfolding judged

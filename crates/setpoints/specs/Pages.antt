@@ -38,7 +38,7 @@ valueIn f page = signed (f .bytes) (numberAt page 4 (f .bytes))
 
 -- "Give either setpoint in signed tenths"; "15, out of range"
 unfoldable pub judged : Form → ℤ → Reading
-judged f v = pick (allowed f v) (reading.Setpoint (v *ℤ pos (f .tenths))) (reading.Refused OutOfRange)
+judged f v = pick (allowed f v) (reading.Setpoint (v *ℤ pos (f .worth))) (reading.Refused OutOfRange)
 
 -- a record of that kind: "14, wrong length"
 unfoldable pub readRecord : Form → List ℕ → Reading

@@ -4,8 +4,8 @@ use lib.Dec.{ltb}
 use lib.IntN.{ℤ, pos, negsuc, _-ℤ_}
 use Rattle.base.specs.Pick.{pick}
 
--- the signed number that a number of so many bytes stands for: from the middle on, less all that so many bytes can hold and one. "minus one
--- tenth is FFFFh in kind 102"
+-- the signed number that a number of so many bytes stands for: one byte from 80h on stands for itself less 100h, two bytes from 8000h on for themselves
+-- less 10000h. "minus one tenth is FFFFh in kind 102"
 unfoldable pub signed : ℕ → ℕ → ℤ
 signed bytes n = pick (ltb n (256 ^ bytes / 2)) (pos n) (pos n -ℤ pos (256 ^ bytes))
 
