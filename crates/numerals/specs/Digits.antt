@@ -1,20 +1,18 @@
 -- Laws: digits read one after another, with what is past a word left out; and numbers with their sign.
 use Prim.Native.Char.{code as letter}
-use Prim.Native.Nat.{ℕ, suc, _+_, _-_, _*_, _<_, _≤_}
+use Prim.Native.Nat.{ℕ, _+_, _-_, _*_, _<_, _≤_}
 use native.Mathlib.Omega.{arith}
 use native.Mathlib.Numerals.{add-one}
 use mathlib.Core.Bool.{Bool, true, false}
 use mathlib.Core.List.{List, [], _∷_}
 use mathlib.Core.Path.{_≡_, refl, _∙_, ap, sym}
-use lib.Dec.{eqb, leb, ltb}
-use lib.IntN.{ℤ, pos}
+use lib.Dec.{ltb}
 use lib.ListN.{length, getD, drop, drop-of-length-le}
 use lib.Seq.{drop-cons}
-use borrow.Author.Tests.{leb-true, lt-ltb, le-ltb, ltb-true, ltb-false, eq-eqb, ne-eqb}
+use borrow.Author.Tests.{leb-true, lt-ltb, le-ltb, ltb-true, ltb-false}
 use Rattle.base.specs.Pick.{pick, pick-true, pick-false, pick-of, pick-if}
-use Rattle.base.specs.Bits.{both}
 use Rattle.base.specs.Both.{both-holds}
-use Rattle.numerals.specs.Numerals.{Says, number, nothing, isDigit, digitsOn, digitsIn, most, capped, digitsBy}
+use Rattle.numerals.specs.Numerals.{isDigit, digitsOn, digitsIn, most, capped, digitsBy}
 use Rattle.numerals.specs.declared.Digits.{Digits}
 use Rattle.numerals.specs.declared.Digits.the-variants.{Number, NoNumber}
 

@@ -8,17 +8,15 @@ use mathlib.Core.Path.{_≡_, refl, _∙_, ap, sym}
 use lib.Dec.{eqb, ltb, leb}
 use lib.IntN.{ℤ, pos}
 use lib.ListN.{length, getD, drop}
-use lib.Signed.{leZ}
 use borrow.Author.Tests.{ltb-true, ltb-false, lt-leb, eq-eqb, ne-eqb}
 use Rattle.base.specs.Bits.{both}
 use Rattle.base.specs.Pick.{pick, pick-true, pick-false, pick-same}
 use Rattle.numerals.specs.Numerals.{Says, number, digitsIn, most, capped, digitsBy, minus, signedBy, numeralOf}
 use Rattle.numerals.specs.Digits.{few, many, capped-most, no-more}
-use Rattle.numerals.specs.declared.Numeral.{Numeral}
 use Rattle.numerals.specs.declared.Numeral.the-variants.{Number}
 use Rattle.setpoints.specs.Kinds.{Form, between, allowed, formOf}
 use Rattle.setpoints.specs.Pages.{pageSize, Wrote, wrote, writePage}
-use Rattle.setpoints.specs.declared.Fault.the-variants.{WrongLength, OutOfRange}
+use Rattle.setpoints.specs.declared.Fault.the-variants.{WrongLength}
 use Rattle.setpoints.specs.declared.Kind.{Kind}
 use Rattle.setpoints.specs.declared.Kind.the-variants.{Degrees, Tenths}
 use Rattle.setpoints.specs.declared.Writing.the-variants.{Refused}

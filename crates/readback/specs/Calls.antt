@@ -1,12 +1,12 @@
 -- Calls of the readers and the writers of setpoint records: whoever makes one is told what its contract says.
 use Prim.Native.Nat.{ℕ}
 use mathlib.Core.List.{List}
-use mathlib.Core.Path.{_≡_, _∙_, ap}
+use mathlib.Core.Path.{_≡_, refl, _∙_, ap}
 use contract.Lifetimes.{Lfts}
 use denote.Ref.{RefT}
 use denote.Triple.Clauses.{atExit}
 use lib.IntN.{ℤ}
-use Rattle.setpoints.specs.Pages.{read101, read102, readEither, Wrote, wrote, write101, write102}
+use Rattle.setpoints.specs.Pages.{read101, read102, readEither, wrote, write101, write102}
 use Rattle.setpoints.specs.declared.Reading.{Reading}
 use Rattle.setpoints.specs.declared.Writing.{Writing}
 use Rattle.setpoints.proofs as setpoints
@@ -60,3 +60,25 @@ wrote-by-101 v page a after c = c .permits ∙ ap (write101 v) (c .from-bytes)
 
 pub wrote-by-102 : (v : ℤ) (page : List ℕ) (a : Writing) (after : List ℕ) → Write102 v page a after → wrote a after ≡ write102 v page
 wrote-by-102 v page a after c = c .permits ∙ ap (write102 v) (c .from-bytes)
+
+-- ---- there are such calls
+
+-- what a caller lends, behind a reference
+abbrev lentAs : List ℕ → RefT (List ℕ)
+lentAs page = record { ptr = (0, 0); name = 0; now = page }
+
+-- THEOREM: every call has an outcome that its contract permits, whatever is lent and however long it lives
+pub some-read-101 : Lfts 1 → (page : List ℕ) → Read101 page (read101 page)
+some-read-101 κs page = record { κs = κs; bytes = lentAs page; from-bytes = refl; permits = refl }
+
+pub some-read-102 : Lfts 1 → (page : List ℕ) → Read102 page (read102 page)
+some-read-102 κs page = record { κs = κs; bytes = lentAs page; from-bytes = refl; permits = refl }
+
+pub some-read-either : Lfts 1 → (page : List ℕ) → ReadEither page (readEither page)
+some-read-either κs page = record { κs = κs; bytes = lentAs page; from-bytes = refl; permits = refl }
+
+pub some-write-101 : Lfts 1 → (d : ℤ) (page : List ℕ) → Write101 d page (write101 d page .answer) (write101 d page .page)
+some-write-101 κs d page = record { κs = κs; bytes = lentAs page; from-bytes = refl; permits = refl }
+
+pub some-write-102 : Lfts 1 → (z : ℤ) (page : List ℕ) → Write102 z page (write102 z page .answer) (write102 z page .page)
+some-write-102 κs z page = record { κs = κs; bytes = lentAs page; from-bytes = refl; permits = refl }

@@ -1,18 +1,17 @@
 -- Laws: what a writer leaves, and what is read of it.
-use Prim.Native.Nat.{ℕ, suc, _+_, _-_, _*_, _/_, _%_, _^_, _<_, _≤_}
+use Prim.Native.Nat.{ℕ, _+_, _-_, _*_, _/_, _%_, _^_, _<_, _≤_}
 use native.Mathlib.Omega.{arith}
 use mathlib.Core.Bool.{Bool, true, false}
 use mathlib.Core.List.{List, [], _∷_, _++_}
 use mathlib.Core.Path.{_≡_, refl, _∙_, ap, sym, subst}
 use lib.Dec.{eqb}
 use lib.IntN.{ℤ, pos, natAbs, _*ℤ_}
-use lib.ListN.{length, drop, length-append, length-drop}
+use lib.ListN.{length, drop, length-drop}
 use borrow.Author.Tests.{eqb-true, lt-ltb}
-use Rattle.base.specs.Exactly.{apart}
 use Rattle.base.specs.Pick.{pick, pick-true}
-use Rattle.setpoints.specs.Signed.{signed, unsigned}
-use Rattle.setpoints.specs.Kinds.{Form, degrees, tenths, formOf, allowed, numberOfFault}
-use Rattle.setpoints.specs.Pages.{pageSize, lengthIn, kindIn, lengthOf, valueIn, judged, readPage, bytesOf, recordOf, Wrote, wrote, writePage}
+use Rattle.setpoints.specs.Signed.{signed}
+use Rattle.setpoints.specs.Kinds.{Form, formOf, allowed}
+use Rattle.setpoints.specs.Pages.{pageSize, lengthIn, kindIn, lengthOf, valueIn, judged, readPage, recordOf, Wrote, wrote, writePage}
 use Rattle.setpoints.specs.Judging.{at-least, allowed-few}
 use Rattle.setpoints.specs.Readers.{whole-record}
 use Rattle.setpoints.specs.declared.Fault.{Fault}

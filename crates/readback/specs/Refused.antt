@@ -12,7 +12,7 @@ use borrow.Author.Tests.{eqb-true, eqb-false}
 use Rattle.base.specs.Exactly.{Iff, then-exactly, both-exactly, equal-exactly, unequal-exactly}
 use Rattle.base.specs.Pick.{pick, pick-of}
 use Rattle.setpoints.specs.Kinds.{Form, degrees, tenths, allowed}
-use Rattle.setpoints.specs.Pages.{pageSize, lengthIn, kindIn, lengthOf, valueIn, judged, readRecord, readAmong, readPage, Wrote, wrote, writePage, Answered, setpoint, refused, answeredBy, writtenBy}
+use Rattle.setpoints.specs.Pages.{pageSize, lengthIn, kindIn, lengthOf, valueIn, judged, readRecord, readAmong, readPage, Wrote, wrote, writePage, Answered, refused, answeredBy, writtenBy}
 use Rattle.setpoints.specs.Readers.{own-101, other-than-101}
 use Rattle.setpoints.specs.declared.Reading.{Reading}
 use Rattle.setpoints.specs.declared.Writing.{Writing}

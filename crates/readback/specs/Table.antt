@@ -1,10 +1,8 @@
 -- The table of M-109: six pages by their beginnings, whatever follows, and what each reader answers.
 use Prim.Native.Nat.{ℕ, _+_}
-use native.Mathlib.Omega.{arith}
 use mathlib.Core.Bool.{true, false}
 use mathlib.Core.List.{List, [], _∷_, _++_}
 use mathlib.Core.Path.{_≡_, refl, _∙_, ap}
-use lib.Dec.{eqb}
 use lib.IntN.{ℤ, pos}
 use lib.ListN.{length}
 use borrow.Author.Tests.{eq-eqb}
@@ -13,7 +11,6 @@ use Rattle.base.specs.Pick.{pick, pick-true}
 use Rattle.setpoints.specs.Signed.{signed}
 use Rattle.setpoints.specs.Kinds.{Form, degrees, tenths, between, allowed}
 use Rattle.setpoints.specs.Pages.{pageSize, judged, readRecord, readAmong, readPage, read101, read102, readEither, Answered, setpoint, refused, answeredBy}
-use Rattle.setpoints.specs.declared.Reading.{Reading}
 
 -- what `read`, `read101` and `read102` answer of a page that begins so
 abbrev pub Row : List ℕ → Answered → Answered → Answered → Type 0

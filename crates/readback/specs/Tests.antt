@@ -3,7 +3,7 @@ use Prim.Native.Nat.{ℕ}
 use native.Mathlib.Omega.{arith}
 use mathlib.Core.Bool.{Bool, true, false, true≢false}
 use mathlib.Core.Logic.{_⊎_, inl, inr}
-use mathlib.Core.Path.{_≡_, refl, _∙_, ap, sym}
+use mathlib.Core.Path.{_≡_, refl, ap, sym}
 use lib.IntN.{ℤ, pos}
 use Rattle.base.specs.Exactly.{Iff, apart, by-else, by-first, by-then, by-neither}
 use Rattle.base.specs.Pick.{pick}

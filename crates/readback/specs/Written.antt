@@ -2,14 +2,14 @@
 -- page is left as found". By calls of the writers and the readers.
 use Prim.Native.Nat.{ℕ, _+_, _-_, _≤_}
 use native.Mathlib.Omega.{arith}
-use mathlib.Core.List.{List, [], _∷_, _++_}
-use mathlib.Core.Path.{_≡_, refl, _∙_, ap, sym, subst}
+use mathlib.Core.List.{List, [], _∷_}
+use mathlib.Core.Path.{_≡_, refl, _∙_, ap, sym}
 use lib.IntN.{ℤ, pos, _*ℤ_}
 use lib.ListN.{length, getD, drop}
 use lib.Seq.{getD-append-add, getD-drop}
 use Rattle.base.specs.Exactly.{apart}
 use Rattle.setpoints.specs.Kinds.{Form, degrees, tenths, formOf}
-use Rattle.setpoints.specs.Pages.{pageSize, kindIn, readPage, read101, read102, readEither, recordOf}
+use Rattle.setpoints.specs.Pages.{pageSize, kindIn, readPage, recordOf}
 use Rattle.setpoints.specs.Judging.{times-one}
 use Rattle.setpoints.specs.Readers.{another-kind, own-101, other-than-101}
 use Rattle.setpoints.specs.declared.Fault.{Fault}

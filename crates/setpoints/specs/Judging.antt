@@ -1,26 +1,23 @@
 -- Laws: values that are allowed, as words hold them; and what is written of them.
-use Prim.Native.Nat.{ℕ, suc, _*_, _<_, _≤_}
+use Prim.Native.Nat.{ℕ, suc, _*_, _≤_}
 use native.Mathlib.Omega.{arith}
 use mathlib.Core.Bool.{Bool, true, false, true≢false}
-use mathlib.Core.List.{List, _++_}
 use mathlib.Core.Path.{_≡_, refl, _∙_, ap, sym, subst}
-use lib.Dec.{T, eqb, leb}
+use lib.Dec.{T}
 use lib.IntN.{ℤ, pos, negsuc, negℤ, natAbs, _*ℤ_}
-use lib.ListN.{length, drop}
 use lib.Signed.{nonNeg, leZ}
-use borrow.Author.Tests.{leb-true, eq-eqb, ne-eqb}
+use borrow.Author.Tests.{leb-true}
 use mir.Syntax.{w16, w64}
 use mir.Val.{Fits, SFits, toZ, ofZ}
 use mir.ValLaws.{toZ-ofZ}
-use Rattle.base.specs.Pick.{pick, pick-true, pick-false}
+use Rattle.base.specs.Pick.{pick-true, pick-false}
 use Rattle.base.specs.Bits.{both}
 use Rattle.base.specs.Both.{both-holds}
-use Rattle.setpoints.specs.Kinds.{Form, degrees, tenths, formOf, between, allowed}
+use Rattle.setpoints.specs.Kinds.{formOf, between, allowed}
 use Rattle.setpoints.specs.Pages.{judged}
 use Rattle.setpoints.specs.declared.Fault.the-variants.{OutOfRange}
 use Rattle.setpoints.specs.declared.Kind.{Kind}
 use Rattle.setpoints.specs.declared.Kind.the-variants.{Degrees, Tenths}
-use Rattle.setpoints.specs.declared.Reading.{Reading}
 use Rattle.setpoints.specs.declared.Reading.the-variants.{Setpoint, Refused}
 
 -- a test of two numbers by their words

@@ -9,7 +9,6 @@ use Rattle.base.specs.Pick.{pick}
 use Rattle.records.specs.Numbers.{numberAt}
 use Rattle.setpoints.specs.Signed.{signed, unsigned}
 use Rattle.setpoints.specs.Kinds.{Form, degrees, tenths, allowed, numberOfFault}
-use Rattle.setpoints.specs.declared.Fault.{Fault}
 use Rattle.setpoints.specs.declared.Fault.the-variants.{AnotherKind, WrongLength, OutOfRange}
 use Rattle.setpoints.specs.declared.Reading.{Reading}
 use Rattle.setpoints.specs.declared.Reading.the-variants as reading

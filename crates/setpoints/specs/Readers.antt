@@ -1,6 +1,5 @@
 -- Laws: what a reader makes of a page, by its size, its kind and its length.
 use Prim.Native.Nat.{ℕ}
-use mathlib.Core.Bool.{Bool, true, false}
 use mathlib.Core.List.{List, [], _∷_}
 use mathlib.Core.Path.{_≡_, _∙_, ap, sym}
 use lib.Dec.{eqb}

@@ -2,7 +2,7 @@ use Rattle.numerals.specs.Signs.{number-fits, minus-fits, minus-word}
 use Rattle.numerals.specs.declared.Numeral.the-variants.{Number}
 use Rattle.numerals.specs.Numerals.{minus, signedBy}
 use Rattle.base.specs.Along.{along}
-use mathlib.Core.Path.{_∙_, ap}
+use mathlib.Core.Path.{ap}
 use borrow.Author.Needs.{needs}
 use Rattle.numerals.proofs.negative.Statement.{statement}
 use Rattle.numerals.proofs.negative.Tie as tie

@@ -3,7 +3,7 @@ use Rattle.numerals.specs.declared.Numeral.the-variants.{Number}
 use Rattle.numerals.specs.Numerals.{signedBy}
 use lib.IntN.{pos}
 use Rattle.base.specs.Along.{along}
-use mathlib.Core.Path.{_∙_, ap}
+use mathlib.Core.Path.{ap}
 use borrow.Author.Needs.{needs}
 use Rattle.numerals.proofs.plain.Statement.{statement}
 use Rattle.numerals.proofs.plain.Tie as tie

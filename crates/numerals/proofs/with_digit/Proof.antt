@@ -1,6 +1,4 @@
 use Rattle.numerals.specs.Digits.{many}
-use native.Mathlib.Omega.{arith}
-use Prim.Native.Nat.{_≤_}
 use borrow.Author.Needs.{needs}
 use Rattle.numerals.proofs.with_digit.Statement.{statement}
 use Rattle.numerals.proofs.with_digit.Tie as tie

@@ -1,4 +1,3 @@
-use Prim.Native.Nat.{ℕ, _<_}
 use native.Mathlib.Omega.{arith}
 use Rattle.setpoints.specs.Words.{word-less-fits, below-middle, from-middle}
 use borrow.Author.Needs.{needs}
