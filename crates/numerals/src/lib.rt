@@ -3,17 +3,18 @@ ghost use mathlib.Core.Path.{_≡_};
 ghost use Prim.Native.Nat.{_+_, _*_};
 ghost use lib.IntN.{pos, natAbs};
 ghost use lib.ListN.{drop};
-ghost use Rattle.numerals.specs.Numerals.{isDigit, digitsIn, capped, digitsBy, minus, signedBy, numeralOf};
+ghost use Rattle.numerals.specs.Numerals.{isDigit, digitsIn, minus, numeralOf};
+ghost use Rattle.numerals.specs.Read.{kept, countedBy, withSign};
 
 // What a text says.
 pub enum Numeral {
-    // a number; one of more than 18 digits counts as the least of these, with its sign
+    // a number; one past 18 digits counts as the least of 19, with its sign
     Number(i64),
     NoNumber,
 }
 
-// What a text says of a number without a sign.
-pub enum Digits {
+// What digits come to.
+pub enum Counted {
     Number(u64),
     NoNumber,
 }
@@ -21,9 +22,9 @@ pub enum Digits {
 // The least number of 19 digits.
 const MOST: u64 = 1_000_000_000_000_000_000;
 
-// A number that fits a word with its sign.
-fn cap(n: u64) -> u64
-    ensures { λ r. ⌜ r ≡ capped n ⌝ }
+// A number, no more than the most.
+fn keep(n: u64) -> u64
+    ensures { λ r. ⌜ r ≡ kept n ⌝ }
 {
     if n < MOST { n } else { MOST }
 }
@@ -37,20 +38,20 @@ fn is_digit(c: u8) -> bool
 
 // A number with a digit more.
 fn with_digit(n: u64, digit: u8) -> u64
-    ensures { λ r. ⌜ r ≡ capped (10 * n + digit) ⌝ }
+    ensures { λ r. ⌜ r ≡ kept (10 * n + digit) ⌝ }
 {
     if n < MOST {
-        return cap(10 * n + (digit as u64));
+        return keep(10 * n + (digit as u64));
     }
     MOST
 }
 
-// What the characters from an offset on say.
-fn digits_from(text: &[u8], from: usize) -> Digits
-    ensures { λ r. ⌜ r ≡ digitsBy (digitsIn (drop from (now (text .entry)))) ⌝ }
+// What the characters from an offset on come to.
+fn digits_from(text: &[u8], from: usize) -> Counted
+    ensures { λ r. ⌜ r ≡ countedBy (digitsIn (drop from (now (text .entry)))) ⌝ }
 {
     if text.len() <= from {
-        return Digits::NoNumber;
+        return Counted::NoNumber;
     }
     let mut n: u64 = 0;
     let mut i = from;
@@ -60,33 +61,33 @@ fn digits_from(text: &[u8], from: usize) -> Digits
             n = with_digit(n, c - b'0');
             i += 1;
         } else {
-            return Digits::NoNumber;
+            return Counted::NoNumber;
         }
     }
-    Digits::Number(n)
+    Counted::Number(n)
 }
 
 // A number with no sign.
-fn plain(found: Digits) -> Numeral
-    ensures { λ r. ⌜ r ≡ signedBy pos found ⌝ }
+fn plain(found: Counted) -> Numeral
+    ensures { λ r. ⌜ r ≡ withSign pos found ⌝ }
 {
     match found {
-        Digits::Number(n) => Numeral::Number(cap(n) as i64),
-        Digits::NoNumber => Numeral::NoNumber,
+        Counted::Number(n) => Numeral::Number(keep(n) as i64),
+        Counted::NoNumber => Numeral::NoNumber,
     }
 }
 
 // A number with a minus sign.
-fn negative(found: Digits) -> Numeral
-    ensures { λ r. ⌜ r ≡ signedBy minus found ⌝ }
+fn negative(found: Counted) -> Numeral
+    ensures { λ r. ⌜ r ≡ withSign minus found ⌝ }
 {
     match found {
-        Digits::Number(n) => Numeral::Number(0 - (cap(n) as i64)),
-        Digits::NoNumber => Numeral::NoNumber,
+        Counted::Number(n) => Numeral::Number(0 - (keep(n) as i64)),
+        Counted::NoNumber => Numeral::NoNumber,
     }
 }
 
-// The number that a text says.
+// The number that is read of a text.
 pub fn read_number(text: &[u8]) -> Numeral
     ensures { λ r. ⌜ r ≡ numeralOf (now (text .entry)) ⌝ }
 {

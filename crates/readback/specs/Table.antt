@@ -9,38 +9,66 @@ use borrow.Author.Tests.{eq-eqb}
 use Rattle.base.specs.Bits.{both}
 use Rattle.base.specs.Pick.{pick, pick-true}
 use Rattle.setpoints.specs.Signed.{signed}
+use Rattle.setpoints.specs.declared.Reading.{Reading}
+use Rattle.readback.specs.Calls.{Read101, Read102, ReadEither, told-101, told-102, told-either}
 use Rattle.setpoints.specs.Kinds.{Form, degrees, tenths, between, allowed}
-use Rattle.setpoints.specs.Pages.{pageSize, judged, readRecord, readAmong, readPage, read101, read102, readEither, Answered, setpoint, refused, answeredBy}
+use Rattle.setpoints.specs.Pages.{pageSize, judged, readRecord, readAmong, readPage, Answered, setpoint, refused, answeredBy}
 
--- what `read`, `read101` and `read102` answer of a page that begins so
-abbrev pub Row : List ℕ → Answered → Answered → Answered → Type 0
-Row begins either old new = (rest : List ℕ) → length (begins ++ rest) ≡ pageSize
-    → (answeredBy (readEither (begins ++ rest)) ≡ either) × ((answeredBy (read101 (begins ++ rest)) ≡ old) × (answeredBy (read102 (begins ++ rest)) ≡ new))
+-- what `read`, `read101` and `read102` answer of a page that begins so, by calls of the three readers
+abbrev pub Row : List ℕ → Answered → Answered → Answered → Type 2
+Row begins either old new = (rest : List ℕ) → length (begins ++ rest) ≡ pageSize → (x y z : Reading)
+    → ReadEither (begins ++ rest) x → Read101 (begins ++ rest) y → Read102 (begins ++ rest) z
+    → (answeredBy x ≡ either) × ((answeredBy y ≡ old) × (answeredBy z ≡ new))
 
--- on a page its record decides
-on-page : (fs : List Form) (page : List ℕ) (a : Answered) → length page ≡ pageSize → answeredBy (readAmong fs page) ≡ a → answeredBy (readPage fs page) ≡ a
+-- what a reader answers on a page is what its record gives
+on-page : (fs : List Form) (page : List ℕ) (r : Reading) → length page ≡ pageSize → r ≡ readPage fs page → answeredBy r ≡ answeredBy (readAmong fs page)
 unfolding readPage
-on-page fs page a e h = ap answeredBy (pick-true _ _ _ (eq-eqb (length page) pageSize e)) ∙ h
+on-page fs page r e h = ap answeredBy (h ∙ pick-true _ _ _ (eq-eqb (length page) pageSize e))
+
+row : (page : List ℕ) → length page ≡ pageSize → (x y z : Reading) → ReadEither page x → Read101 page y → Read102 page z
+    → (answeredBy x ≡ answeredBy (readAmong (degrees ∷ tenths ∷ []) page))
+    × ((answeredBy y ≡ answeredBy (readAmong (degrees ∷ []) page)) × (answeredBy z ≡ answeredBy (readAmong (tenths ∷ []) page)))
+row page e x y z a b c =
+    (on-page _ page x e (told-either page x a), (on-page _ page y e (told-101 page y b), on-page _ page z e (told-102 page z c)))
+
+-- the beginnings
+abbrev old-21 : List ℕ
+old-21 = 0x03 ∷ 0x00 ∷ 0x65 ∷ 0x00 ∷ 0x15 ∷ []
+
+abbrev old-ff : List ℕ
+old-ff = 0x03 ∷ 0x00 ∷ 0x65 ∷ 0x00 ∷ 0xFF ∷ []
+
+abbrev new-215 : List ℕ
+new-215 = 0x04 ∷ 0x00 ∷ 0x66 ∷ 0x00 ∷ 0xD7 ∷ 0x00 ∷ []
+
+abbrev new-ffff : List ℕ
+new-ffff = 0x04 ∷ 0x00 ∷ 0x66 ∷ 0x00 ∷ 0xFF ∷ 0xFF ∷ []
+
+abbrev old-too-long : List ℕ
+old-too-long = 0x04 ∷ 0x00 ∷ 0x65 ∷ 0x00 ∷ 0x15 ∷ []
+
+abbrev blank-page : List ℕ
+blank-page = 0xFF ∷ 0xFF ∷ 0xFF ∷ 0xFF ∷ []
 
 -- THEOREM: the table
-pub record Table : Type 0 where
-  pub degrees-21 : Row (0x03 ∷ 0x00 ∷ 0x65 ∷ 0x00 ∷ 0x15 ∷ []) (setpoint (pos 210)) (setpoint (pos 210)) (refused 13)
-  pub degrees-minus-one : Row (0x03 ∷ 0x00 ∷ 0x65 ∷ 0x00 ∷ 0xFF ∷ []) (refused 15) (refused 15) (refused 13)
-  pub tenths-215 : Row (0x04 ∷ 0x00 ∷ 0x66 ∷ 0x00 ∷ 0xD7 ∷ 0x00 ∷ []) (setpoint (pos 215)) (refused 13) (setpoint (pos 215))
-  pub tenths-minus-one : Row (0x04 ∷ 0x00 ∷ 0x66 ∷ 0x00 ∷ 0xFF ∷ 0xFF ∷ []) (refused 15) (refused 13) (refused 15)
-  pub too-long : Row (0x04 ∷ 0x00 ∷ 0x65 ∷ 0x00 ∷ 0x15 ∷ []) (refused 14) (refused 14) (refused 13)
-  pub blank : Row (0xFF ∷ 0xFF ∷ 0xFF ∷ 0xFF ∷ []) (refused 13) (refused 13) (refused 13)
+pub record Table : Type 2 where
+  pub degrees-21 : Row old-21 (setpoint (pos 210)) (setpoint (pos 210)) (refused 13)
+  pub degrees-minus-one : Row old-ff (refused 15) (refused 15) (refused 13)
+  pub tenths-215 : Row new-215 (setpoint (pos 215)) (refused 13) (setpoint (pos 215))
+  pub tenths-minus-one : Row new-ffff (refused 15) (refused 13) (refused 15)
+  pub too-long : Row old-too-long (refused 14) (refused 14) (refused 13)
+  pub blank : Row blank-page (refused 13) (refused 13) (refused 13)
 
 pub table : Table
 unfolding readAmong readRecord judged between both signed pick
 table =
     record {
-      degrees-21 = λ rest e. (on-page _ _ _ e refl, (on-page _ _ _ e refl, on-page _ _ _ e refl));
-      degrees-minus-one = λ rest e. (on-page _ _ _ e refl, (on-page _ _ _ e refl, on-page _ _ _ e refl));
-      tenths-215 = λ rest e. (on-page _ _ _ e refl, (on-page _ _ _ e refl, on-page _ _ _ e refl));
-      tenths-minus-one = λ rest e. (on-page _ _ _ e refl, (on-page _ _ _ e refl, on-page _ _ _ e refl));
-      too-long = λ rest e. (on-page _ _ _ e refl, (on-page _ _ _ e refl, on-page _ _ _ e refl));
-      blank = λ rest e. (on-page _ _ _ e refl, (on-page _ _ _ e refl, on-page _ _ _ e refl));
+      degrees-21 = λ rest. row (old-21 ++ rest);
+      degrees-minus-one = λ rest. row (old-ff ++ rest);
+      tenths-215 = λ rest. row (new-215 ++ rest);
+      tenths-minus-one = λ rest. row (new-ffff ++ rest);
+      too-long = λ rest. row (old-too-long ++ rest);
+      blank = λ rest. row (blank-page ++ rest);
     }
 
 -- THEOREM: "allowed from 10 to 35", "allowed from 180 to 270", both ends included

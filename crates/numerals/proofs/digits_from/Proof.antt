@@ -3,8 +3,9 @@ use mathlib.Core.Path.{_≡_, _∙_, sym, subst}
 use lib.ListN.{length, getD, drop}
 use denote.Ref.{now}
 use borrow.Author.Needs.{needs}
-use Rattle.numerals.specs.Numerals.{digitsOn, digitsIn, most, digitsBy}
-use Rattle.numerals.specs.Digits.{capped-most, digit-from, no-digits, first-digit, next-digit, no-digit, last-digit}
+use Rattle.numerals.specs.Numerals.{digitsOn, digitsIn, most}
+use Rattle.numerals.specs.Read.{countedBy}
+use Rattle.numerals.specs.Digits.{kept-most, digit-from, no-digits, first-digit, next-digit, no-digit, last-digit}
 use Rattle.numerals.proofs.digits_from.Statement.{statement}
 use Rattle.numerals.proofs.digits_from.Tie as tie
 use Rattle.numerals.proofs.digits_from.Reads as reads
@@ -14,7 +15,7 @@ use Rattle.numerals.proofs.with_digit.Reads as with-digit-reads
 
 abbrev Inv-loop : tie.InvT-loop
 Inv-loop text from n₀ i₀ n i =
-    (i ≤ length text) × ((n ≤ most) × (digitsBy (digitsOn n (drop i text)) ≡ digitsBy (digitsIn (drop from text))))
+    (i ≤ length text) × ((n ≤ most) × (countedBy (digitsOn n (drop i text)) ≡ countedBy (digitsIn (drop from text))))
 
 abbrev μ-loop : tie.MeasureT-loop
 μ-loop text from n₀ i₀ n i = length text - i
@@ -57,7 +58,7 @@ loop-again c =
     let l = c .before .before .before .before .before .loop in
     let a = c .before .before .before .before .before .before .before .before .args in
     let r = c .with-digit .ensures in
-    let m = capped-most (10 * l .n + (getD (now (a .text)) (l .i) 0 - 48)) in (
+    let m = kept-most (10 * l .n + (getD (now (a .text)) (l .i) 0 - 48)) in (
       search needs,
       (
         subst (λ (k : ℕ). k ≤ most) (sym r) m,

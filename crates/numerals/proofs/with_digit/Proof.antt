@@ -4,19 +4,19 @@ use Rattle.numerals.proofs.with_digit.Statement.{statement}
 use Rattle.numerals.proofs.with_digit.Tie as tie
 use Rattle.numerals.proofs.with_digit.Reads as reads
 use Rattle.numerals.proofs.with_digit.Lts as lts
-use Rattle.numerals.proofs.cap.Reads as cap-reads
+use Rattle.numerals.proofs.keep.Reads as keep-reads
 
 -- src/lib.rt:43:20
-mul-cap : tie.Need-mul-cap
-mul-cap c = search needs
+mul-keep : tie.Need-mul-keep
+mul-keep c = search needs
 
 -- src/lib.rt:43:20
-add-cap : tie.Need-add-cap
-add-cap c = search needs
+add-keep : tie.Need-add-keep
+add-keep c = search needs
 
 -- src/lib.rt:43:9
-cap-requires : tie.Need-cap-requires
-cap-requires c κs = search needs
+keep-requires : tie.Need-keep-requires
+keep-requires c κs = search needs
 
 -- src/lib.rt:43:9
 returns : tie.Need-returns
@@ -27,4 +27,4 @@ returns-2 : tie.Need-returns-2
 returns-2 c = many _ (search needs)
 
 pub with-digit-spec : {M : Type 1} → statement M
-with-digit-spec = tie.close (tie.spec mul-cap add-cap cap-requires returns returns-2)
+with-digit-spec = tie.close (tie.spec mul-keep add-keep keep-requires returns returns-2)
