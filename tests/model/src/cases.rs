@@ -1,5 +1,7 @@
-//! The papers' bench cases, their worked list output, and cases that only a lent table can
+//! The papers' bench cases, their worked list output and pages, and cases that only a lent table can
 //! show, all held against the model itself.
+
+mod setpoints;
 
 use std::collections::VecDeque;
 
@@ -57,6 +59,15 @@ pub const CASES: &[(&str, Case)] = &[
     ("a run cut at every bit", recording_cut),
     ("a recording in two pieces", recording_in_pieces),
     ("a recording refused by a head", recording_heads),
+    ("the worked pages", setpoints::worked_pages),
+    ("every byte and pair of a setpoint", setpoints::every_body),
+    (
+        "a setpoint's refusals in order",
+        setpoints::refusals_in_order,
+    ),
+    ("a setpoint over any page", setpoints::written_pages),
+    ("a setpoint of any length", setpoints::long_values),
+    ("words without a setpoint", setpoints::other_words),
 ];
 
 /// A host at a line of the model.
@@ -744,6 +755,12 @@ mod tests {
         recording_cut "a run cut at every bit",
         recording_in_pieces "a recording in two pieces",
         recording_heads "a recording refused by a head",
+        worked_pages "the worked pages",
+        every_setpoint "every byte and pair of a setpoint",
+        setpoint_refusals "a setpoint's refusals in order",
+        setpoint_written "a setpoint over any page",
+        setpoint_values "a setpoint of any length",
+        setpoint_words "words without a setpoint",
     }
 
     /// The cases reach every rule that no program can show.

@@ -1,5 +1,5 @@
-//! Tries the list, wire and playback programs, or the library for C behind its driver, against an
-//! independent model, or serves the model in their place.
+//! Tries the list, wire, playback and setpoint programs, or the library for C behind its driver, against
+//! an independent model, or serves the model in their place.
 
 mod cases;
 mod gen;
@@ -10,6 +10,7 @@ mod report;
 mod tester;
 
 use std::io::{self, Read, Write};
+use std::os::unix::ffi::OsStringExt;
 use std::process::ExitCode;
 use std::time::{Duration, SystemTime, UNIX_EPOCH};
 
@@ -17,16 +18,20 @@ use cases::{Case, CASES};
 use model::book::{slip_named, Book, Slip, SLIPS};
 use model::programs::{list, Wire};
 use model::recording::Playback;
+use model::setpoint::words::{command_of, said};
+use model::setpoint::PAGE;
 use tester::{run, Options};
 
 const USAGE: &str = "\
-wire-model [--list PROGRAM] [--wire PROGRAM] [--playback PROGRAM] [--seed N|time]
+wire-model [--list PROGRAM] [--wire PROGRAM] [--playback PROGRAM]
+           [--setpoint PROGRAM] [--setpoint-linked PROGRAM] [--seed N|time]
            [--cards N] [--scripts N] [--rounds N] [--long] [--stop N] [--wait SECONDS] [--rules]
 wire-model --library DRIVER [--seed N|time] [--lines N]
            [--long] [--stop N] [--wait SECONDS] [--rules]
 wire-model --serve-list [--slip NAME]
 wire-model --serve-wire CARDFILE [--slip NAME]
 wire-model --serve-playback [--slip NAME]
+wire-model [--slip NAME] --serve-setpoint WORDS
 wire-model --serve-library [--slip NAME]
 wire-model --cases [--slip NAME]
 wire-model --slips";
@@ -38,6 +43,7 @@ enum Mode {
     ServeList,
     ServeWire(String),
     ServePlayback,
+    ServeSetpoint(Vec<Vec<u8>>),
     ServeLibrary,
     Cases,
     Slips,
@@ -67,6 +73,7 @@ fn main() -> ExitCode {
         Mode::ServeList => serve_list(slip).is_ok(),
         Mode::ServeWire(path) => serve_wire(&path, slip).is_ok(),
         Mode::ServePlayback => serve_playback(slip).is_ok(),
+        Mode::ServeSetpoint(words) => serve_setpoint(&words, slip).is_ok(),
         Mode::ServeLibrary => library::calls::serve(&mut Book::new(slip)).is_ok(),
         Mode::Cases => run_cases(slip, true),
         Mode::Slips => {
@@ -88,6 +95,8 @@ fn read_flags() -> Result<(Mode, Options, Option<Slip>), String> {
         list: None,
         wire: None,
         playback: None,
+        setpoint: None,
+        linked: None,
         seed: 1,
         cards: 60,
         scripts: 480,
@@ -103,6 +112,8 @@ fn read_flags() -> Result<(Mode, Options, Option<Slip>), String> {
             "--list" => options.list = Some(value()?),
             "--wire" => options.wire = Some(value()?),
             "--playback" => options.playback = Some(value()?),
+            "--setpoint" => options.setpoint = Some(value()?),
+            "--setpoint-linked" => options.linked = Some(value()?),
             "--seed" => options.seed = seed(&value()?)?,
             "--cards" => options.cards = number(&value()?)?,
             "--scripts" => options.scripts = number(&value()?)?,
@@ -131,6 +142,14 @@ fn read_flags() -> Result<(Mode, Options, Option<Slip>), String> {
             "--serve-list" => mode = Mode::ServeList,
             "--serve-wire" => mode = Mode::ServeWire(value()?),
             "--serve-playback" => mode = Mode::ServePlayback,
+            "--serve-setpoint" => {
+                // All that follows are its words, which may be any bytes.
+                let words = std::env::args_os();
+                let before = words.len() - flags.len();
+                let words = words.skip(before).map(OsStringExt::into_vec);
+                mode = Mode::ServeSetpoint(words.collect());
+                break;
+            }
             "--cases" => mode = Mode::Cases,
             "--slips" => mode = Mode::Slips,
             _ if matches!(mode, Mode::ServePlayback) && slip == Some(Slip::ArgumentTaken) => {}
@@ -140,7 +159,12 @@ fn read_flags() -> Result<(Mode, Options, Option<Slip>), String> {
     if let Mode::Library { lines: asked, .. } = &mut mode {
         *asked = lines;
     }
-    let programs = [&options.list, &options.wire, &options.playback];
+    let programs = [
+        &options.list,
+        &options.wire,
+        &options.playback,
+        &options.setpoint,
+    ];
     if matches!(mode, Mode::Test) && programs.iter().all(|program| program.is_none()) {
         return Err("nothing to test".into());
     }
@@ -222,6 +246,49 @@ fn serve_playback(slip: Option<Slip>) -> io::Result<()> {
         }
     }
     Ok(())
+}
+
+/// The model as the setpoint program.
+fn serve_setpoint(words: &[Vec<u8>], slip: Option<Slip>) -> io::Result<()> {
+    let mut book = Book::new(slip);
+    let command = command_of(words, &mut book);
+    let mut page = Vec::new();
+    if command.is_some() || book.slips(Slip::SetUsageWaits) {
+        page = read_page(&book).inspect_err(|error| eprintln!("standard input: {error}"))?;
+    }
+    let said = said(command.as_ref(), &page, &mut book);
+    io::stderr().write_all(&said.errors)?;
+    let mut output = io::stdout().lock();
+    let written = output
+        .write_all(&said.printed)
+        .and_then(|()| output.flush());
+    if book.slips(Slip::SetWritesOn) {
+        return Ok(());
+    }
+    written.inspect_err(|error| eprintln!("standard output: {error}"))
+}
+
+/// The page for the setpoint program: all of the input, up to a size that is no page by any slip.
+fn read_page(book: &Book) -> io::Result<Vec<u8>> {
+    let mut input = io::stdin().lock();
+    let mut buffer = [0; 4096];
+    let mut page = Vec::new();
+    while page.len() < 200_000 {
+        let count = match input.read(&mut buffer) {
+            Err(_) if book.slips(Slip::SetReadEnds) => 0,
+            read => read?,
+        };
+        page.extend(&buffer[..count]);
+        let once = book.slips(Slip::SetReadOnce);
+        let whole = book.slips(Slip::SetAtOnce) && page.len() == PAGE;
+        if count == 0 || once || whole {
+            break;
+        }
+        if book.slips(Slip::SetReadsOn) {
+            page.truncate(PAGE + 1);
+        }
+    }
+    Ok(page)
 }
 
 /// The model's own cases; told in full, or only if one fails.

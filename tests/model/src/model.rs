@@ -1,5 +1,5 @@
-//! An independent model of the line, its chips, the card, the recording, the search and
-//! the programs, written from the papers' words.
+//! An independent model of the line, its chips, the card, the recording, the search, the
+//! setpoint record and the programs, written from the papers' words.
 
 pub mod book;
 pub mod card;
@@ -13,3 +13,4 @@ pub mod programs;
 pub mod record;
 pub mod recording;
 pub mod search;
+pub mod setpoint;

@@ -1,7 +1,9 @@
 //! A program under test, run as a child.
 
+use std::ffi::OsStr;
 use std::fs::File;
 use std::io::{Read, Write};
+use std::os::unix::ffi::OsStrExt;
 use std::path::Path;
 use std::process::{Child, ChildStdin, Command, ExitStatus, Stdio};
 use std::sync::mpsc::{channel, Receiver, RecvTimeoutError};
@@ -37,26 +39,39 @@ impl Program {
 
     /// Starts a command line that reads this input, with the error output in a file.
     pub fn start_reading(command: &str, input: Stdio, wait: Duration, errors: &Path) -> Program {
+        Program::start_words(command, &[], input, wait, errors)
+    }
+
+    /// The same, with these words as its last arguments.
+    pub fn start_words(
+        command: &str,
+        words: &[Vec<u8>],
+        input: Stdio,
+        wait: Duration,
+        errors: &Path,
+    ) -> Program {
         let file = File::create(errors).expect("a file in the temporary folder");
-        Program::start_with(command, None, wait, input, Stdio::from(file))
+        let words = words.iter().map(|word| OsStr::from_bytes(word));
+        Program::start_with(command, words, wait, input, Stdio::from(file))
     }
 
     /// Starts a command line whose output nobody reads.
     pub fn start_unheard(command: &str, wait: Duration) -> Program {
-        let mut child = spawn(command, None, Stdio::piped(), Stdio::null());
+        let none: Option<&OsStr> = None;
+        let mut child = spawn(command, none, Stdio::piped(), Stdio::null());
         child.stdout = None;
         let (_, output) = channel();
         Program::of(child, output, wait)
     }
 
-    fn start_with(
+    fn start_with<W: AsRef<OsStr>>(
         command: &str,
-        path: Option<&Path>,
+        words: impl IntoIterator<Item = W>,
         wait: Duration,
         input: Stdio,
         errors: Stdio,
     ) -> Program {
-        let mut child = spawn(command, path, input, errors);
+        let mut child = spawn(command, words, input, errors);
         let mut stdout = child.stdout.take().expect("the program's output");
         let (sender, output) = channel();
         thread::spawn(move || {
@@ -87,6 +102,14 @@ impl Program {
         }
     }
 
+    /// Sends input meanwhile and closes it, so that nobody waits for a program that does not read on. Input without end
+    /// is sent again and again until the program has ended.
+    pub fn pour(&mut self, text: Vec<u8>, endless: bool) {
+        if let Some(mut input) = self.input.take() {
+            thread::spawn(move || while input.write_all(&text).is_ok() && endless {});
+        }
+    }
+
     /// Receives so many bytes, fewer if they do not come.
     pub fn receive(&mut self, count: usize) -> Vec<u8> {
         while self.held.len() < count {
@@ -110,6 +133,18 @@ impl Program {
                 }
             }
         }
+    }
+
+    /// Whether the output comes to its end in time with the input open; what came is kept.
+    pub fn ends_open(&mut self) -> bool {
+        let (text, ends) = self.rest();
+        self.held = text;
+        ends
+    }
+
+    /// Closes the input.
+    pub fn close(&mut self) {
+        self.input = None;
     }
 
     /// Closes the input; the rest of the output, and whether the program ended by itself.
@@ -139,11 +174,16 @@ impl Program {
     }
 }
 
-/// Starts a command line by a shell, with a path as its last argument.
-fn spawn(command: &str, path: Option<&Path>, input: Stdio, errors: Stdio) -> Child {
+/// Starts a command line by a shell, with these words as its last arguments.
+fn spawn<W: AsRef<OsStr>>(
+    command: &str,
+    words: impl IntoIterator<Item = W>,
+    input: Stdio,
+    errors: Stdio,
+) -> Child {
     Command::new("sh")
         .args(["-c", &format!("exec {command} \"$@\""), "sh"])
-        .args(path)
+        .args(words)
         .stdin(input)
         .stdout(Stdio::piped())
         .stderr(errors)

@@ -1,7 +1,9 @@
 //! Runs the programs on generated inputs and holds every answer against the model.
 
+mod ends;
 mod feed;
 mod playback;
+mod setpoint;
 
 use std::fs;
 use std::path::PathBuf;
@@ -26,12 +28,16 @@ pub struct Options {
     pub wire: Option<String>,
     /// Command line of the playback program.
     pub playback: Option<String>,
+    /// Command line of the setpoint program.
+    pub setpoint: Option<String>,
+    /// Command line that starts it sooner, for most of its starts.
+    pub linked: Option<String>,
     pub seed: u64,
     /// Random cards for the list program.
     pub cards: usize,
     /// Random scripts for the wire program.
     pub scripts: usize,
-    /// How often each recording is drawn for the playback program.
+    /// How often each recording is drawn for the playback program, and any pages for the setpoint program.
     pub rounds: usize,
     /// Failures after which the run stops.
     pub stop: usize,
@@ -62,6 +68,7 @@ struct Tester {
     scripts: usize,
     events: usize,
     recordings: usize,
+    pages: usize,
 }
 
 /// One script to be written: its name, how, and whether it is cut and disturbed.
@@ -108,6 +115,7 @@ pub fn run(options: Options) -> bool {
         scripts: 0,
         events: 0,
         recordings: 0,
+        pages: 0,
     };
     let mut book = Book::new(None);
     let mut played = Book::new(None);
@@ -121,15 +129,21 @@ pub fn run(options: Options) -> bool {
     if let Some(command) = tester.options.playback.clone() {
         tester.run_playback(&command, &mut played);
     }
+    if let Some(command) = tester.options.setpoint.clone() {
+        let linked = tester.options.linked.clone();
+        let linked = linked.unwrap_or_else(|| command.clone());
+        tester.run_setpoint(&command, &linked, &mut book);
+    }
     tester.judge_rules(&book, &played);
     // The folder holds card files alone; a leftover does no harm.
     let _ = fs::remove_dir_all(&tester.folder);
     println!(
-        "{} cards, {} scripts, {} events, {} recordings, {:.1} s",
+        "{} cards, {} scripts, {} events, {} recordings, {} pages, {:.1} s",
         tester.cards,
         tester.scripts,
         tester.events,
         tester.recordings,
+        tester.pages,
         start.elapsed().as_secs_f64()
     );
     println!("{} passed, {} failed", tester.passed, tester.failed);
@@ -164,6 +178,7 @@ impl Tester {
             Place::PlaybackAndWire => {
                 self.options.playback.is_some() && self.options.wire.is_some()
             }
+            Place::Setpoint => self.options.setpoint.is_some(),
             Place::Lent => false,
         };
         let rules = RULES.iter().filter(|(_, place, _)| asked(*place));

@@ -342,7 +342,9 @@ impl Tester {
                 ended && !printed.contains(&b'\n') && says(&errors, &words.to_string())
             }),
             ("input that breaks off is not taken for the end", &|| {
-                let (ours, input) = broken();
+                let records = [Record::Reset, Record::Run(vec![0, 1, 1]), Record::PowerOn];
+                let bytes = bytes_of(&records);
+                let (ours, input) = broken(&bytes[..bytes.len() - 1]);
                 let program = Program::start_reading(command, input, wait, &errors);
                 drop(ours);
                 let (printed, ended) = program.end();
@@ -383,27 +385,25 @@ impl Tester {
     }
 }
 
-/// Input that gives a reset, three slots and part of a record, and then fails.
-fn broken() -> (UnixStream, Stdio) {
+/// Input that gives these bytes and then fails, when our side of it is dropped.
+pub(super) fn broken(bytes: &[u8]) -> (UnixStream, Stdio) {
     let (mut ours, mut theirs) = UnixStream::pair().expect("a pair of sockets");
-    let records = [Record::Reset, Record::Run(vec![0, 1, 1]), Record::PowerOn];
-    let bytes = bytes_of(&records);
     // What is left unread on our side makes the other side fail when ours is closed.
-    let sent = ours.write_all(&bytes[..bytes.len() - 1]);
+    let sent = ours.write_all(bytes);
     sent.and_then(|()| theirs.write_all(b"unread"))
         .expect("a pair of sockets takes a few bytes");
     (ours, Stdio::from(OwnedFd::from(theirs)))
 }
 
 /// Whether the error output has the system's words for an error.
-fn says(errors: &std::path::Path, error: &str) -> bool {
+pub(super) fn says(errors: &std::path::Path, error: &str) -> bool {
     let words = error.split(" (os error").next().unwrap_or(error);
     let said = fs::read(errors).unwrap_or_default();
     String::from_utf8_lossy(&said).contains(words)
 }
 
 /// Bytes as they are shown.
-fn shown_bytes(bytes: &[u8]) -> String {
+pub(super) fn shown_bytes(bytes: &[u8]) -> String {
     let some = hex(&bytes[..bytes.len().min(SHOWN)]);
     if bytes.len() > SHOWN {
         format!("{some} and so on, {} bytes", bytes.len())
