@@ -1,6 +1,7 @@
 -- Laws: what holds exactly when; a chain of choices, and when it comes to each of its ends.
 use Prim.Native.Nat.{ℕ}
 use mathlib.Core.Bool.{Bool, true, false, true≢false}
+use mathlib.Core.Logic.{_⊎_, inl, inr}
 use mathlib.Core.Path.{_≡_, refl, ap, sym}
 use lib.Dec.{eqb}
 use borrow.Author.Tests.{eqb-true, eqb-false, eq-eqb, ne-eqb}
@@ -10,6 +11,14 @@ use Rattle.base.specs.Pick.{pick}
 abbrev pub Iff : Type 0 → Type 0 → Type 0
 Iff A B = (A → B) × (B → A)
 
+-- it does not hold
+abbrev pub No : Type 0 → Type 0
+No A = A → ⊥
+
+-- a thing exactly when itself
+pub itself : {A : Type 0} → Iff A A
+itself = ((λ a. a), (λ a. a))
+
 -- the first exactly when the second, and the second exactly when the third: the first exactly when the third
 pub then-exactly : {A B C : Type 0} → Iff A B → Iff B C → Iff A C
 then-exactly i j = ((λ a. j .0 (i .0 a)), (λ c. i .1 (j .1 c)))
@@ -17,6 +26,23 @@ then-exactly i j = ((λ a. j .0 (i .0 a)), (λ c. i .1 (j .1 c)))
 -- two things hold together exactly when two others do, each exactly when its own
 pub both-exactly : {A B C D : Type 0} → Iff A C → Iff B D → Iff (A × B) (C × D)
 both-exactly i j = ((λ p. (i .0 (p .0), j .0 (p .1))), (λ p. (i .1 (p .0), j .1 (p .1))))
+
+-- one of two things holds exactly when one of two others does, each exactly when its own
+pub or-exactly : {A B C D : Type 0} → Iff A C → Iff B D → Iff (A ⊎ B) (C ⊎ D)
+or-exactly {A} {B} {C} {D} i j = (there, back)
+  where
+    there : A ⊎ B → C ⊎ D
+    there (inl a) = inl (i .0 a)
+    there (inr b) = inr (j .0 b)
+
+    back : C ⊎ D → A ⊎ B
+    back (inl c) = inl (i .1 c)
+    back (inr d) = inr (j .1 d)
+
+-- a test fails exactly when it does not hold
+pub no-exactly : (t : Bool) → Iff (t ≡ false) (No (t ≡ true))
+no-exactly true = ((λ e. absurd (true≢false e)), (λ n. absurd (n refl)))
+no-exactly false = ((λ e f. true≢false (sym f)), (λ n. refl))
 
 -- a test of two numbers holds exactly when they are equal, and fails exactly when they are not
 pub equal-exactly : (a b : ℕ) → Iff (eqb a b ≡ true) (a ≡ b)

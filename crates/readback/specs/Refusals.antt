@@ -7,12 +7,9 @@ use mathlib.Core.Path.{_≡_}
 use Prim.Native.Nat.{ℕ}
 use lib.IntN.{ℤ, pos, _*ℤ_}
 use lib.ListN.{length}
-use Rattle.base.specs.Exactly.{Iff}
+use Rattle.base.specs.Exactly.{Iff, No}
 use Rattle.setpoints.specs.Kinds.{Form, degrees, tenths, allowed}
 use Rattle.setpoints.specs.Pages.{lengthIn, kindIn, lengthOf, valueIn, Answered, setpoint, written, refused}
-
-abbrev pub No : Type 0 → Type 0
-No A = A → ⊥
 
 -- a page, and how its record stands to a form: it is of that kind, of that length, and its value is allowed
 abbrev pub Page : List ℕ → Type 0

@@ -9,7 +9,7 @@ use lib.Dec.{eqb}
 use lib.IntN.{ℤ, pos, _*ℤ_}
 use lib.ListN.{length}
 use borrow.Author.Tests.{eqb-true, eqb-false}
-use Rattle.base.specs.Exactly.{Iff, then-exactly, both-exactly, equal-exactly, unequal-exactly}
+use Rattle.base.specs.Exactly.{Iff, No, itself, then-exactly, both-exactly, or-exactly, no-exactly, equal-exactly, unequal-exactly}
 use Rattle.base.specs.Pick.{pick, pick-of}
 use Rattle.setpoints.specs.Kinds.{Form, degrees, tenths, allowed}
 use Rattle.setpoints.specs.Pages.{pageSize, lengthIn, kindIn, lengthOf, valueIn, judged, readRecord, readAmong, readPage, Wrote, wrote, writePage, Answered, refused, answeredBy, writtenBy}
@@ -17,8 +17,8 @@ use Rattle.setpoints.specs.Readers.{own-101, other-than-101}
 use Rattle.setpoints.specs.declared.Reading.{Reading}
 use Rattle.setpoints.specs.declared.Writing.{Writing}
 use Rattle.readback.specs.Calls.{Read101, Read102, ReadEither, told-101, told-102, told-either, Write101, Write102, wrote-by-101, wrote-by-102}
-use Rattle.readback.specs.Refusals.{No, Own, ReadAs, ReadAsEither, WroteAs}
-use Rattle.readback.specs.Tests.{no-exactly, or-exactly, chain, is-13, is-14, is-15, is-given, writes, wrote-13, wrote-14, wrote-15, wrote-well}
+use Rattle.readback.specs.Refusals.{Own, ReadAs, ReadAsEither, WroteAs}
+use Rattle.readback.specs.Tests.{chain, is-13, is-14, is-15, is-given, writes, wrote-13, wrote-14, wrote-15, wrote-well}
 
 -- ---- a reader of one kind
 module _ (f : Form) (page : List ℕ) where
@@ -55,9 +55,6 @@ module _ (f : Form) (page : List ℕ) where
   is-whole : Iff (whole ≡ true) (lengthIn page ≡ lengthOf f)
   is-whole = equal-exactly (lengthIn page) (lengthOf f)
 
-  same : {A : Type 0} → Iff A A
-  same = ((λ a. a), (λ a. a))
-
   by-chain : ReadAs f page (chain sized own whole fine given)
   by-chain =
       record {
@@ -66,7 +63,7 @@ module _ (f : Form) (page : List ℕ) where
             then-exactly (is-14 sized own whole fine given)
             (or-exactly (unequal-exactly (length page) pageSize) (both-exactly is-page (both-exactly is-own (unequal-exactly (lengthIn page) (lengthOf f)))));
         fifteen = then-exactly (is-15 sized own whole fine given) (both-exactly is-page (both-exactly is-own (both-exactly is-whole (no-exactly fine))));
-        given = λ z. then-exactly (is-given sized own whole fine given z) (both-exactly is-page (both-exactly is-own (both-exactly is-whole same)));
+        given = λ z. then-exactly (is-given sized own whole fine given z) (both-exactly is-page (both-exactly is-own (both-exactly is-whole itself)));
       }
 
   reads-as : (r : Reading) → r ≡ readPage (f ∷ []) page → ReadAs f page (answeredBy r)
@@ -86,14 +83,11 @@ of-101 : (page : List ℕ) (a : Answered) → Own degrees page → ReadAs degree
 of-101 page a k q =
     record {
       thirteen = ((λ e. absurd (q .thirteen .0 e .1 k)), (λ p. absurd (p .1 .0 k)));
-      fourteen = then-exactly (q .fourteen) (or-exactly same (both-exactly same one));
-      fifteen = then-exactly (q .fifteen) (both-exactly same one);
-      given = λ z. then-exactly (q .given z) (both-exactly same one);
+      fourteen = then-exactly (q .fourteen) (or-exactly itself (both-exactly itself one));
+      fifteen = then-exactly (q .fifteen) (both-exactly itself one);
+      given = λ z. then-exactly (q .given z) (both-exactly itself one);
     }
   where
-    same : {A : Type 0} → Iff A A
-    same = ((λ x. x), (λ x. x))
-
     one : {A B : Type 0} → Iff (Own degrees page × A) ((Own degrees page × A) ⊎ (Own tenths page × B))
     one {A} {B} = (inl, back)
       where
@@ -105,15 +99,12 @@ of-101 page a k q =
 of-102 : (page : List ℕ) (a : Answered) → No (Own degrees page) → ReadAs tenths page a → ReadAsEither page a
 of-102 page a n q =
     record {
-      thirteen = then-exactly (q .thirteen) (both-exactly same ((λ m. (n, m)), (λ p. p .1)));
-      fourteen = then-exactly (q .fourteen) (or-exactly same (both-exactly same other));
-      fifteen = then-exactly (q .fifteen) (both-exactly same other);
-      given = λ z. then-exactly (q .given z) (both-exactly same other);
+      thirteen = then-exactly (q .thirteen) (both-exactly itself ((λ m. (n, m)), (λ p. p .1)));
+      fourteen = then-exactly (q .fourteen) (or-exactly itself (both-exactly itself other));
+      fifteen = then-exactly (q .fifteen) (both-exactly itself other);
+      given = λ z. then-exactly (q .given z) (both-exactly itself other);
     }
   where
-    same : {A : Type 0} → Iff A A
-    same = ((λ x. x), (λ x. x))
-
     other : {A B : Type 0} → Iff (Own tenths page × B) ((Own degrees page × A) ⊎ (Own tenths page × B))
     other {A} {B} = (inr, back)
       where
@@ -150,7 +141,7 @@ module _ (f : Form) (v : ℤ) (page : List ℕ) where
           record {
             fourteen = then-exactly (wrote-14 s (allowed f v)) (unequal-exactly (length page) pageSize);
             fifteen = then-exactly (wrote-15 s (allowed f v)) (both-exactly (equal-exactly (length page) pageSize) (no-exactly (allowed f v)));
-            written-to = then-exactly (wrote-well s (allowed f v)) (both-exactly (equal-exactly (length page) pageSize) ((λ t. t), (λ t. t)));
+            written-to = then-exactly (wrote-well s (allowed f v)) (both-exactly (equal-exactly (length page) pageSize) itself);
             no-thirteen = wrote-13 s (allowed f v);
           }
 

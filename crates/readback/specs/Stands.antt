@@ -1,5 +1,5 @@
 -- Document 02, M-109: "minus one tenth is FFFFh in kind 102". What a byte and a pair of bytes stand for.
-use Prim.Native.Nat.{ℕ, suc, _+_, _-_, _<_, _≤_}
+use Prim.Native.Nat.{ℕ, suc, _+_, _-_, _^_, _<_, _≤_}
 use native.Mathlib.Omega.{arith}
 use mathlib.Core.Bool.{Bool, true, false, cond}
 use mathlib.Core.Path.{_≡_, refl, _∙_, ap, sym, subst}
@@ -9,7 +9,7 @@ use lib.Dec.{ltb}
 use lib.IntN.{ℤ, pos, negsuc, subℕ}
 use borrow.Author.Tests.{ltb-true, ltb-false}
 use Rattle.base.specs.Pick.{pick, pick-if}
-use Rattle.setpoints.specs.Signed.{signed}
+use Rattle.setpoints.specs.Signed.{signed, unsigned}
 use Rattle.setpoints.proofs as setpoints
 
 -- n, below two halves, stands for z: z is from −half to half − 1, and is n, or n less both halves
@@ -49,6 +49,17 @@ signed-byte κs b r h c = subst (Stands 0x80 b) (sym c) (signed-byte-is b h)
 pub signed-pair : (κs : Lfts 0) (n : ℕ) (r : ℤ) → n < 0x10000
     → setpoints.signed_pair.Reads.Learnt κs (n, tt) r (atExit setpoints.signed_pair.ended κs (n, tt) (tt, tt)) → Stands 0x8000 n r
 signed-pair κs n r h c = subst (Stands 0x8000 n) (sym c) (signed-pair-is n h)
+
+-- THEOREM: and the number that stands for it is the byte, or the pair, again
+back : (bytes half n : ℕ) (z : ℤ) → 256 ^ bytes ≡ half + half → Stands half n z → unsigned bytes z ≡ n
+back bytes half n (pos m) e s = sym (s .1)
+back bytes half n (negsuc m) e (h, d) = omega arith
+
+pub byte-back : (b : ℕ) → b < 0x100 → unsigned 1 (signed 1 b) ≡ b
+byte-back b h = back 1 0x80 b (signed 1 b) refl (signed-byte-is b h)
+
+pub pair-back : (n : ℕ) → n < 0x10000 → unsigned 2 (signed 2 n) ≡ n
+pair-back n h = back 2 0x8000 n (signed 2 n) refl (signed-pair-is n h)
 
 -- FFh and FFFFh are minus one, "not .. 65,535"
 pub minus-one : (signed 1 0xFF ≡ negsuc 0) × (signed 2 0xFFFF ≡ negsuc 0)

@@ -5,25 +5,9 @@ use mathlib.Core.Bool.{Bool, true, false, true≢false}
 use mathlib.Core.Logic.{_⊎_, inl, inr}
 use mathlib.Core.Path.{_≡_, refl, ap, sym}
 use lib.IntN.{ℤ, pos}
-use Rattle.base.specs.Exactly.{Iff, apart, by-else, by-first, by-then, by-neither}
+use Rattle.base.specs.Exactly.{Iff, No, apart, by-else, by-first, by-then, by-neither}
 use Rattle.base.specs.Pick.{pick}
 use Rattle.setpoints.specs.Pages.{Answered, setpoint, written, refused}
-use Rattle.readback.specs.Refusals.{No}
-
-pub no-exactly : (t : Bool) → Iff (t ≡ false) (No (t ≡ true))
-no-exactly true = ((λ e. absurd (true≢false e)), (λ n. absurd (n refl)))
-no-exactly false = ((λ e f. true≢false (sym f)), (λ n. refl))
-
-pub or-exactly : {A B C D : Type 0} → Iff A C → Iff B D → Iff (A ⊎ B) (C ⊎ D)
-or-exactly {A} {B} {C} {D} i j = (there, back)
-  where
-    there : A ⊎ B → C ⊎ D
-    there (inl a) = inl (i .0 a)
-    there (inr b) = inr (j .0 b)
-
-    back : C ⊎ D → A ⊎ B
-    back (inl c) = inl (i .1 c)
-    back (inr d) = inr (j .1 d)
 
 -- an answer by a number, which tells the answers apart
 code : Answered → ℕ

@@ -11,7 +11,7 @@ pub struct Input {
 // The most that is read: one byte more than a page has, so that a page is told from what only begins with one.
 pub const BYTES_MOST: usize = setpoints::PAGE_SIZE + 1;
 
-// Whether a read failed, which is told in the system's words.
+// Whether a read failed; if so, that is told in the system's words.
 fn is_failed(got: isize) -> bool {
     if got < 0 {
         os::fail(b"standard input");

@@ -3,7 +3,6 @@
 mod input;
 mod words;
 
-use input::Input;
 use libc::STDERR_FILENO;
 use libc::STDOUT_FILENO;
 use numerals::Numeral;
@@ -59,8 +58,8 @@ fn is_page_written(answer: Writing, page: &[u8]) -> bool {
     }
 }
 
-// Says so where the answer could not be written.
-fn say_written(done: bool) {
+// Where an answer could not be written, that is told in the system's words.
+fn tell_unwritten(done: bool) {
     if !done {
         os::fail(b"standard output");
     }
@@ -80,7 +79,7 @@ fn read(reader: Reader) {
         Reader::Kind101 => setpoints::read_101(page),
         Reader::Kind102 => setpoints::read_102(page),
     };
-    say_written(is_reading_written(answer));
+    tell_unwritten(is_reading_written(answer));
 }
 
 // Reads the page, and writes what its writer answers.
@@ -96,7 +95,7 @@ fn write(writer: Writer, value: i64) {
         Writer::Kind101 => setpoints::write_101(page, value),
         Writer::Kind102 => setpoints::write_102(page, value),
     };
-    say_written(is_page_written(answer, page));
+    tell_unwritten(is_page_written(answer, page));
 }
 
 fn main() {

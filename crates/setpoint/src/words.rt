@@ -22,8 +22,8 @@ pub enum Command {
     Unknown,
 }
 
-// Room for a word: one byte more than the longest has, so that none is cut to one.
-pub const WORD_MOST: usize = 9;
+// Room for a word: what does not fit is none.
+pub const WORD_MOST: usize = 8;
 
 // Two texts are the same.
 fn is_same(a: &[u8], b: &[u8]) -> bool {
@@ -60,12 +60,12 @@ pub fn command_of(word: &[u8]) -> Command {
     Command::Unknown
 }
 
-// The longest argument that the system hands over.
-pub const VALUE_MOST: usize = 131072;
+// Room for the longest argument that Linux hands over: 32 pages of its memory, which have 64 KiB at most.
+pub const VALUE_MOST: usize = 2097152;
 
-// Room for it.
+// Room for a value.
 pub fn value_room() -> [u8; VALUE_MOST]
-    ensures { λ r. ⌜ 131072 ≤ length r ⌝ }
+    ensures { λ r. ⌜ 2097152 ≤ length r ⌝ }
 {
     [0; VALUE_MOST]
 }

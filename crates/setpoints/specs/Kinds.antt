@@ -9,8 +9,8 @@ use Rattle.setpoints.specs.declared.Kind.the-variants.{Degrees, Tenths}
 use Rattle.setpoints.specs.declared.Fault.{Fault}
 use Rattle.setpoints.specs.declared.Fault.the-variants.{AnotherKind, WrongLength, OutOfRange}
 
--- what a kind says of its records: its number, how many bytes a value has, the least and the most that is allowed, and what one is worth in tenths
--- of a degree
+-- what a kind says of its records: its number, how many bytes a value has, the least and the most that is allowed, and what one of its units is worth
+-- in tenths of a degree
 pub record Form : Type 0 where
   pub kind : ℕ
   pub bytes : ℕ
@@ -30,7 +30,7 @@ abbrev pub formOf : Kind → Form
 formOf Degrees = degrees
 formOf Tenths = tenths
 
--- a number lies between two others, "both ends included"
+-- a number lies between two others, or is one of them
 unfoldable pub between : ℤ → ℤ → ℤ → Bool
 between least v most = both (leZ least v) (leZ v most)
 

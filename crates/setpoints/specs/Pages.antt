@@ -19,13 +19,14 @@ use Rattle.setpoints.specs.declared.Writing.the-variants as writing
 abbrev pub pageSize : ℕ
 pageSize = 32
 
--- the length that the record at the page's first byte gives, "counting kind and body", and its kind; its body begins after them
+-- the length that the record at the page's first byte gives, which counts kind and body, and its kind
 abbrev pub lengthIn : List ℕ → ℕ
 lengthIn page = numberAt page 0 2
 
 abbrev pub kindIn : List ℕ → ℕ
 kindIn page = numberAt page 2 2
 
+-- the length of a record of that form: its kind and its value
 abbrev pub lengthOf : Form → ℕ
 lengthOf f = f .bytes + 2
 
@@ -97,7 +98,7 @@ write102 = writePage tenths
 
 -- ---- what an answer says
 
--- the tenths, or the number of a refusal
+-- a setpoint in tenths, that a page was written, or the number of a refusal
 pub data Answered : Type 0 where
   setpoint : ℤ → Answered
   written : Answered

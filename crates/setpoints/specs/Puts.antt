@@ -4,16 +4,15 @@ use native.Mathlib.Omega.{arith}
 use mathlib.Core.Bool.{Bool, true, false}
 use mathlib.Core.List.{List, [], _∷_, _++_}
 use mathlib.Core.Path.{_≡_, refl, _∙_, ap, sym}
-use lib.IntN.{ℤ, natAbs}
+use lib.IntN.{ℤ, pos, natAbs}
 use lib.ListN.{length, drop, set}
 use borrow.Author.Tests.{eq-eqb, ne-eqb}
 use mir.Syntax.{w64}
 use mir.Val.{SFits, toZ, ofZ}
 use mir.ValLaws.{toZ-ofZ}
 use Rattle.base.specs.Pick.{pick-true, pick-false}
-use Rattle.setpoints.specs.Signed.{unsigned}
 use Rattle.setpoints.specs.Kinds.{Form, formOf, allowed}
-use Rattle.setpoints.specs.Pages.{pageSize, lengthOf, bytesOf, wrote, writePage}
+use Rattle.setpoints.specs.Pages.{pageSize, lengthOf, recordOf, wrote, writePage}
 use Rattle.setpoints.specs.Judging.{allowed-few, is-allowed}
 use Rattle.setpoints.specs.declared.Fault.the-variants.{WrongLength, OutOfRange}
 use Rattle.setpoints.specs.declared.Kind.{Kind}
@@ -48,13 +47,9 @@ module _ (kind : Kind) (n : ℕ) (s : List ℕ) (p : List ℕ) (h : p ≡ putHea
   pub put-tenths : kind ≡ Tenths → putBytes 2 4 n p ≡ putRecord (formOf kind) n s
   put-tenths e = after-head Tenths e
 
--- the bytes of a record with a number
-abbrev recordWith : Form → ℕ → List ℕ
-recordWith f n = bytesOf 2 (lengthOf f) ++ (bytesOf 2 (f .kind) ++ bytesOf (f .bytes) n)
-
 -- on a page that is the record, and then what stood behind it
 pub put-is : (kind : Kind) (n : ℕ) (s : List ℕ) → length s ≡ pageSize
-    → putRecord (formOf kind) n s ≡ recordWith (formOf kind) n ++ drop (4 + formOf kind .bytes) s
+    → putRecord (formOf kind) n s ≡ recordOf (formOf kind) (pos n) ++ drop (4 + formOf kind .bytes) s
 unfolding putRecord
 put-is Degrees n (a ∷ b ∷ c ∷ d ∷ e ∷ s) h = refl
 put-is Tenths n (a ∷ b ∷ c ∷ d ∷ e ∷ f ∷ s) h = refl
@@ -80,7 +75,6 @@ module _ (kind : Kind) (v : ℤ) (page : List ℕ) where
     unfolding writePage
     wrote-record q t h =
         let p = allowed-few kind v (is-allowed kind v r f a ∙ t) in
-        let n : natAbs (toZ w64 (ofZ w64 v)) ≡ unsigned (formOf kind .bytes) v
-        = ap natAbs (toZ-ofZ w64 v f) ∙ ap (unsigned (formOf kind .bytes)) (p .0) in
-        ap (wrote Written) (h ∙ put-is kind _ page e ∙ ap (λ (k : ℕ). recordWith (formOf kind) k ++ drop (4 + formOf kind .bytes) page) n)
+        let z : pos (natAbs (toZ w64 (ofZ w64 v))) ≡ v = ap (λ (x : ℤ). pos (natAbs x)) (toZ-ofZ w64 v f) ∙ p .0 in
+        ap (wrote Written) (h ∙ put-is kind _ page e ∙ ap (λ (x : ℤ). recordOf (formOf kind) x ++ drop (4 + formOf kind .bytes) page) z)
         ∙ sym (pick-true _ _ _ (eq-eqb (length page) pageSize e) ∙ pick-true _ _ _ (is-allowed kind v r f a ∙ t))

@@ -39,7 +39,7 @@ module _ (f : Form) (page : List ℕ) (e : length page ≡ pageSize) where
   unfolding readRecord
   whole-record q r = sym (pick-true _ _ _ (eq-eqb (lengthIn page) (lengthOf f) r)) ∙ own-kind q
 
--- the common reader is that of the record's own kind, and any other answers as it does of neither
+-- of kind 101 the common reader answers as that of kind 101, and of any other as that of kind 102
 module _ (page : List ℕ) where
   same-on : (fs gs : List Form) → readAmong fs page ≡ readAmong gs page → readPage fs page ≡ readPage gs page
   unfolding readPage

@@ -24,7 +24,7 @@ pub fn length(kind: Kind) -> u16
     }
 }
 
-// A number lies between two others, both included.
+// A number lies between two others, or is one of them.
 fn is_between(least: i64, v: i64, most: i64) -> bool
     ensures { λ r. ⌜ r ≡ between least v most ⌝ }
 {

@@ -19,7 +19,7 @@ pub struct Said {
     pub kind: u16,
 }
 
-// What the page's record gives; a page has both, so what stands for a shorter one is never judged.
+// What the page's record gives. A page has both; what stands for a shorter one makes no difference.
 fn said_in(page: &[u8]) -> Said
     ensures { λ r. ⌜ r ≡ saidIn (now (page .entry)) ⌝ }
 {
