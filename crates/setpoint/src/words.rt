@@ -60,12 +60,12 @@ pub fn command_of(word: &[u8]) -> Command {
     Command::Unknown
 }
 
-// Room for the longest argument that Linux hands over: 32 pages of its memory, which have 64 KiB at most.
-pub const VALUE_MOST: usize = 2097152;
+// Room for the longest argument that Linux hands over on x86-64, which has 131,071 characters.
+pub const VALUE_MOST: usize = 131072;
 
 // Room for a value.
 pub fn value_room() -> [u8; VALUE_MOST]
-    ensures { λ r. ⌜ 2097152 ≤ length r ⌝ }
+    ensures { λ r. ⌜ 131072 ≤ length r ⌝ }
 {
     [0; VALUE_MOST]
 }
