@@ -1,4 +1,4 @@
--- Laws: values that are allowed, as words hold them; and what is written of them.
+-- Laws: values that are allowed, as words of 64 bits hold them, and their setpoints.
 use Prim.Native.Nat.{ℕ, suc, _*_, _≤_}
 use native.Mathlib.Omega.{arith}
 use mathlib.Core.Bool.{Bool, true, false, true≢false}
