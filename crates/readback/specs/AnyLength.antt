@@ -86,6 +86,6 @@ pub any-length-102 : (text : List ℕ) (z v : ℤ) (page after : List ℕ) (a : 
 any-length-102 text z v page after a e c d =
     wrote-by-102 v page a after d ∙ ap (λ (x : ℤ). write102 x page) (told-number text z v e c) ∙ capped-alike Tenths z page
 
--- THEOREM: a number is read exactly of a text that says one
-pub no-number : (text : List ℕ) (r : Numeral) → NumberCall text r → r ≡ numeralBy (said text)
-no-number text r c = c .permits ∙ ap numeralOf (c .from-bytes)
+-- THEOREM: what is read of every text is what it says, capped, or that it says no number
+pub text-told : (text : List ℕ) (r : Numeral) → NumberCall text r → r ≡ numeralBy (said text)
+text-told text r c = c .permits ∙ ap numeralOf (c .from-bytes)
