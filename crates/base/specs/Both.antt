@@ -14,6 +14,11 @@ unfolding both pick
 both-true true = refl
 both-true false = refl
 
+pub both-false : (a : Bool) → both a false ≡ false
+unfolding both pick
+both-false true = refl
+both-false false = refl
+
 pub true-both : (a : Bool) → both true a ≡ a
 unfolding both pick
 true-both a = refl

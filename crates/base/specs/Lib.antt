@@ -7,4 +7,6 @@ pub mod Parts
 pub mod Fill
 pub mod Both
 pub mod Same
+pub mod Bytes
+pub mod BytesLaw
 pub mod Along

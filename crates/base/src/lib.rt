@@ -3,6 +3,7 @@ ghost use mathlib.Core.Path.{_≡_};
 ghost use lib.ListN.{length, getD, set, replicate};
 ghost use Rattle.base.specs.Bits.{bitOf, same, both, filled};
 ghost use Rattle.base.specs.Parts.{partByte, putInPart};
+ghost use Rattle.base.specs.Bytes.{sameBytes};
 
 // Bit k of a number; past the 64th there is none.
 pub fn bit_of(n: u64, k: u8) -> bool
@@ -68,6 +69,22 @@ pub fn fill(s: &mut [u8], b: u8)
         s[i] = b;
         i += 1;
     }
+}
+
+// Two runs of bytes are the same.
+pub fn same_bytes(a: &[u8], b: &[u8]) -> bool
+    ensures { λ r. ⌜ r ≡ sameBytes (now (a .entry)) (now (b .entry)) ⌝ }
+{
+    if a.len() != b.len() {
+        return false;
+    }
+    let mut same = true;
+    let mut i: usize = 0;
+    while i < a.len() {
+        same = are_both(same, a[i] == b[i]);
+        i += 1;
+    }
+    same
 }
 
 // The byte i of the part of a slice that begins at an offset and has a size; 0 past its end, and where it does not lie in

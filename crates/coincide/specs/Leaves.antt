@@ -34,6 +34,9 @@ base-put-at κs a x y v w p q = (refl, λ i. ((p ∙ sym q) i, w .1))
 pub base-fill : Settled base.fill.ended base.fill.Reads.Learnt
 base-fill κs a x y v w p q = (refl, λ i. ((p ∙ sym q) i, w .1))
 
+pub base-same-bytes : Settled base.same_bytes.ended base.same_bytes.Reads.Learnt
+base-same-bytes κs a x y v w p q = (p ∙ sym q, refl)
+
 pub base-part-byte : Settled base.part_byte.ended base.part_byte.Reads.Learnt
 base-part-byte κs a x y v w p q = (p ∙ sym q, refl)
 

@@ -12,10 +12,11 @@ use borrow.Author.Tests.{eq-eqb, ne-eqb, le-leb, lt-leb}
 use Rattle.base.specs.Pick.{pick, pick-true, pick-false}
 use Rattle.base.specs.Bits.{both}
 use Rattle.base.specs.Both.{both-assoc, true-both}
+use Rattle.base.specs.Bytes.{sameBytes}
 use Rattle.chip.specs.declared.Chip.{Chip}
 use Rattle.chip.specs.With.{noChip}
 use Rattle.line.specs.declared.Table.{Table}
-use Rattle.packed.specs.Packed.{recordSize, packed, unpacked, sameBytes, packedTable, unpackedFrom, unpackedTable, isTable, putRecord, tableFrom, putTable}
+use Rattle.packed.specs.Packed.{recordSize, packed, unpacked, packedTable, unpackedFrom, unpackedTable, isTable, putRecord, tableFrom, putTable}
 use Rattle.packed.specs.Laws.{packed-length, table-length, from-length}
 
 -- two runs, each of two parts of the same lengths

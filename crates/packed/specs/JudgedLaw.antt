@@ -10,12 +10,13 @@ use lib.Seq.{drop-cons}
 use borrow.Author.Tests.{eqb-true, leb-true, le-leb}
 use Rattle.base.specs.Bits.{both}
 use Rattle.base.specs.Both.{both-holds}
+use Rattle.base.specs.Bytes.{sameBytes}
 use Rattle.base.specs.Pick.{pick}
 use Rattle.chip.specs.Range.{inRange}
 use Rattle.records.specs.Numbers.{numberAt}
 use Rattle.packed.specs.declared.Step.{Step}
 use Rattle.packed.specs.Step.{step, flag, levelPacked, levelUnpacked}
-use Rattle.packed.specs.Packed.{recordSize, bytesOf, stepAt, packedWith, packed, unpacked, sameBytes, isRecord}
+use Rattle.packed.specs.Packed.{recordSize, bytesOf, stepAt, packedWith, packed, unpacked, isRecord}
 use Rattle.packed.specs.Laws.{same-true, same-refl, packed-length}
 use Rattle.packed.specs.Limits.{stepStands}
 use Rattle.packed.specs.LimitsLaw.{holds-both, flag-is, flag-small, step-back}

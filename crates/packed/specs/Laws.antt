@@ -11,9 +11,10 @@ use borrow.Author.Tests.{eqb-true, eq-eqb}
 use Rattle.base.specs.Pick.{pick}
 use Rattle.base.specs.Bits.{both}
 use Rattle.base.specs.Both.{both-holds}
+use Rattle.base.specs.Bytes.{sameBytes}
 use Rattle.chip.specs.declared.Chip.{Chip}
 use Rattle.packed.specs.Step.{flag-back, step, levelPacked, levelUnpacked, level-back}
-use Rattle.packed.specs.Packed.{recordSize, packed, unpacked, sameBytes, isRecord, packedTable, unpackedFrom, unpackedTable, isTable}
+use Rattle.packed.specs.Packed.{recordSize, packed, unpacked, isRecord, packedTable, unpackedFrom, unpackedTable, isTable}
 
 -- a number is found again from its bytes
 abbrev pub fromBytes : ℕ → ℕ → ℕ

@@ -1,7 +1,7 @@
 pub mod Step
 pub mod Packed
 pub mod Laws
-pub mod Loops
+pub mod Puts
 pub mod Filling
 pub mod Places
 pub mod Within

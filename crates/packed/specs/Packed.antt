@@ -1,11 +1,11 @@
 -- include/toemsakun.h, "A chip's record": a chip as a run of bytes, numbers with the low byte first, and a table as a run of records.
 use Prim.Native.Nat.{ℕ, zero, suc, _-_, _*_, _/_, _%_}
-use mathlib.Core.Bool.{Bool, true, false}
+use mathlib.Core.Bool.{Bool}
 use mathlib.Core.List.{List, [], _∷_, _++_}
 use lib.Dec.{eqb, leb}
 use lib.ListN.{length, take, drop, getD, replicate}
 use Rattle.base.specs.Pick.{pick}
-use Rattle.base.specs.Bits.{both}
+use Rattle.base.specs.Bytes.{sameBytes}
 use Rattle.chip.specs.declared.Chip.{Chip}
 use Rattle.line.specs.declared.Table.{Table}
 use Rattle.records.specs.Numbers.{numberAt}
@@ -49,13 +49,6 @@ unpacked bs = record {
   registers = record { t = numberAt bs 10 2; es = getD bs 12 0 };
   switch = record { latches = getD bs 13 0; outside = getD bs 14 0 };
 }
-
--- two runs of bytes are the same
-unfoldable pub sameBytes : List ℕ → List ℕ → Bool
-sameBytes [] [] = true
-sameBytes [] (y ∷ ys) = false
-sameBytes (x ∷ xs) [] = false
-sameBytes (x ∷ xs) (y ∷ ys) = both (eqb x y) (sameBytes xs ys)
 
 -- bytes are a record where packing what they stand for gives them again: so none has a byte that must be 0 and is not, a step
 -- that is not in the table, or a flag over 1

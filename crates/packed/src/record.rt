@@ -8,8 +8,9 @@ use scratchpad::Registers;
 ghost use mathlib.Core.Path.{_≡_};
 ghost use Prim.Native.Nat.{_<_, _≤_};
 ghost use lib.ListN.{length, getD};
+ghost use Rattle.base.specs.Bytes.{sameBytes};
 ghost use Rattle.records.specs.Numbers.{numberAt};
-ghost use Rattle.packed.specs.Packed.{recordSize, stepAt, packedWith, packed, unpacked, sameBytes, putRecord};
+ghost use Rattle.packed.specs.Packed.{recordSize, stepAt, packedWith, packed, unpacked, putRecord};
 
 // The bytes of a chip's record, by the step that its level is.
 fn bytes_of(c: Chip, s: Step) -> [u8; RECORD_SIZE]
@@ -135,28 +136,12 @@ pub fn unpack(s: &[u8]) -> Chip
     unpack_whole(&whole)
 }
 
-// Two runs of bytes are the same.
-fn same_bytes(a: &[u8], b: &[u8]) -> bool
-    ensures { λ r. ⌜ r ≡ sameBytes (now (a .entry)) (now (b .entry)) ⌝ }
-{
-    if a.len() != b.len() {
-        return false;
-    }
-    let mut same = true;
-    let mut i: usize = 0;
-    while i < a.len() {
-        same = base::are_both(same, a[i] == b[i]);
-        i += 1;
-    }
-    same
-}
-
 // Bytes are the record of a chip.
 pub fn is_packed(c: Chip, s: &[u8]) -> bool
     ensures { λ r. ⌜ r ≡ sameBytes (packed c) (now (s .entry)) ⌝ }
 {
     let r = pack(c);
-    same_bytes(&r, s)
+    base::same_bytes(&r, s)
 }
 
 // A chip's record put in the first bytes; where there are fewer, nothing is put.

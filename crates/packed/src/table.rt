@@ -9,7 +9,8 @@ ghost use Prim.Native.Nat.{_*_, _≤_};
 ghost use lib.ListN.{length, drop};
 ghost use Rattle.base.specs.Pick.{pick};
 ghost use Rattle.base.specs.Bits.{both};
-ghost use Rattle.packed.specs.Packed.{recordSize, sameBytes, packedTable, unpackedFrom, tableFrom, putTable};
+ghost use Rattle.base.specs.Bytes.{sameBytes};
+ghost use Rattle.packed.specs.Packed.{recordSize, packedTable, unpackedFrom, tableFrom, putTable};
 
 // The chips that the first n records stand for in the first places of a table, and whether the records are what these pack to.
 fn fill(bytes: &[u8], t: Table, n: usize) -> Unpacked

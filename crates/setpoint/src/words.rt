@@ -25,36 +25,21 @@ pub enum Command {
 // Room for a word: what does not fit is none.
 pub const WORD_MOST: usize = 8;
 
-// Two texts are the same.
-fn is_same(a: &[u8], b: &[u8]) -> bool {
-    if a.len() != b.len() {
-        return false;
-    }
-    let mut i: usize = 0;
-    while i < a.len() {
-        if base::byte_at(a, i) != base::byte_at(b, i) {
-            return false;
-        }
-        i += 1;
-    }
-    true
-}
-
 // The command that a word names.
 pub fn command_of(word: &[u8]) -> Command {
-    if is_same(word, b"read") {
+    if base::same_bytes(word, b"read") {
         return Command::Read(Reader::Either);
     }
-    if is_same(word, b"read101") {
+    if base::same_bytes(word, b"read101") {
         return Command::Read(Reader::Kind101);
     }
-    if is_same(word, b"read102") {
+    if base::same_bytes(word, b"read102") {
         return Command::Read(Reader::Kind102);
     }
-    if is_same(word, b"write101") {
+    if base::same_bytes(word, b"write101") {
         return Command::Write(Writer::Kind101);
     }
-    if is_same(word, b"write102") {
+    if base::same_bytes(word, b"write102") {
         return Command::Write(Writer::Kind102);
     }
     Command::Unknown

@@ -11,6 +11,7 @@ use lib.Seq.{drop-drop}
 use Rattle.base.specs.Pick.{pick}
 use Rattle.base.specs.Bits.{both}
 use Rattle.base.specs.Both.{both-true, true-both}
+use Rattle.base.specs.Bytes.{sameBytes}
 use Rattle.chip.specs.Kinds.{imageMost, padMost, imageSize, padSize}
 use Rattle.chip.specs.Limits.{image-small, pad-small}
 use Rattle.chip.specs.Range.{inRange}
@@ -19,7 +20,7 @@ use Rattle.chip.specs.declared.Chip.{Chip}
 use Rattle.line.specs.Event.{allInRange}
 use Rattle.line.specs.Layout.{imagesSize, padsSize}
 use Rattle.line.specs.declared.Survey.{Survey}
-use Rattle.packed.specs.Packed.{recordSize, packed, unpacked, sameBytes, isRecord, packedTable, unpackedFrom, unpackedTable, isTable}
+use Rattle.packed.specs.Packed.{recordSize, packed, unpacked, isRecord, packedTable, unpackedFrom, unpackedTable, isTable}
 use Rattle.packed.specs.Judged.{stands}
 use Rattle.packed.specs.Laws.{from-length}
 use Rattle.packed.specs.Filling.{one-chip, one-judged, rest-none}

@@ -4,7 +4,7 @@ use Rattle.packed.proofs.record.is_packed.Tie as tie
 use Rattle.packed.proofs.record.is_packed.Reads as reads
 use Rattle.packed.proofs.record.is_packed.Lts as lts
 use Rattle.packed.proofs.record.pack.Reads as pack-reads
-use Rattle.packed.proofs.record.same_bytes.Reads as same-bytes-reads
+use Rattle.base.proofs.same_bytes.Reads as same-bytes-reads
 
 -- src/record.rt:158:13
 pack-requires : tie.Need-pack-requires

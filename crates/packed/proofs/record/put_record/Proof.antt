@@ -1,4 +1,4 @@
-use Rattle.packed.specs.Loops.{record-put, record-left}
+use Rattle.packed.specs.Puts.{record-put, record-left}
 use borrow.Author.Needs.{needs}
 use Rattle.packed.proofs.record.put_record.Statement.{statement}
 use Rattle.packed.proofs.record.put_record.Tie as tie

@@ -1,5 +1,5 @@
 use mathlib.Core.Path.{_∙_}
-use Rattle.packed.specs.Loops.{zeros-unpacked}
+use Rattle.packed.specs.Puts.{zeros-unpacked}
 use borrow.Author.Needs.{needs}
 use Rattle.packed.proofs.record.unpack.Statement.{statement}
 use Rattle.packed.proofs.record.unpack.Tie as tie
