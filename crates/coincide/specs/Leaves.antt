@@ -1,4 +1,4 @@
--- Two outcomes that a contract permits are the same: of base, crc, records, numerals and setpoints the functions whose contract gives the answer, or the one thing that
+-- Two outcomes that a contract permits are the same: of base, crc, records, numerals, setpoints and console the functions whose contract gives the answer, or the one thing that
 -- is changed, by an equation. Written by tools/ties.
 use mathlib.Core.Path.{refl, _∙_, sym}
 use Rattle.base.proofs as base
@@ -6,6 +6,7 @@ use Rattle.crc.proofs as crc
 use Rattle.records.proofs as records
 use Rattle.numerals.proofs as numerals
 use Rattle.setpoints.proofs as setpoints
+use Rattle.console.proofs as console
 use Rattle.coincide.specs.Settled.{Settled}
 
 -- base
@@ -116,3 +117,26 @@ setpoints-signed-byte κs a x y v w p q = (p ∙ sym q, refl)
 
 pub setpoints-signed-pair : Settled setpoints.signed_pair.ended setpoints.signed_pair.Reads.Learnt
 setpoints-signed-pair κs a x y v w p q = (p ∙ sym q, refl)
+
+-- console
+
+pub console-turns-left : Settled console.turns_left.ended console.turns_left.Reads.Learnt
+console-turns-left κs a x y v w p q = (p .0 ∙ sym (q .0), refl)
+
+pub console-count-on : Settled console.count_on.ended console.count_on.Reads.Learnt
+console-count-on κs a x y v w p q = (p ∙ sym q, refl)
+
+pub console-argument-room : Settled console.argument_room.ended console.argument_room.Reads.Learnt
+console-argument-room κs a x y v w p q = (p .0 ∙ sym (q .0), refl)
+
+pub console-say-line : Settled console.say_line.ended console.say_line.Reads.Learnt
+console-say-line κs a x y v w p q = (refl, refl)
+
+pub console-say-refused : Settled console.say_refused.ended console.say_refused.Reads.Learnt
+console-say-refused κs a x y v w p q = (refl, refl)
+
+pub console-input-nothing : Settled console.input.nothing.ended console.input.nothing.Reads.Learnt
+console-input-nothing κs a x y v w p q = (p ∙ sym q, refl)
+
+pub console-input-within : Settled console.input.within.ended console.input.within.Reads.Learnt
+console-input-within κs a x y v w p q = (p .0 ∙ sym (q .0), refl)

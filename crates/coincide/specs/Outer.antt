@@ -101,6 +101,3 @@ terminal-image-room κs a x y v w p q = (p .0 ∙ sym (q .0), refl)
 
 pub terminal-pad-room : Settled terminal.pad_room.ended terminal.pad_room.Reads.Learnt
 terminal-pad-room κs a x y v w p q = (p .0 ∙ sym (q .0), refl)
-
-pub terminal-turns-left : Settled terminal.turns_left.ended terminal.turns_left.Reads.Learnt
-terminal-turns-left κs a x y v w p q = (p .0 ∙ sym (q .0), refl)

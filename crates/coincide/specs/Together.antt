@@ -15,6 +15,7 @@ use Rattle.recording.proofs as recording
 use Rattle.search.proofs as search
 use Rattle.packed.proofs as packed
 use Rattle.toemsakun.proofs as toemsakun
+use Rattle.console.proofs as console
 use Rattle.coincide.specs.Answered.{answered-once, slotted-once}
 use Rattle.coincide.specs.Carded.{carded-once}
 use Rattle.coincide.specs.Searched.{searched-once}
@@ -139,3 +140,7 @@ toemsakun-tk-slots κs a x y v w p q =
 pub toemsakun-tk-search : Settled toemsakun.tk_search.ended toemsakun.tk_search.Reads.Learnt
 toemsakun-tk-search κs a x y v w p q =
     let r = p ∙ sym q in (λ i. r i .answer, λ i. (r i .table, (r i .list, (r i .images, (r i .pads, (r i .resets, (r i .slots, tt)))))))
+
+-- what is at hand, and its buffer
+pub console-input-taken : Settled console.input.taken.ended console.input.taken.Reads.Learnt
+console-input-taken κs a x y v w p q = let r = p ∙ sym q in (λ i. r i .hand, λ i. (tt, (tt, (r i .buffer, tt))))

@@ -1,16 +1,24 @@
 // Plays a hall's recording from standard input on the line that its card records set up, and writes every event's bus answer as soon as
 // the record is there: one line of `0` and `1`, and after it the line of the first refusal.
-mod input;
-
-use input::BYTES_MOST;
-use input::Hand;
+use console::input;
+use console::input::Hand;
 use libc::STDERR_FILENO;
-use libc::STDOUT_FILENO;
+use libc::STDIN_FILENO;
 use line::Table;
 use recording::CardsEnding;
 use recording::Ending;
 ghost use Prim.Native.Nat.{_≤_};
 ghost use lib.ListN.{length};
+
+// The most bytes at hand: more than the longest record that can be taken has, which is 8,198.
+const BYTES_MOST: usize = 16384;
+
+// Room for them.
+fn byte_room() -> [u8; BYTES_MOST]
+    ensures { λ r. ⌜ 16384 ≤ length r ⌝ }
+{
+    [0; BYTES_MOST]
+}
 
 // The most answers to what is at hand: eight for each byte.
 const TEXT_MOST: usize = 131072;
@@ -29,14 +37,10 @@ fn text_size(bytes: usize) -> usize
     if bytes <= BYTES_MOST { 8 * bytes } else { 0 }
 }
 
-// Writes the first n characters of the text, or says why it cannot.
-fn is_written(text: &[u8], n: usize) -> bool {
+// Whether the first n characters of the text could be written; if not, that is told in the system's words.
+fn are_answers_written(text: &[u8], n: usize) -> bool {
     let m = input::within(n, text);
-    let done = io::write_all(STDOUT_FILENO, &text[..m]);
-    if !done {
-        os::fail(b"standard output");
-    }
-    done
+    console::is_written(&text[..m])
 }
 
 // Ends the line of answers, unless more is awaited, and writes the line of a refusal at an offset.
@@ -44,10 +48,10 @@ fn write_end(ending: Ending, at: u64) {
     match ending {
         Ending::Part => {}
         Ending::End => {
-            is_written(b"\n", 1);
+            console::is_written(b"\n");
         }
         Ending::Refused(f) => {
-            if is_written(b"\n", 1) {
+            if console::is_written(b"\n") {
                 terminal::say_refused(recording::number_of(f), at);
             }
         }
@@ -98,7 +102,7 @@ fn fetched(stand: Stand, awaited: bool, bytes: &mut [u8]) -> Turned {
             on: false,
         };
     }
-    let hand = input::fetch(stand.hand, bytes);
+    let hand = input::fetch(stand.hand, STDIN_FILENO, b"standard input", bytes);
     let table = stand.table;
     let after = Stand {
         hand: hand,
@@ -155,7 +159,7 @@ fn read_card(bytes: &mut [u8]) -> Carded {
     while 0 < turns {
         let stand = c.stand;
         c = card_turn(stand, bytes);
-        turns = terminal::turns_left(turns, c.on);
+        turns = console::turns_left(turns, c.on);
     }
     c
 }
@@ -178,7 +182,7 @@ fn event_turn(
     let ending = played.ending;
     let after = played.table;
     let rest = input::taken(hand, played.at, bytes);
-    let written = is_written(text, played.answers);
+    let written = are_answers_written(text, played.answers);
     if written {
         write_end(ending, rest.offset);
     }
@@ -194,11 +198,11 @@ fn play_events(s: Stand, bytes: &mut [u8], text: &mut [u8], images: &mut [u8], p
     requires { ⌜ 131072 ≤ length (now text) ⌝ }
 {
     let mut t = event_turn(s, bytes, text, images, pads);
-    let mut turns = terminal::turns_left(u64::MAX, t.on);
+    let mut turns = console::turns_left(u64::MAX, t.on);
     while 0 < turns {
         let stand = t.stand;
         t = event_turn(stand, bytes, text, images, pads);
-        turns = terminal::turns_left(turns, t.on);
+        turns = console::turns_left(turns, t.on);
     }
 }
 
@@ -227,7 +231,7 @@ fn main() {
         );
         return;
     }
-    let mut bytes = input::room();
+    let mut bytes = byte_room();
     let c = read_card(&mut bytes);
     let stand = c.stand;
     let ending = c.ending;

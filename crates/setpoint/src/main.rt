@@ -1,17 +1,19 @@
 // Reads or writes the setpoint record of the page on standard input: a reader writes the setpoint in tenths, a writer the page with its
 // new record, and either the number of a refusal.
-mod input;
 mod words;
 
+use console::input;
 use libc::STDERR_FILENO;
-use libc::STDOUT_FILENO;
+use libc::STDIN_FILENO;
 use numerals::Numeral;
-use setpoints::Fault;
 use setpoints::Reading;
 use setpoints::Writing;
 use words::Command;
 use words::Reader;
 use words::Writer;
+
+// The most that is read: one byte more than a page has, so that a page is told from what only begins with one.
+const BYTES_MOST: usize = setpoints::PAGE_SIZE + 1;
 
 // Says how the program is used.
 fn say_usage() {
@@ -21,81 +23,61 @@ fn say_usage() {
     );
 }
 
-// A line with a number, and what stands before it; whether it could be written.
-fn is_line_written(before: &[u8], n: u64) -> bool {
-    if !io::write_all(STDOUT_FILENO, before) {
-        return false;
-    }
-    if !io::print_decimal(STDOUT_FILENO, n) {
-        return false;
-    }
-    io::write_all(STDOUT_FILENO, b"\n")
-}
-
-// The line of a refusal.
-fn is_refusal_written(fault: Fault) -> bool {
-    is_line_written(b"refused ", setpoints::number_of(fault) as u64)
-}
-
-// What a reader answered.
-fn is_reading_written(answer: Reading) -> bool {
+// Writes what a reader answered.
+fn say_reading(answer: Reading) {
     match answer {
         Reading::Setpoint(tenths) => {
             if tenths < 0 {
-                return is_line_written(b"-", numerals::magnitude(tenths));
+                console::say_line(b"-", numerals::magnitude(tenths));
+            } else {
+                console::say_line(b"", numerals::magnitude(tenths));
             }
-            is_line_written(b"", numerals::magnitude(tenths))
         }
-        Reading::Refused(fault) => is_refusal_written(fault),
+        Reading::Refused(fault) => console::say_refused(setpoints::number_of(fault)),
     }
 }
 
-// What a writer answered, and the page that it left.
-fn is_page_written(answer: Writing, page: &[u8]) -> bool {
+// Writes what a writer answered: the page that it left, or the refusal.
+fn say_page(answer: Writing, page: &[u8]) {
     match answer {
-        Writing::Written => io::write_all(STDOUT_FILENO, page),
-        Writing::Refused(fault) => is_refusal_written(fault),
-    }
-}
-
-// Where an answer could not be written, that is told in the system's words.
-fn tell_unwritten(done: bool) {
-    if !done {
-        os::fail(b"standard output");
+        Writing::Written => {
+            console::is_written(page);
+        }
+        Writing::Refused(fault) => console::say_refused(setpoints::number_of(fault)),
     }
 }
 
 // Reads the page, and writes what its reader answers.
 fn read(reader: Reader) {
-    let mut bytes = [0u8; input::BYTES_MOST];
-    let input = input::read_page(&mut bytes);
-    if input.failed {
+    let mut bytes = [0u8; BYTES_MOST];
+    let hand = input::fill(STDIN_FILENO, b"standard input", &mut bytes);
+    if hand.failed {
         return;
     }
-    let n = input.bytes;
+    let n = input::within(hand.bytes, &bytes);
     let page = &bytes[..n];
     let answer = match reader {
         Reader::Either => setpoints::read_either(page),
         Reader::Kind101 => setpoints::read_101(page),
         Reader::Kind102 => setpoints::read_102(page),
     };
-    tell_unwritten(is_reading_written(answer));
+    say_reading(answer);
 }
 
 // Reads the page, and writes what its writer answers.
 fn write(writer: Writer, value: i64) {
-    let mut bytes = [0u8; input::BYTES_MOST];
-    let input = input::read_page(&mut bytes);
-    if input.failed {
+    let mut bytes = [0u8; BYTES_MOST];
+    let hand = input::fill(STDIN_FILENO, b"standard input", &mut bytes);
+    if hand.failed {
         return;
     }
-    let n = input.bytes;
+    let n = input::within(hand.bytes, &bytes);
     let page = &mut bytes[..n];
     let answer = match writer {
         Writer::Kind101 => setpoints::write_101(page, value),
         Writer::Kind102 => setpoints::write_102(page, value),
     };
-    tell_unwritten(is_page_written(answer, page));
+    say_page(answer, page);
 }
 
 fn main() {
@@ -112,7 +94,7 @@ fn main() {
         }
         Command::Write(writer) => {
             if os::arg_count() == 3 {
-                let mut text = words::value_room();
+                let mut text = console::argument_room();
                 let m = os::arg(2, &mut text);
                 let said = numerals::read_number(&text[..m]);
                 match said {

@@ -1,6 +1,4 @@
 // The words of the command line.
-ghost use Prim.Native.Nat.{_≤_};
-ghost use lib.ListN.{length};
 
 // Which records are read.
 pub enum Reader {
@@ -43,14 +41,4 @@ pub fn command_of(word: &[u8]) -> Command {
         return Command::Write(Writer::Kind102);
     }
     Command::Unknown
-}
-
-// Room for the longest argument that Linux hands over on x86-64, which has 131,071 characters.
-pub const VALUE_MOST: usize = 131072;
-
-// Room for a value.
-pub fn value_room() -> [u8; VALUE_MOST]
-    ensures { λ r. ⌜ 131072 ≤ length r ⌝ }
-{
-    [0; VALUE_MOST]
 }

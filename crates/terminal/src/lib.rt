@@ -1,14 +1,12 @@
-// What the programs share: the room that a table needs, the line that says why a card was refused, the word for the
-// check of a code, and the turns of a loop that waits for input.
+// What the programs on a line share: the room that a table needs, the line that says why a card was refused, and the word for the
+// check of a code.
 use card::CardAnswer;
 use crc::CodeCheck;
 use libc::STDOUT_FILENO;
 use line::IMAGES_MOST;
 use line::PADS_MOST;
 ghost use mathlib.Core.Path.{_≡_};
-ghost use Prim.Native.Nat.{_-_, _≤_};
 ghost use lib.ListN.{length, replicate};
-ghost use Rattle.base.specs.Pick.{pick};
 ghost use Rattle.line.specs.Layout.{imagesMost, padsMost};
 ghost use Rattle.card.specs.Card.{carded};
 ghost use Rattle.terminal.specs.Words.{isRefused, wordOf};
@@ -86,19 +84,4 @@ pub fn pad_room() -> [u8; PADS_MOST]
     ensures { λ r. ⌜ padsMost ≡ length r ⌝ }
 {
     [0xFF; PADS_MOST]
-}
-
-// The turns that are left after one: none where it was the last. A proved loop has to end, so a program that serves until its
-// input ends counts its turns down from a number that no run uses up.
-pub fn turns_left(turns: u64, on: bool) -> u64
-    ensures { λ r. ⌜ r ≡ pick on (turns - 1) 0 ⌝ }
-    ensures fewer { λ r. ⌜ r ≤ turns - 1 ⌝ }
-{
-    if on {
-        if 0 < turns {
-            return turns - 1;
-        }
-        return 0;
-    }
-    0
 }

@@ -182,7 +182,7 @@ fn serve(t: Table, input: &mut [u8], out: &mut [u8], images: &mut [u8], pads: &m
     while 0 < turns {
         let r = one_turn(s, input, out, images, pads);
         s = r.progress;
-        turns = terminal::turns_left(turns, r.on);
+        turns = console::turns_left(turns, r.on);
     }
 }
 

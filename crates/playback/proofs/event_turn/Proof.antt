@@ -7,10 +7,10 @@ use Rattle.playback.proofs.event_turn.Reads as reads
 use Rattle.playback.proofs.event_turn.Lts as lts
 use Rattle.base.proofs.are_both.Reads as are-both-reads
 use Rattle.playback.proofs.fetched.Reads as fetched-reads
-use Rattle.playback.proofs.input.taken.Reads as taken-reads
-use Rattle.playback.proofs.input.within.Reads as within-reads
+use Rattle.console.proofs.input.taken.Reads as taken-reads
+use Rattle.console.proofs.input.within.Reads as within-reads
 use Rattle.playback.proofs.is_part.Reads as is-part-reads
-use Rattle.playback.proofs.is_written.Reads as is-written-reads
+use Rattle.playback.proofs.are_answers_written.Reads as are-answers-written-reads
 use Rattle.playback.proofs.text_size.Reads as text-size-reads
 use Rattle.playback.proofs.write_end.Reads as write-end-reads
 use Rattle.recording.proofs.play.Reads as play-reads
@@ -48,8 +48,8 @@ taken-requires : tie.Need-taken-requires
 taken-requires c κs = search needs
 
 -- src/main.rt:184:9
-is-written-requires : tie.Need-is-written-requires
-is-written-requires c κs = search needs
+are-answers-written-requires : tie.Need-are-answers-written-requires
+are-answers-written-requires c κs = search needs
 
 -- src/main.rt:186:9
 write-end-requires : tie.Need-write-end-requires
@@ -99,7 +99,7 @@ event-turn-spec =
     slice-aggregate-play-2
     play-requires
     taken-requires
-    is-written-requires
+    are-answers-written-requires
     write-end-requires
     is-part-requires
     are-both-requires

@@ -6,7 +6,7 @@ use Rattle.playback.proofs.play_events.Tie as tie
 use Rattle.playback.proofs.play_events.Reads as reads
 use Rattle.playback.proofs.play_events.Lts as lts
 use Rattle.playback.proofs.event_turn.Reads as event-turn-reads
-use Rattle.terminal.proofs.turns_left.Reads as turns-left-reads
+use Rattle.console.proofs.turns_left.Reads as turns-left-reads
 
 abbrev Inv-loop : tie.InvT-loop
 Inv-loop bytes₀ text₀ images₀ pads₀ t₀ turns₀ bytes text images pads t turns = (length bytes ≡ length bytes₀) × (length text ≡ length text₀) × (length images ≡ length images₀) × (length pads ≡ length pads₀)

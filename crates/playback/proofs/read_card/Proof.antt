@@ -7,8 +7,8 @@ use Rattle.playback.proofs.read_card.Reads as reads
 use Rattle.playback.proofs.read_card.Lts as lts
 use Rattle.line.proofs.tables.blank.Reads as blank-reads
 use Rattle.playback.proofs.card_turn.Reads as card-turn-reads
-use Rattle.playback.proofs.input.nothing.Reads as nothing-reads
-use Rattle.terminal.proofs.turns_left.Reads as turns-left-reads
+use Rattle.console.proofs.input.nothing.Reads as nothing-reads
+use Rattle.console.proofs.turns_left.Reads as turns-left-reads
 
 abbrev Inv-loop : tie.InvT-loop
 Inv-loop bytes₀ c₀ turns₀ bytes c turns = length bytes ≡ length bytes₀

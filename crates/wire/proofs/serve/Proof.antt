@@ -7,7 +7,7 @@ use Rattle.wire.proofs.serve.Tie as tie
 use Rattle.wire.proofs.serve.Reads as reads
 use Rattle.wire.proofs.serve.Lts as lts
 use Rattle.wire.proofs.one_turn.Reads as one-turn-reads
-use Rattle.terminal.proofs.turns_left.Reads as turns-left-reads
+use Rattle.console.proofs.turns_left.Reads as turns-left-reads
 
 abbrev Inv-loop : tie.InvT-loop
 Inv-loop input₀ out₀ images₀ pads₀ s₀ turns₀ input out images pads s turns = (length input ≡ length input₀) × (length out ≡ length out₀) × (length images ≡ length images₀) × (length pads ≡ length pads₀)

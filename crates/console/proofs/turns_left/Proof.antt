@@ -4,10 +4,10 @@ use mathlib.Core.Path.{_≡_}
 use borrow.Author.Needs.{needs}
 use Rattle.base.specs.Rules.{cases}
 use Rattle.base.specs.Pick.{pick}
-use Rattle.terminal.proofs.turns_left.Statement.{statement}
-use Rattle.terminal.proofs.turns_left.Tie as tie
-use Rattle.terminal.proofs.turns_left.Reads as reads
-use Rattle.terminal.proofs.turns_left.Lts as lts
+use Rattle.console.proofs.turns_left.Statement.{statement}
+use Rattle.console.proofs.turns_left.Tie as tie
+use Rattle.console.proofs.turns_left.Reads as reads
+use Rattle.console.proofs.turns_left.Lts as lts
 
 -- src/lib.rt:99:20
 sub-result : tie.Need-sub-result

@@ -1,0 +1,4 @@
+pub mod Counting
+pub mod Room
+pub mod Input
+pub mod InputLaw
