@@ -1,4 +1,4 @@
--- Two outcomes that a contract permits are the same: of base, crc, records, numerals, setpoints and console the functions whose contract gives the answer, or the one thing that
+-- Two outcomes that a contract permits are the same: of base, crc, records, numerals, setpoints, intelhex and console the functions whose contract gives the answer, or the one thing that
 -- is changed, by an equation. Written by tools/ties.
 use mathlib.Core.Path.{refl, _∙_, sym}
 use Rattle.base.proofs as base
@@ -6,6 +6,7 @@ use Rattle.crc.proofs as crc
 use Rattle.records.proofs as records
 use Rattle.numerals.proofs as numerals
 use Rattle.setpoints.proofs as setpoints
+use Rattle.intelhex.proofs as intelhex
 use Rattle.console.proofs as console
 use Rattle.coincide.specs.Settled.{Settled}
 
@@ -117,6 +118,14 @@ setpoints-signed-byte κs a x y v w p q = (p ∙ sym q, refl)
 
 pub setpoints-signed-pair : Settled setpoints.signed_pair.ended setpoints.signed_pair.Reads.Learnt
 setpoints-signed-pair κs a x y v w p q = (p ∙ sym q, refl)
+
+-- intelhex
+
+pub intelhex-number-of : Settled intelhex.number_of.ended intelhex.number_of.Reads.Learnt
+intelhex-number-of κs a x y v w p q = (p ∙ sym q, refl)
+
+pub intelhex-blank-image : Settled intelhex.blank_image.ended intelhex.blank_image.Reads.Learnt
+intelhex-blank-image κs a x y v w p q = (p .0 ∙ sym (q .0), refl)
 
 -- console
 

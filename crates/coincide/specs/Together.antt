@@ -11,6 +11,7 @@ use Rattle.chip.proofs as chip
 use Rattle.line.proofs as line
 use Rattle.card.proofs as card
 use Rattle.setpoints.proofs as setpoints
+use Rattle.intelhex.proofs as intelhex
 use Rattle.recording.proofs as recording
 use Rattle.search.proofs as search
 use Rattle.packed.proofs as packed
@@ -77,6 +78,17 @@ setpoints-write-101 κs a x y v w p q = let r = p ∙ sym q in (λ i. r i .answe
 
 pub setpoints-write-102 : Settled setpoints.write_102.ended setpoints.write_102.Reads.Learnt
 setpoints-write-102 κs a x y v w p q = let r = p ∙ sym q in (λ i. r i .answer, λ i. (r i .page, w .1))
+
+-- answer and text; answer and image; where it ended, and the image
+pub intelhex-write-text : Settled intelhex.write_text.ended intelhex.write_text.Reads.Learnt
+intelhex-write-text κs a x y v w p q = let r = p ∙ sym q in (λ i. r i .answer, λ i. (tt, (r i .text, tt)))
+
+pub intelhex-read-text : Settled intelhex.read_text.ended intelhex.read_text.Reads.Learnt
+intelhex-read-text κs a x y v w p q = let r = p ∙ sym q in (λ i. r i .answer, λ i. (tt, (r i .image, tt)))
+
+pub intelhex-read-lines : Settled intelhex.read_lines.ended intelhex.read_lines.Reads.Learnt
+intelhex-read-lines κs a x y v w p q =
+    let r = p ∙ sym q in (λ i. record { ending = r i .ending; at = r i .at; lines = r i .lines; over = r i .over }, λ i. (tt, (tt, (tt, (r i .image, tt)))))
 
 -- ending, offset, number of answers and table; text, images and scratchpads
 pub recording-play : Settled recording.play.ended recording.play.Reads.Learnt

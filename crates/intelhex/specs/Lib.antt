@@ -1,0 +1,16 @@
+pub mod Faults
+pub mod Bytes
+pub mod Written
+pub mod Lines
+pub mod Reading
+pub mod Answers
+pub mod Turns
+pub mod Digits
+pub mod Stores
+pub mod Ends
+pub mod Spelling
+pub mod Putting
+pub mod Sound
+pub mod Decoding
+pub mod Turning
+pub mod Underway
