@@ -1,0 +1,13 @@
+pub mod Grammar
+pub mod Formed
+pub mod Records
+pub mod Found
+pub mod Fuel
+pub mod Judging
+pub mod Calls
+pub mod Values
+pub mod Refused
+pub mod Spelt
+pub mod Written
+pub mod Growing
+pub mod Pieces
