@@ -11,3 +11,4 @@ pub mod Spelt
 pub mod Written
 pub mod Growing
 pub mod Pieces
+pub mod Table
