@@ -1,11 +1,11 @@
 -- Laws: the digits of a line put into a buffer as bytes, one after the other.
-use Prim.Native.Nat.{ℕ, suc, _+_, _-_, _*_, _/_, _<_, _≤_}
+use Prim.Native.Nat.{ℕ, _+_, _-_, _*_, _<_, _≤_}
 use native.Mathlib.Omega.{arith}
 use native.Mathlib.Nat.{zero-add}
 use mathlib.Core.List.{List}
-use mathlib.Core.Path.{_≡_, refl, _∙_, ap, sym}
+use mathlib.Core.Path.{_≡_, _∙_, ap, sym}
 use lib.ListN.{length, getD, take, drop, set, length-drop}
-use lib.Seq.{sets, getD-drop, take-all, take-length}
+use lib.Seq.{sets, getD-drop}
 use Rattle.intelhex.specs.Bytes.{byteOf, bytesOf}
 use Rattle.intelhex.specs.Ends.{bytes-length, byte-is}
 use Rattle.intelhex.specs.Stores.{stored-next}

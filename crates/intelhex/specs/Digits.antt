@@ -1,17 +1,17 @@
 -- Laws: digits, and sums of bytes, as the code goes about them.
 use Prim.Native.Char.{code as letter}
-use Prim.Native.Nat.{ℕ, suc, _+_, _*_, _%_, _<_, _≤_}
+use Prim.Native.Nat.{ℕ, _+_, _%_, _<_, _≤_}
 use native.Mathlib.Omega.{arith}
 use native.Mathlib.Numerals.{add-one}
-use mathlib.Core.Bool.{Bool, true, false}
-use mathlib.Core.List.{List, [], _∷_}
-use mathlib.Core.Path.{_≡_, refl, _∙_, ap, sym}
+use mathlib.Core.Bool.{true}
+use mathlib.Core.List.{List}
+use mathlib.Core.Path.{_≡_, _∙_, ap, sym}
 use lib.ListN.{length, getD, drop, drop-of-length-le}
 use lib.Seq.{drop-cons}
 use borrow.Author.Tests.{leb-true}
-use Rattle.base.specs.Pick.{pick, pick-if}
+use Rattle.base.specs.Pick.{pick-if}
 use Rattle.base.specs.Both.{both-holds}
-use Rattle.intelhex.specs.Bytes.{between, worth, byteOf, total, sumOf, checkOf}
+use Rattle.intelhex.specs.Bytes.{between, worth, total, sumOf, checkOf}
 
 pub between-ends : (least c most : ℕ) → between least c most ≡ true → (least ≤ c) × (c ≤ most)
 unfolding between

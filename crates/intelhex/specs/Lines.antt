@@ -8,7 +8,7 @@ use lib.ListN.{length, getD, take, drop}
 use Rattle.base.specs.Bits.{both}
 use Rattle.base.specs.Pick.{pick}
 use Rattle.intelhex.specs.Faults.{lastAddress, lineMost}
-use Rattle.intelhex.specs.Bytes.{isDigit, bytesOf, sumOf}
+use Rattle.intelhex.specs.Bytes.{isDigit, sumOf}
 use Rattle.intelhex.specs.Written.{lineFeed}
 use Rattle.intelhex.specs.declared.Fault.the-variants.{NoColon, NoDigit, OddDigits, FewBytes, WrongCount, EndNotZero, CheckByte, UnknownType, AboveImage}
 use Rattle.intelhex.specs.declared.lines.Standing.{Standing}

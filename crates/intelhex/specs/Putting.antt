@@ -4,18 +4,16 @@ use Prim.Native.Nat.{ℕ, zero, suc, _+_, _-_, _*_, _/_, _%_, _<_, _≤_}
 use native.Mathlib.Omega.{arith}
 use native.Mathlib.Nat.{zero-add}
 use native.Mathlib.Numerals.{add-one}
-use mathlib.Core.Bool.{Bool, true, false}
-use mathlib.Core.List.{List, [], _∷_, _++_, append-assoc}
+use mathlib.Core.List.{List, [], _∷_, _++_}
 use mathlib.Core.Path.{_≡_, refl, _∙_, ap, sym}
-use lib.Dec.{eqb}
 use lib.ListN.{length, take, drop, set, length-append, length-drop}
 use lib.Seq.{sets, length-take-le, drop-drop}
 use borrow.Author.Tests.{eq-eqb, ne-eqb}
-use Rattle.base.specs.Pick.{pick, pick-true, pick-false}
+use Rattle.base.specs.Pick.{pick-true, pick-false}
 use Rattle.base.specs.Bits.{both}
 use Rattle.intelhex.specs.Faults.{imageSize, textSize}
 use Rattle.intelhex.specs.Bytes.{digitsOf, checkOf}
-use Rattle.intelhex.specs.Written.{lineFeed, lineOf, dataBytes, dataRecord, endRecord, dataRecords, dataLines, textOf, Wrote, wrote, writeText}
+use Rattle.intelhex.specs.Written.{lineFeed, lineOf, dataBytes, dataRecord, endRecord, dataRecords, dataLines, textOf, wrote, writeText}
 use Rattle.intelhex.specs.Stores.{sets-append, sets-all}
 use Rattle.intelhex.specs.Spelling.{digits-length, digits-append}
 use Rattle.intelhex.specs.declared.Fault.the-variants.{WrongSize}

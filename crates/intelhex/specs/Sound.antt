@@ -1,18 +1,17 @@
 -- Laws: what a line that stands in a text, its form and its record keep to.
 use Prim.Native.Char.{code as letter}
-use Prim.Native.Nat.{ℕ, suc, _+_, _-_, _*_, _/_, _%_, _<_, _≤_}
+use Prim.Native.Nat.{ℕ, _+_, _-_, _*_, _/_, _%_, _<_, _≤_}
 use native.Mathlib.Omega.{arith}
 use mathlib.Core.Bool.{Bool, true, false}
-use mathlib.Core.List.{List, [], _∷_, _++_}
-use mathlib.Core.Path.{_≡_, refl, _∙_, ap, sym, subst}
+use mathlib.Core.List.{List}
+use mathlib.Core.Path.{_≡_, refl, _∙_, ap, sym}
 use lib.Dec.{eqb, ltb}
-use lib.ListN.{length, getD, take, drop, take-append-drop, length-take, length-drop}
+use lib.ListN.{length, getD, take, drop, take-append-drop, length-take}
 use lib.Seq.{take-all, take-append-seam, length-take-le}
 use borrow.Author.Tests.{eqb-true, eq-eqb, ne-eqb, ltb-true, ltb-false, lt-ltb, le-ltb}
 use Rattle.base.specs.Pick.{pick, pick-true, pick-false, pick-if, pick-both}
 use Rattle.intelhex.specs.Faults.{lineMost}
 use Rattle.intelhex.specs.Bytes.{sumOf}
-use Rattle.intelhex.specs.Written.{lineFeed}
 use Rattle.intelhex.specs.Lines.{before, carriageReturn, withoutReturn, standing, allDigits, formOf, countIn, addressIn, typeIn, isBadEnd, isAbove, judged}
 use Rattle.intelhex.specs.Ends.{colon-some}
 use Rattle.intelhex.specs.declared.Fault.the-variants.{NoDigit, OddDigits, FewBytes}

@@ -1,14 +1,12 @@
 -- Laws: bytes put into a text as digits, and a record as a line.
-use Prim.Native.Char.{code as letter}
 use Prim.Native.Nat.{ℕ, suc, _+_, _*_, _/_, _%_, _<_, _≤_}
 use native.Mathlib.Omega.{arith}
 use native.Mathlib.Numerals.{add-one}
-use mathlib.Core.List.{List, [], _∷_, _++_, append-assoc}
+use mathlib.Core.List.{List, [], _∷_, _++_}
 use mathlib.Core.Path.{_≡_, refl, _∙_, ap, sym}
-use lib.ListN.{length, getD, take, set, length-append}
+use lib.ListN.{length, getD, take, set}
 use lib.Seq.{sets, take-suc, take-all, length-take-le}
-use Rattle.intelhex.specs.Bytes.{digit, digitsOf, checkOf}
-use Rattle.intelhex.specs.Written.{lineFeed, lineOf}
+use Rattle.intelhex.specs.Bytes.{digit, digitsOf}
 use Rattle.intelhex.specs.Stores.{sets-append}
 
 -- two digits for each byte, and those of bytes behind bytes

@@ -1,24 +1,21 @@
 -- Laws: what a turn comes to, by what was found of the line.
-use Prim.Native.Nat.{ℕ, suc, _+_, _-_, _*_, _/_, _<_, _≤_}
+use Prim.Native.Nat.{ℕ, _+_, _-_, _≤_}
 use native.Mathlib.Omega.{arith}
 use mathlib.Core.Bool.{Bool, true, false}
-use mathlib.Core.List.{List, [], _∷_, _++_}
-use mathlib.Core.Path.{_≡_, refl, _∙_, ap, sym, subst}
+use mathlib.Core.List.{List}
+use mathlib.Core.Path.{_≡_, _∙_, ap, sym, subst}
 use lib.ListN.{length, take, drop, length-drop}
 use lib.Seq.{sets, sets-eq, take-all, take-at, length-take-le}
-use Rattle.base.specs.Pick.{pick, pick-true, pick-false}
+use Rattle.base.specs.Pick.{pick-true, pick-false}
 use Rattle.intelhex.specs.Bytes.{bytesOf}
-use Rattle.intelhex.specs.Lines.{standing, formOf, countIn, dataIn, judged}
-use Rattle.intelhex.specs.Reading.{Given, given, Next, data-record, end-record, stop, nextBy, nextIn, nextOf, nextAfter, next}
+use Rattle.intelhex.specs.Lines.{standing, formOf, countIn, judged}
+use Rattle.intelhex.specs.Reading.{stop, nextBy, nextIn, nextOf, nextAfter, next}
 use Rattle.intelhex.specs.Turns.{Turned, turned, turnedBy}
 use Rattle.intelhex.specs.Ends.{bytes-length}
 use Rattle.intelhex.specs.Sound.{LineLies, line-lies, FormFits, form-fits, RecordFits, record-fits}
 use Rattle.intelhex.specs.declared.Ending.{Ending}
-use Rattle.intelhex.specs.declared.Ending.the-variants.{Refused}
-use Rattle.intelhex.specs.declared.Fault.{Fault}
 use Rattle.intelhex.specs.declared.lines.Standing.{Standing}
 use Rattle.intelhex.specs.declared.lines.Standing.the-variants.{Line}
-use Rattle.intelhex.specs.declared.readers.Turn.{Turn}
 use Rattle.intelhex.specs.declared.readers.Turn.the-variants.{On, Stop}
 use Rattle.intelhex.specs.declared.record.Form.{Form}
 use Rattle.intelhex.specs.declared.record.Form.the-variants as form

@@ -3,7 +3,7 @@ use Prim.Native.Nat.{ℕ}
 use mathlib.Core.Bool.{true, false}
 use mathlib.Core.List.{List}
 use lib.Seq.{sets}
-use Rattle.intelhex.specs.Reading.{Given, Next, data-record, end-record, stop}
+use Rattle.intelhex.specs.Reading.{Next, data-record, end-record, stop}
 use Rattle.intelhex.specs.declared.Ending.{Ending}
 use Rattle.intelhex.specs.declared.Ending.the-variants.{Part}
 use Rattle.intelhex.specs.declared.readers.Turn.{Turn}

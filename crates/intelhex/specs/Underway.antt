@@ -1,15 +1,15 @@
 -- Laws: the loop that reads the lines of a text.
-use Prim.Native.Nat.{ℕ, zero, suc, _+_, _-_, _<_, _≤_}
+use Prim.Native.Nat.{ℕ, suc, _+_, _-_, _<_, _≤_}
 use native.Mathlib.Omega.{arith}
 use native.Mathlib.Nat.{zero-add, add-zero, add-assoc}
 use mathlib.Core.Bool.{Bool, true, false}
 use mathlib.Core.List.{List, [], _∷_, _++_, append-nil, append-assoc}
-use mathlib.Core.Path.{_≡_, refl, _∙_, ap, sym, subst}
+use mathlib.Core.Path.{_≡_, refl, _∙_, ap, sym}
 use lib.Dec.{eqb}
 use lib.ListN.{length, take, drop, length-drop}
 use lib.Seq.{sets, length-sets, drop-drop, take-all}
 use borrow.Author.Tests.{eq-eqb, ne-eqb}
-use Rattle.base.specs.Pick.{pick, pick-true, pick-false, pick-both}
+use Rattle.base.specs.Pick.{pick-true, pick-false, pick-both}
 use Rattle.base.specs.Along.{along}
 use Rattle.base.specs.Exactly.{apart}
 use Rattle.intelhex.specs.Faults.{imageSize}
@@ -19,7 +19,7 @@ use Rattle.intelhex.specs.Reading.{Given, Next, data-record, end-record,
 use Rattle.intelhex.specs.Turns.{Turned, turned, turnedBy, endingOf}
 use Rattle.intelhex.specs.Sound.{LineLies, line-lies}
 use Rattle.intelhex.specs.declared.Ending.{Ending}
-use Rattle.intelhex.specs.declared.Ending.the-variants.{Part, Refused}
+use Rattle.intelhex.specs.declared.Ending.the-variants.{Refused}
 use Rattle.intelhex.specs.declared.Fault.the-variants.{WrongSize}
 use Rattle.intelhex.specs.declared.Reading.the-variants as reading
 use Rattle.intelhex.specs.declared.lines.Standing.{Standing}

@@ -6,7 +6,7 @@ use lib.Dec.{eqb}
 use lib.ListN.{length, take, drop}
 use Rattle.base.specs.Bits.{both}
 use Rattle.base.specs.Pick.{pick}
-use Rattle.intelhex.specs.Faults.{imageSize, textSize, numberOfFault}
+use Rattle.intelhex.specs.Faults.{imageSize, textSize}
 use Rattle.intelhex.specs.Bytes.{digitsOf, checkOf}
 use Rattle.intelhex.specs.declared.Fault.the-variants.{WrongSize}
 use Rattle.intelhex.specs.declared.Writing.{Writing}

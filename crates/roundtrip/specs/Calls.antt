@@ -8,7 +8,6 @@ use denote.Ref.{RefT}
 use denote.Triple.Clauses.{atExit}
 use Rattle.intelhex.specs.Written.{wrote, writeText}
 use Rattle.intelhex.specs.Reading.{went, readLines, read, readText}
-use Rattle.intelhex.specs.declared.Ending.{Ending}
 use Rattle.intelhex.specs.declared.Reading.{Reading}
 use Rattle.intelhex.specs.declared.Taken.{Taken}
 use Rattle.intelhex.specs.declared.Writing.{Writing}

@@ -4,22 +4,20 @@ use Prim.Native.Nat.{ℕ, zero, suc, _+_, _-_, _*_, _/_, _%_, _<_, _≤_}
 use native.Mathlib.Omega.{arith}
 use mathlib.Core.Bool.{Bool, true, false, true≢false}
 use mathlib.Core.List.{List, [], _∷_, _++_, append-assoc}
-use mathlib.Core.Path.{_≡_, refl, _∙_, ap, sym, subst}
-use lib.Dec.{eqb, ltb}
-use lib.ListN.{length, getD, take, drop, length-append, List·getD-append}
-use lib.Seq.{take-append-add, take-append-seam, take-at, getD-append-add, getD-at}
+use mathlib.Core.Path.{_≡_, refl, _∙_, ap, sym}
+use lib.Dec.{eqb}
+use lib.ListN.{length, getD, take, length-append, List·getD-append}
+use lib.Seq.{take-append-add, take-at, getD-at}
 use borrow.Author.Tests.{eq-eqb, ne-eqb, lt-ltb, le-ltb}
 use Rattle.base.specs.Bits.{both}
 use Rattle.base.specs.Pick.{pick, pick-true, pick-false}
 use Rattle.intelhex.specs.Faults.{lineMost}
-use Rattle.intelhex.specs.Bytes.{between, isDigit, worth, byteOf, bytesOf}
+use Rattle.intelhex.specs.Bytes.{between, isDigit, byteOf, bytesOf}
 use Rattle.intelhex.specs.Written.{lineFeed}
 use Rattle.intelhex.specs.Lines.{before, carriageReturn, withoutReturn, standing, allDigits, formOf, countIn, judged}
-use Rattle.intelhex.specs.Reading.{Next, nextBy, nextIn, nextOf, next}
+use Rattle.intelhex.specs.Reading.{nextBy, nextIn, nextOf, next}
 use Rattle.intelhex.specs.Digits.{worth-most}
-use Rattle.intelhex.specs.declared.lines.Standing.{Standing}
 use Rattle.intelhex.specs.declared.lines.Standing.the-variants.{Line}
-use Rattle.intelhex.specs.declared.record.Form.{Form}
 use Rattle.intelhex.specs.declared.record.Form.the-variants as form
 use Rattle.roundtrip.specs.Grammar.{Spells, nothing, a-byte, LineEnd, lf, cr-lf, LineOf}
 

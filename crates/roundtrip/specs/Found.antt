@@ -1,25 +1,25 @@
 -- Laws: what stands next in a text, and what the text then is.
 use Prim.Native.Char.{code as letter}
-use Prim.Native.Nat.{ℕ, zero, suc, _+_, _-_, _*_, _/_, _%_, _<_, _≤_}
+use Prim.Native.Nat.{ℕ, suc, _+_, _-_, _*_, _/_, _%_, _<_, _≤_}
 use native.Mathlib.Omega.{arith}
 use native.Mathlib.Numerals.{add-one}
-use mathlib.Core.Bool.{Bool, true, false, true≢false}
-use mathlib.Core.List.{List, [], _∷_, _++_, append-assoc}
+use mathlib.Core.Bool.{Bool, true, false}
+use mathlib.Core.List.{List, [], _∷_, _++_}
 use mathlib.Core.Logic.{_⊎_, inl, inr}
 use mathlib.Core.Path.{_≡_, refl, _∙_, ap, sym, subst}
 use lib.Dec.{eqb, ltb}
 use lib.ListN.{length, getD, take, drop, take-append-drop, drop-of-length-le, length-drop}
-use lib.Seq.{getD-take, take-take, drop-cons, length-take-le, take-nil}
-use borrow.Author.Tests.{eqb-true, eqb-false, ltb-true, ltb-false}
+use lib.Seq.{getD-take, take-take, drop-cons, length-take-le}
+use borrow.Author.Tests.{eqb-true, eqb-false, ltb-true}
 use Rattle.base.specs.Bits.{both}
 use Rattle.base.specs.Both.{both-holds}
 use Rattle.base.specs.Exactly.{No}
 use Rattle.base.specs.Pick.{pick, pick-true, pick-false, pick-if, pick-both}
 use Rattle.intelhex.specs.Faults.{lineMost, numberOfFault}
-use Rattle.intelhex.specs.Bytes.{isDigit, byteOf, bytesOf, sumOf}
+use Rattle.intelhex.specs.Bytes.{isDigit, bytesOf, sumOf}
 use Rattle.intelhex.specs.Written.{lineFeed}
 use Rattle.intelhex.specs.Lines.{before, carriageReturn, withoutReturn, standing, allDigits, formOf, countIn, addressIn, typeIn, dataIn, judged}
-use Rattle.intelhex.specs.Reading.{Given, given, Next, data-record, end-record, stop, nextBy, nextIn, nextOf, next, endsAt}
+use Rattle.intelhex.specs.Reading.{given, Next, data-record, end-record, stop, nextBy, nextIn, nextOf, next}
 use Rattle.intelhex.specs.Ends.{bytes-length}
 use Rattle.intelhex.specs.Sound.{most-within, FormFits, form-fits}
 use Rattle.intelhex.specs.declared.Ending.{Ending}
@@ -32,7 +32,7 @@ use Rattle.intelhex.specs.declared.record.Form.{Form}
 use Rattle.intelhex.specs.declared.record.Form.the-variants as form
 use Rattle.intelhex.specs.declared.record.Judged.{Judged}
 use Rattle.intelhex.specs.declared.record.Judged.the-variants as judged-as
-use Rattle.roundtrip.specs.Grammar.{Spells, nothing, a-byte, LineEnd, lf, cr-lf, LineOf, InForm, DataRecord, EndRecord, IsAbove, Begins}
+use Rattle.roundtrip.specs.Grammar.{Spells, nothing, a-byte, LineEnd, lf, cr-lf, LineOf, DataRecord, EndRecord, IsAbove, Begins}
 use Rattle.roundtrip.specs.Records.{FaultSays, RecordSays, record-says}
 
 -- ---- where the first LF stands

@@ -1,13 +1,13 @@
 -- Laws: the lines of a text one by one; how many may be read at most does not matter, as long as they may be as many as the characters.
-use Prim.Native.Nat.{ℕ, zero, suc, _+_, _-_, _<_, _≤_}
+use Prim.Native.Nat.{ℕ, zero, suc, _-_, _<_, _≤_}
 use native.Mathlib.Omega.{arith}
 use mathlib.Core.Bool.{Bool, true, false}
 use mathlib.Core.List.{List, [], _∷_}
-use mathlib.Core.Path.{_≡_, refl, _∙_, ap, sym, subst}
+use mathlib.Core.Path.{_≡_, refl, _∙_, ap}
 use lib.ListN.{length, drop, length-drop}
-use borrow.Author.Tests.{eq-eqb, ne-eqb}
+use borrow.Author.Tests.{ne-eqb}
 use Rattle.base.specs.Pick.{pick-true, pick-false}
-use Rattle.intelhex.specs.Reading.{Given, Next, data-record, end-record, stop, endsAt, nextAfter, next, Found, found, following, onNext, linesFrom, linesOf}
+use Rattle.intelhex.specs.Reading.{Given, Next, data-record, end-record, stop, nextAfter, next, Found, found, following, onNext, linesFrom, linesOf}
 use Rattle.intelhex.specs.Underway.{NextLies, next-lies}
 use Rattle.intelhex.specs.declared.Ending.{Ending}
 use Rattle.intelhex.specs.declared.Ending.the-variants.{End, Refused}

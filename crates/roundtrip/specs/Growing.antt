@@ -1,35 +1,25 @@
 -- Laws: a text of which more comes. What was read of its beginning stays, and goes on with the rest.
 use Prim.Native.Nat.{ℕ, zero, suc, _+_, _-_, _<_, _≤_}
 use native.Mathlib.Omega.{arith}
-use native.Mathlib.Nat.{zero-add}
 use mathlib.Core.Bool.{Bool, true, false}
 use mathlib.Core.List.{List, [], _∷_, _++_, append-nil}
 use mathlib.Core.Logic.{_⊎_, inl, inr}
-use mathlib.Core.Path.{_≡_, refl, _∙_, ap, sym, subst}
+use mathlib.Core.Path.{_≡_, refl, _∙_, ap, sym}
 use lib.Dec.{eqb, ltb}
-use lib.ListN.{length, getD, take, drop, length-append, length-drop, length-take, List·getD-append}
-use lib.Seq.{take-all, take-append-le, take-append-add, drop-append-le, drop-drop, length-take-le}
-use borrow.Author.Tests.{eqb-true, eqb-false, ne-eqb, ltb-true, ltb-false}
+use lib.ListN.{length, getD, take, length-append, List·getD-append}
+use lib.Seq.{take-all, take-append-le, take-append-add, length-take-le}
+use borrow.Author.Tests.{eqb-false, ne-eqb, ltb-true, ltb-false}
 use Rattle.base.specs.Pick.{pick, pick-true, pick-false, pick-if}
 use Rattle.intelhex.specs.Faults.{lineMost}
-use Rattle.intelhex.specs.Bytes.{bytesOf}
 use Rattle.intelhex.specs.Written.{lineFeed}
-use Rattle.intelhex.specs.Lines.{before, carriageReturn, withoutReturn, standing, formOf, judged}
-use Rattle.intelhex.specs.Reading.{Given, Next, data-record, end-record, stop, nextBy, nextIn, nextOf, nextAfter, next, endsAt, Found, found, following, linesOf}
+use Rattle.intelhex.specs.Lines.{before, carriageReturn, withoutReturn, standing, formOf}
+use Rattle.intelhex.specs.Reading.{stop, nextIn, nextOf, nextAfter, next, endsAt}
 use Rattle.intelhex.specs.Sound.{LineLies, line-lies, most-within, stands-endless}
-use Rattle.intelhex.specs.Underway.{NextLies, next-lies, following-following}
-use Rattle.intelhex.specs.declared.Ending.{Ending}
 use Rattle.intelhex.specs.declared.Ending.the-variants.{End, Part, Refused}
-use Rattle.intelhex.specs.declared.Fault.{Fault}
-use Rattle.intelhex.specs.declared.Fault.the-variants.{TooLong, AfterEnd}
+use Rattle.intelhex.specs.declared.Fault.the-variants.{AfterEnd}
 use Rattle.intelhex.specs.declared.lines.Standing.{Standing}
 use Rattle.intelhex.specs.declared.lines.Standing.the-variants.{Nothing, Unended, Endless, Line}
-use Rattle.intelhex.specs.declared.record.Form.{Form}
-use Rattle.intelhex.specs.declared.record.Form.the-variants as form
-use Rattle.intelhex.specs.declared.record.Judged.{Judged}
-use Rattle.intelhex.specs.declared.record.Judged.the-variants as judged-as
 use Rattle.roundtrip.specs.Formed.{by-before}
-use Rattle.roundtrip.specs.Fuel.{lines-data, lines-end, lines-stop}
 
 -- ---- what a text begins with, where more stands behind it
 before-grows : (xs ys : List ℕ) → before xs < length xs → before (xs ++ ys) ≡ before xs

@@ -1,16 +1,15 @@
 -- Laws: a text is refused for just one cause, and read where it has none.
 use Prim.Native.Nat.{ℕ, zero, suc, _+_, _-_, _<_, _≤_}
 use native.Mathlib.Omega.{arith}
-use mathlib.Core.Bool.{Bool, true, false}
+use mathlib.Core.Bool.{true, false}
 use mathlib.Core.List.{List, [], _∷_, _++_, append-assoc, append-nil}
 use mathlib.Core.Path.{_≡_, refl, _∙_, ap, sym, subst}
 use lib.ListN.{length, drop, length-drop}
 use lib.Seq.{drop-append-seam}
 use Rattle.base.specs.Exactly.{No}
-use Rattle.base.specs.Pick.{pick-true, pick-false, pick-both}
+use Rattle.base.specs.Pick.{pick-false}
 use Rattle.intelhex.specs.Faults.{numberOfFault}
-use Rattle.intelhex.specs.Bytes.{sumOf}
-use Rattle.intelhex.specs.Lines.{standing, countIn, addressIn, typeIn, dataIn, isAbove, judged}
+use Rattle.intelhex.specs.Lines.{addressIn, dataIn, judged}
 use Rattle.intelhex.specs.Reading.{Given, given, Next, data-record, end-record, stop, nextBy, nextOf, next, Found, found, following, linesOf}
 use Rattle.intelhex.specs.Sound.{stands-nothing}
 use Rattle.intelhex.specs.Underway.{NextLies, next-lies}
@@ -20,9 +19,9 @@ use Rattle.intelhex.specs.declared.Fault.{Fault}
 use Rattle.intelhex.specs.declared.Fault.the-variants.{CheckByte, UnknownType, AboveImage, NoEndRecord, AfterEnd}
 use Rattle.intelhex.specs.declared.record.Judged.{Judged}
 use Rattle.intelhex.specs.declared.record.Judged.the-variants as judged-as
-use Rattle.roundtrip.specs.Grammar.{LineOf, InForm, IsAbove, DataRecord, EndRecord, DataLines, none, a-line, Behind, Begins, Cause, out-of-form, check-byte, another-type, above-image, no-end-record, after-end, Faultless}
+use Rattle.roundtrip.specs.Grammar.{LineOf, DataRecord, EndRecord, DataLines, none, a-line, Behind, Begins, Cause, out-of-form, check-byte, another-type, above-image, no-end-record, after-end, Faultless}
 use Rattle.roundtrip.specs.Formed.{formed-next}
-use Rattle.roundtrip.specs.Records.{Formed, formed-chain, judged-17, judged-18, judged-19, judged-end, judged-data}
+use Rattle.roundtrip.specs.Records.{formed-chain, judged-17, judged-18, judged-19, judged-end, judged-data}
 use Rattle.roundtrip.specs.Found.{Stops, stops-16, stops-17, stops-18, stops-19, stops-20, NextSays, next-says}
 use Rattle.roundtrip.specs.Fuel.{lines-data, lines-end, lines-stop, over-end, over-more}
 

@@ -7,14 +7,14 @@ use mathlib.Core.List.{List, [], _∷_, _++_, append-nil, append-assoc, flatten}
 use mathlib.Core.Logic.{_⊎_, inl, inr}
 use mathlib.Core.Path.{_≡_, refl, _∙_, ap, sym, subst}
 use lib.Dec.{eqb, ltb}
-use lib.ListN.{length, take, drop, length-append, length-drop, length-replicate}
+use lib.ListN.{length, take, drop, length-drop, length-replicate}
 use lib.Seq.{drop-append-le, drop-drop}
 use borrow.Author.Tests.{eqb-true, ltb-true, eq-eqb}
-use Rattle.base.specs.Pick.{pick, pick-true, pick-false, pick-if}
+use Rattle.base.specs.Pick.{pick-true, pick-if}
 use Rattle.intelhex.specs.Faults.{imageSize, lineMost}
 use Rattle.intelhex.specs.Bytes.{bytesOf}
 use Rattle.intelhex.specs.Lines.{standing, before, formOf, judged}
-use Rattle.intelhex.specs.Reading.{Given, Next, data-record, end-record, stop, nextBy, nextIn, nextOf, nextAfter, next, endsAt, Found, found, following, linesOf, putAll, blank, Went, went, wentBy, readLines, Read, read, readBy, readText}
+use Rattle.intelhex.specs.Reading.{Given, Next, data-record, end-record, stop, nextBy, nextIn, nextOf, nextAfter, next, Found, found, following, linesOf, putAll, blank, Went, went, wentBy, readLines, Read, read, readBy}
 use Rattle.intelhex.specs.Underway.{NextLies, next-lies, following-following, put-append, put-length}
 use Rattle.intelhex.specs.declared.Ending.{Ending}
 use Rattle.intelhex.specs.declared.Ending.the-variants.{End, Part, Refused}

@@ -1,14 +1,14 @@
 -- Laws: what a record is judged to be, and what its bytes then are; both ways.
-use Prim.Native.Nat.{ℕ, _+_, _-_, _<_, _≤_}
+use Prim.Native.Nat.{ℕ, _+_, _-_}
 use native.Mathlib.Omega.{arith}
 use mathlib.Core.Bool.{Bool, true, false, not, true≢false}
 use mathlib.Core.List.{List}
 use mathlib.Core.Path.{_≡_, refl, _∙_, ap, sym, subst}
 use lib.Dec.{eqb, ltb}
 use lib.ListN.{length}
-use borrow.Author.Tests.{eqb-true, eqb-false, eq-eqb, ne-eqb, ltb-true, lt-ltb, not-true, not-false}
+use borrow.Author.Tests.{eqb-true, eqb-false, eq-eqb, ne-eqb, ltb-true, lt-ltb, not-false}
 use Rattle.base.specs.Bits.{both}
-use Rattle.base.specs.Both.{both-holds, both-true′}
+use Rattle.base.specs.Both.{both-holds}
 use Rattle.base.specs.Exactly.{No}
 use Rattle.base.specs.Pick.{pick, pick-true, pick-false, pick-if, pick-both}
 use Rattle.intelhex.specs.Faults.{lastAddress}

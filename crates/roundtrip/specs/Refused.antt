@@ -14,7 +14,7 @@ use Rattle.intelhex.specs.Faults.{imageSize, textSize, numberOfFault}
 use Rattle.intelhex.specs.Answers.{Answered, done, awaited, refused, writtenAs, readAs}
 use Rattle.intelhex.specs.Reading.{Given, linesOf, putAll, blank, Read, read, readBy, readText}
 use Rattle.intelhex.specs.Underway.{text-unsized}
-use Rattle.intelhex.specs.Written.{Wrote, wrote, writeText, textOf}
+use Rattle.intelhex.specs.Written.{Wrote, wrote, textOf}
 use Rattle.intelhex.specs.Putting as putting
 use Rattle.intelhex.specs.declared.Ending.{Ending}
 use Rattle.intelhex.specs.declared.Ending.the-variants.{End, Part, Refused}

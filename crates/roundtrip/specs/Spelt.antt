@@ -3,23 +3,22 @@ use Prim.Native.Char.{code as letter}
 use Prim.Native.Nat.{ℕ, zero, suc, _+_, _-_, _*_, _/_, _%_, _<_, _≤_}
 use native.Mathlib.Omega.{arith}
 use mathlib.Core.Bool.{Bool, true, false}
-use mathlib.Core.List.{List, [], _∷_, _++_, append-nil}
+use mathlib.Core.List.{List, [], _∷_, _++_}
 use mathlib.Core.Path.{_≡_, refl, _∙_, ap, sym, subst}
 use lib.Dec.{ltb, leb}
 use lib.ListN.{length, getD, take, drop, length-append, length-drop, take-append-drop, length-replicate}
-use lib.Seq.{sets, length-take-le, take-at, getD-take, getD-drop}
+use lib.Seq.{sets, length-take-le, take-at, getD-drop}
 use borrow.Author.Tests.{ltb-true, ltb-false, lt-ltb, le-ltb, le-leb, lt-leb}
 use Rattle.base.specs.Bits.{both}
 use Rattle.base.specs.Both.{both-true′}
-use Rattle.base.specs.Exactly.{No}
 use Rattle.base.specs.Pick.{pick, pick-true, pick-false}
-use Rattle.intelhex.specs.Faults.{imageSize, lastAddress}
+use Rattle.intelhex.specs.Faults.{imageSize}
 use Rattle.intelhex.specs.Bytes.{between, isDigit, worth, digit, byteOf, digitsOf, total, sumOf, checkOf}
 use Rattle.intelhex.specs.Written.{lineFeed, lineOf, dataBytes, dataRecord, endRecord, dataRecords, dataLines, textOf}
-use Rattle.intelhex.specs.Lines.{countIn, addressIn, typeIn, dataIn}
+use Rattle.intelhex.specs.Lines.{addressIn, dataIn}
 use Rattle.intelhex.specs.Reading.{Given, given, putAll, blank}
 use Rattle.intelhex.specs.Stores.{sets-append, sets-all}
-use Rattle.roundtrip.specs.Grammar.{Spells, nothing, a-byte, LineEnd, lf, LineOf, InForm, IsAbove, DataRecord, EndRecord, DataLines, none, a-line, Faultless}
+use Rattle.roundtrip.specs.Grammar.{Spells, nothing, a-byte, lf, LineOf, DataRecord, EndRecord, DataLines, none, a-line, Faultless}
 
 -- ---- digits
 

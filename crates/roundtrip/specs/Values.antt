@@ -1,22 +1,20 @@
 -- Document 02, M-110: "a byte given twice takes the later value, a byte not given is FFh". What each byte of an image is after a good reading, by calls.
 use Prim.Native.Nat.{ℕ, suc, _+_, _-_, _<_, _≤_}
 use native.Mathlib.Omega.{arith}
-use mathlib.Core.Bool.{Bool, true, false, true≢false}
+use mathlib.Core.Bool.{Bool, true, false}
 use mathlib.Core.List.{List, [], _∷_, _++_}
 use mathlib.Core.Path.{_≡_, refl, _∙_, ap, sym}
 use lib.Dec.{eqb}
 use lib.ListN.{length, getD, set, length-set, length-replicate, getD-replicate}
-use lib.Seq.{sets, length-sets, getD-set-same, getD-set-other}
-use borrow.Author.Tests.{eqb-true, eqb-false, eq-eqb}
-use Rattle.base.specs.Exactly.{No, Iff}
+use lib.Seq.{sets, getD-set-same, getD-set-other}
+use borrow.Author.Tests.{eqb-true, eqb-false}
+use Rattle.base.specs.Exactly.{No}
 use Rattle.base.specs.Pick.{pick-true, pick-false}
 use Rattle.intelhex.specs.Faults.{imageSize}
 use Rattle.intelhex.specs.Reading.{Given, Found, linesOf, putAll, blank, Read, read, readBy, readText}
 use Rattle.intelhex.specs.Underway.{put-append, put-length}
 use Rattle.intelhex.specs.declared.Ending.{Ending}
 use Rattle.intelhex.specs.declared.Ending.the-variants.{End, Part, Refused}
-use Rattle.intelhex.specs.declared.Fault.{Fault}
-use Rattle.intelhex.specs.declared.Fault.the-variants.{WrongSize, NoEndRecord}
 use Rattle.intelhex.specs.declared.Reading.{Reading}
 use Rattle.intelhex.specs.declared.Reading.the-variants as reading
 use Rattle.roundtrip.specs.Grammar.{Faultless}

@@ -1,6 +1,6 @@
 use Prim.Native.Nat.{_<_, _≤_, _+_, _-_, _%_}
 use lib.ListN.{length, drop}
-use mathlib.Core.Path.{_≡_, refl}
+use mathlib.Core.Path.{_≡_}
 use Rattle.intelhex.specs.Bytes.{total, sumOf}
 use Rattle.intelhex.specs.Digits.{sum-next, sum-end}
 use borrow.Author.Needs.{needs}

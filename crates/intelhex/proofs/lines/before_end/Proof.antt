@@ -1,7 +1,7 @@
 use Prim.Native.Nat.{_≤_, _+_, _-_}
 use denote.Ref.{now}
-use lib.ListN.{length, drop, take}
-use mathlib.Core.Path.{_≡_, refl}
+use lib.ListN.{drop, take}
+use mathlib.Core.Path.{_≡_}
 use Rattle.intelhex.specs.Lines.{before}
 use Rattle.intelhex.specs.Ends.{end-here, end-later, no-end}
 use borrow.Author.Needs.{needs}

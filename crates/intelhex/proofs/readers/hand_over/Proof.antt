@@ -1,4 +1,3 @@
-use denote.Ref.{now}
 use mathlib.Core.Path.{refl, _∙_, ap, sym}
 use Rattle.intelhex.specs.Reading.{read}
 use Rattle.intelhex.specs.declared.Reading.the-variants as reading

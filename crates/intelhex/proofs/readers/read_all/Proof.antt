@@ -1,7 +1,6 @@
 use Prim.Native.Nat.{_-_}
-use denote.Ref.{now}
 use lib.ListN.{length}
-use mathlib.Core.Path.{_≡_, _∙_, sym}
+use mathlib.Core.Path.{_∙_, sym}
 use Rattle.intelhex.specs.Underway.{Underway, underway-start, underway-next, underway-sums, underway-stopped}
 use borrow.Author.Needs.{needs}
 use Rattle.intelhex.proofs.readers.read_all.Statement.{statement}

@@ -1,6 +1,5 @@
 use Prim.Native.Nat.{_-_}
-use denote.Ref.{now}
-use mathlib.Core.Path.{_≡_, _∙_, sym}
+use mathlib.Core.Path.{_∙_, sym}
 use Rattle.intelhex.specs.Putting.{Putting, putting-start, within, given-length, at-few, putting-next, putting-end}
 use borrow.Author.Needs.{needs}
 use Rattle.intelhex.proofs.writers.put_data_lines.Statement.{statement}
