@@ -11,9 +11,6 @@ use Rattle.intelhex.specs.Ends.{bytes-length, byte-is}
 use Rattle.intelhex.specs.Stores.{stored-next}
 
 module _ (line : List ℕ) (n : ℕ) where
-  digits : List ℕ
-  digits = drop 1 line
-
   pub decoded-next : (s s₀ : List ℕ) (i : ℕ) → 2 * n + 1 ≤ length line → i < n → s ≡ sets s₀ 0 (take i (bytesOf (drop 1 line)))
       → set s i (byteOf (getD line (2 * i + 1) 0) (getD line (2 * i + 2) 0)) ≡ sets s₀ 0 (take (i + 1) (bytesOf (drop 1 line)))
   decoded-next s s₀ i h k e =

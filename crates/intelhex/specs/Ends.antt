@@ -17,9 +17,6 @@ use Rattle.intelhex.specs.Lines.{before, allDigits}
 
 -- ---- the first LF among so many characters
 module _ (text : List ℕ) (most i : ℕ) (within : most ≤ length text) where
-  first : List ℕ
-  first = take most text
-
   here : i < most → drop i (take most text) ≡ getD text i 0 ∷ drop (i + 1) (take most text)
   here h =
       let l : length (take most text) ≡ most = length-take-le most text within in

@@ -143,11 +143,11 @@ spelt (a ∷ b ∷ cs) k l e =
     let q = both-holds (isDigit b) (allDigits cs) (p .1) in
     a-byte (p .0) (q .0) (spelt cs (k - 1) (omega arith) (q .1))
 
-abbrev FormSays : List ℕ → Form → Type 0
+abbrev pub FormSays : List ℕ → Form → Type 0
 FormSays line (form.Bytes n) = (getD line 0 0 ≡ letter ":") × (allDigits (drop 1 line) ≡ true)
 FormSays line (form.Refused f) = numberOfFault f ≡ 16
 
-form-says : (line : List ℕ) → FormSays line (formOf line)
+pub form-says : (line : List ℕ) → FormSays line (formOf line)
 unfolding formOf
 form-says line =
     pick-if (FormSays line) (eqb (getD line 0 0) (letter ":")) _ _

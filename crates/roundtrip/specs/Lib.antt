@@ -11,4 +11,5 @@ pub mod Spelt
 pub mod Written
 pub mod Growing
 pub mod Pieces
+pub mod Unsized
 pub mod Table

@@ -187,7 +187,7 @@ pub data InPieces : List (List ℕ) → Hand → Came → Type 2 where
       → back .ending ≡ Refused f → InPieces (p ∷ ps) h (came (Refused f) (h .lines + back .lines) after)
 
 -- what a call comes to on an image of its size
-call-is : (over more : Bool) (s image : List ℕ) (back : Taken) (after : List ℕ) → length image ≡ imageSize → ReadLines over more s image back after
+pub call-is : (over more : Bool) (s image : List ℕ) (back : Taken) (after : List ℕ) → length image ≡ imageSize → ReadLines over more s image back after
     → went (back .ending) (back .at) (back .lines) (back .over) after ≡ wentBy image (linesOf more over s)
 unfolding readLines
 call-is over more s image back after l c = went-by over more s image back after c ∙ pick-true _ _ _ (eq-eqb (length image) imageSize l)
@@ -198,9 +198,6 @@ wholeFrom h rest = let f = linesOf false (h .over) (h .held ++ rest) in came (f 
 
 -- a piece, and all after it
 module _ (h : Hand) (p rest : List ℕ) (sized : length (h .image) ≡ imageSize) (back : Taken) (after : List ℕ) (c : ReadLines (h .over) true (h .held ++ p) (h .image) back after) where
-  s : List ℕ
-  s = h .held ++ p
-
   is : went (back .ending) (back .at) (back .lines) (back .over) after ≡ wentBy (h .image) (linesOf true (h .over) (h .held ++ p))
   is = call-is (h .over) true (h .held ++ p) (h .image) back after sized c
 

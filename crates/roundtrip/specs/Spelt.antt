@@ -122,9 +122,6 @@ written-line bytes f = record { digits = digitsOf (checked bytes); end = lineFee
 
 -- ---- data records
 module _ (address : ℕ) (part : List ℕ) (l : length part ≡ dataBytes) (f : AreBytes part) (low : address + dataBytes ≤ imageSize) where
-  bytes : List ℕ
-  bytes = dataRecord address part
-
   data-are : AreBytes (dataRecord address part)
   unfolding dataRecord
   data-are zero = omega arith
