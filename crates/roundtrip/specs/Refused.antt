@@ -34,7 +34,7 @@ tag done = 0
 tag awaited = 0
 tag (refused n) = 1
 
-number : Answered → ℕ
+unfoldable pub number : Answered → ℕ
 number done = 0
 number awaited = 0
 number (refused n) = n

@@ -28,6 +28,7 @@ use Rattle.intelhex.specs.declared.record.Judged.the-variants as judged-as
 use Rattle.roundtrip.specs.Calls.{ReadLines, went-by}
 use Rattle.roundtrip.specs.Found.{FormSays, form-says}
 use Rattle.roundtrip.specs.Pieces.{call-is}
+use Rattle.roundtrip.specs.Refused.{number}
 use Rattle.roundtrip.specs.Records.{FaultSays, RecordSays, record-says}
 
 -- ---- a text, whatever its size, is refused by 16 or more
@@ -91,11 +92,6 @@ lines-of (suc k) more over text = by (next over more text) (next-of over more te
     by (stop e) h later = h
 
 -- ---- by calls
-number : Answered → ℕ
-number done = 0
-number awaited = 0
-number (refused n) = n
-
 not-five : (e : Ending) → OfText e → No (endedAs e ≡ refused 5)
 unfolding number
 not-five End h = apart number done (refused 5) (λ e. omega arith)
