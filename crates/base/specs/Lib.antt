@@ -10,3 +10,4 @@ pub mod Same
 pub mod Bytes
 pub mod BytesLaw
 pub mod Along
+pub mod Lent

@@ -7,6 +7,7 @@ use contract.Lifetimes.{Lfts}
 use denote.Ref.{RefT}
 use denote.Triple.Clauses.{atExit}
 use lib.IntN.{ℤ}
+use Rattle.base.specs.Lent.{lentAs}
 use Rattle.base.specs.Pick.{pick-true}
 use Rattle.line.specs.Slots.{RunOutcome}
 use Rattle.line.specs.declared.Event.{Event}
@@ -27,7 +28,6 @@ use Rattle.histories.specs.Histories.{codesOf}
 use Rattle.agreement.specs.Slice.{ofLent, codes-lent}
 use Rattle.agreement.specs.InC.{LentBytes, unpackedLent, searchIn, slotsIn, leavesBytes, leaves-bytes, searched-after}
 use Rattle.agreement.specs.AfterTroubleC.{StandsAsBytes, bytes-fit}
-use Rattle.calls.specs.Told.{lentAs}
 use Rattle.calls.specs.Form.{Meets, Form, Well}
 
 -- what `tk_search` tells: how many codes it lists, or minus a refusal number; the list; and the counts

@@ -7,6 +7,7 @@ use mathlib.Core.Path.{_≡_, refl, _∙_, ap, sym}
 use contract.Lifetimes.{Lfts}
 use denote.Ref.{RefT}
 use denote.Triple.Clauses.{atExit}
+use Rattle.base.specs.Lent.{lentAs}
 use Rattle.base.specs.Pick.{pick}
 use Rattle.chip.specs.declared.Chip.{Chip}
 use Rattle.line.specs.Event.{Answered, answered, Outcome, outcome, planOf, doneOf, eventOf}
@@ -33,7 +34,7 @@ use Rattle.search.specs.declared.SearchAnswer.{SearchAnswer}
 use Rattle.search.specs.declared.SearchAnswer.the-variants as search
 use Rattle.search.specs.declared.Found.{Found}
 use Rattle.histories.specs.Slots.{slotsOn, leftByRun}
-use Rattle.calls.specs.Told.{Told, told, ToldSlots, toldSlots, lentAs}
+use Rattle.calls.specs.Told.{Told, told, ToldSlots, toldSlots}
 use Rattle.calls.specs.Form.{Meets, Form}
 
 -- a caller's table, by value

@@ -1,7 +1,6 @@
--- What a search, and a run of slots, tells its caller, beside the line that it leaves; and what a caller lends.
+-- What a search, and a run of slots, tells its caller, beside the line that it leaves.
 use Prim.Native.Nat.{ℕ}
 use mathlib.Core.List.{List}
-use denote.Ref.{RefT}
 use Rattle.line.specs.Slots.{Slotted, RunOutcome}
 use Rattle.search.specs.Search.{Searched, Search}
 
@@ -25,7 +24,3 @@ toldSlots o = record { answer = o .answer; answers = o .answers }
 -- a call that a form does not have
 pub record NoCall : Type 2 where
   pub none : ⊥
-
--- what a caller lends, behind a reference
-abbrev pub lentAs : {X : Type 0} → X → RefT X
-lentAs x = record { ptr = (0, 0); name = 0; now = x }

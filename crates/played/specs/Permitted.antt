@@ -4,9 +4,9 @@ use mathlib.Core.Bool.{Bool, true, false}
 use mathlib.Core.List.{List, [], _∷_, _++_}
 use mathlib.Core.Path.{_≡_, refl, ap}
 use contract.Lifetimes.{Lfts}
-use denote.Ref.{RefT}
 use lib.Dec.{eqb}
 use lib.ListN.{length, drop, replicate, length-replicate}
+use Rattle.base.specs.Lent.{lentAs}
 use Rattle.base.specs.Pick.{pick-both}
 use Rattle.line.specs.Attached.{Attached}
 use Rattle.line.specs.Tables.{blankTable}
@@ -59,10 +59,6 @@ play-ending more s out l =
     pick-both (λ (h : Handed). EndingFor (h .ends)) (eqb (length out) (8 * length s)) _ _ (all-ending more s l) (ending.Refused (fault.OnLine refusal-of.WrongSize), refl)
 
 -- ---- the calls
-
--- what a caller lends, behind a reference
-abbrev lentAs : {X : Type 0} → X → RefT X
-lentAs x = record { ptr = (0, 0); name = 0; now = x }
 
 -- THEOREM: every call of `read_cards`, and every call of `play`, has an outcome that its contract permits
 pub some-cards : Lfts 1 → (more : Bool) (s : List ℕ) (t : Table) → CardsCall more s t (cardsOf more s t)

@@ -6,6 +6,7 @@ use contract.Lifetimes.{Lfts}
 use denote.Ref.{RefT}
 use denote.Triple.Clauses.{atExit}
 use lib.IntN.{ℤ}
+use Rattle.base.specs.Lent.{lentAs}
 use Rattle.setpoints.specs.Pages.{read101, read102, readEither, wrote, write101, write102}
 use Rattle.setpoints.specs.declared.Reading.{Reading}
 use Rattle.setpoints.specs.declared.Writing.{Writing}
@@ -62,10 +63,6 @@ pub wrote-by-102 : (v : ℤ) (page : List ℕ) (a : Writing) (after : List ℕ) 
 wrote-by-102 v page a after c = c .permits ∙ ap (write102 v) (c .from-bytes)
 
 -- ---- there are such calls
-
--- what a caller lends, behind a reference
-abbrev lentAs : List ℕ → RefT (List ℕ)
-lentAs page = record { ptr = (0, 0); name = 0; now = page }
 
 -- THEOREM: every call has an outcome that its contract permits, whatever is lent and however long it lives
 pub some-read-101 : Lfts 1 → (page : List ℕ) → Read101 page (read101 page)

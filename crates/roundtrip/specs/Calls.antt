@@ -6,6 +6,7 @@ use mathlib.Core.Path.{_≡_, refl, _∙_}
 use contract.Lifetimes.{Lfts}
 use denote.Ref.{RefT}
 use denote.Triple.Clauses.{atExit}
+use Rattle.base.specs.Lent.{lentAs}
 use Rattle.intelhex.specs.Written.{wrote, writeText}
 use Rattle.intelhex.specs.Reading.{went, readLines, read, readText}
 use Rattle.intelhex.specs.declared.Reading.{Reading}
@@ -52,10 +53,6 @@ pub went-by : (over more : Bool) (text image : List ℕ) (back : Taken) (after :
 went-by over more text image back after c = c .permits ∙ λ j. readLines over more (c .from-characters j) (c .from-bytes j)
 
 -- ---- there are such calls
-
--- what a caller lends, behind a reference
-abbrev lentAs : List ℕ → RefT (List ℕ)
-lentAs s = record { ptr = (0, 0); name = 0; now = s }
 
 -- THEOREM: every call has an outcome that its contract permits, whatever is lent and however long it lives
 pub some-write-text : Lfts 2 → (image text : List ℕ) → WriteText image text (writeText image text .answer) (writeText image text .text)

@@ -16,10 +16,10 @@ use Rattle.intelhex.specs.Bytes.{between, isDigit, byteOf, bytesOf}
 use Rattle.intelhex.specs.Written.{lineFeed}
 use Rattle.intelhex.specs.Lines.{before, carriageReturn, withoutReturn, standing, allDigits, formOf, countIn, judged}
 use Rattle.intelhex.specs.Reading.{nextBy, nextIn, nextOf, next}
-use Rattle.intelhex.specs.Digits.{worth-most}
 use Rattle.intelhex.specs.declared.lines.Standing.the-variants.{Line}
 use Rattle.intelhex.specs.declared.record.Form.the-variants as form
-use Rattle.roundtrip.specs.Grammar.{Spells, nothing, a-byte, LineEnd, lf, cr-lf, LineOf}
+use Rattle.roundtrip.specs.Digits.{digit-is, digit-small}
+use Rattle.roundtrip.specs.Grammar.{Spells, nothing, a-byte, LineEnd, lf, cr-lf, IsLineOf}
 
 -- ---- digits
 
@@ -40,30 +40,30 @@ spells-length digits bytes (a-byte {digits = ds} {bytes = bs} h l s) = let e = s
 pub spells-all : (digits bytes : List ℕ) → Spells digits bytes → allDigits digits ≡ true
 unfolding both
 spells-all digits bytes nothing = refl
-spells-all digits bytes (a-byte {digits = ds} {bytes = bs} h l s) = pick-true _ _ _ h ∙ pick-true _ _ _ l ∙ spells-all ds bs s
+spells-all digits bytes (a-byte {digits = ds} {bytes = bs} h l s) = pick-true _ _ _ (digit-is _ _ h .0) ∙ pick-true _ _ _ (digit-is _ _ l .0) ∙ spells-all ds bs s
 
 pub spells-bytes : (digits bytes : List ℕ) → Spells digits bytes → bytesOf digits ≡ bytes
+unfolding byteOf
 spells-bytes digits bytes nothing = refl
-spells-bytes digits bytes (a-byte {high = h} {low = l} {digits = ds} {bytes = bs} p q s) = ap (λ (x : List ℕ). byteOf h l ∷ x) (spells-bytes ds bs s)
+spells-bytes digits bytes (a-byte {digits = ds} {bytes = bs} p q s) = λ j. (16 * digit-is _ _ p .1 j + digit-is _ _ q .1 j) ∷ spells-bytes ds bs s j
 
 pub spells-digit : (digits bytes : List ℕ) → Spells digits bytes → (i : ℕ) → i < length digits → isDigit (getD digits i 0) ≡ true
 spells-digit digits bytes nothing i h = absurd (omega arith)
-spells-digit digits bytes (a-byte {digits = ds} {bytes = bs} p q s) zero h = p
-spells-digit digits bytes (a-byte {digits = ds} {bytes = bs} p q s) (suc zero) h = q
+spells-digit digits bytes (a-byte {digits = ds} {bytes = bs} p q s) zero h = digit-is _ _ p .0
+spells-digit digits bytes (a-byte {digits = ds} {bytes = bs} p q s) (suc zero) h = digit-is _ _ q .0
 spells-digit digits bytes (a-byte {digits = ds} {bytes = bs} p q s) (suc (suc i)) h = spells-digit ds bs s i (omega arith)
 
 -- the first byte of them is one
 pub spells-count : (digits bytes : List ℕ) → Spells digits bytes → countIn bytes ≤ 255
-unfolding byteOf
 spells-count digits bytes nothing = omega arith
-spells-count digits bytes (a-byte {high = h} {low = l} p q s) = let a = worth-most h in let b = worth-most l in omega arith
+spells-count digits bytes (a-byte p q s) = let a = digit-small _ _ p in let b = digit-small _ _ q in omega arith
 
 -- no LF is among them
 spells-before : (digits bytes rest : List ℕ) → Spells digits bytes → before (digits ++ rest) ≡ length digits + before rest
 spells-before digits bytes rest nothing = let e : before rest ≡ 0 + before rest = omega arith in e
 spells-before digits bytes rest (a-byte {high = h} {low = l} {digits = ds} {bytes = bs} p q s) =
-    let a : eqb h lineFeed ≡ false = ne-eqb h lineFeed (λ e. not-feed (ap isDigit (sym e) ∙ p)) in
-    let b : eqb l lineFeed ≡ false = ne-eqb l lineFeed (λ e. not-feed (ap isDigit (sym e) ∙ q)) in
+    let a : eqb h lineFeed ≡ false = ne-eqb h lineFeed (λ e. not-feed (ap isDigit (sym e) ∙ digit-is _ _ p .0)) in
+    let b : eqb l lineFeed ≡ false = ne-eqb l lineFeed (λ e. not-feed (ap isDigit (sym e) ∙ digit-is _ _ q .0)) in
     let i = spells-before ds bs rest s in
     let e : before (h ∷ l ∷ ds ++ rest) ≡ suc (suc (before (ds ++ rest)))
     = pick-false _ _ _ a ∙ ap suc (pick-false _ _ _ b) in
@@ -164,7 +164,7 @@ module _ (digits bytes : List ℕ) (s : Spells digits bytes) where
       ∙ pick-false _ _ _ (le-ltb ((suc (length digits) - 1) / 2) 5 (omega arith)) ∙ ap (λ (n : ℕ). form.Bytes n) e
 
 -- a text that begins with a line of five bytes or more, as many as their count says, goes on with the record of these bytes
-pub formed-next : (bytes line rest : List ℕ) (more : Bool) → LineOf bytes line → 5 ≤ length bytes → length bytes ≡ countIn bytes + 5
+pub formed-next : (bytes line rest : List ℕ) (more : Bool) → IsLineOf bytes line → 5 ≤ length bytes → length bytes ≡ countIn bytes + 5
     → next false more (line ++ rest) ≡ nextBy (length line) bytes (judged bytes)
 unfolding next
 formed-next bytes line rest more f h c =

@@ -16,7 +16,7 @@ use Rattle.base.specs.Both.{both-holds}
 use Rattle.base.specs.Exactly.{No}
 use Rattle.base.specs.Pick.{pick, pick-true, pick-false, pick-if, pick-both}
 use Rattle.intelhex.specs.Faults.{lineMost, numberOfFault}
-use Rattle.intelhex.specs.Bytes.{isDigit, bytesOf, sumOf}
+use Rattle.intelhex.specs.Bytes.{isDigit, byteOf, bytesOf, sumOf}
 use Rattle.intelhex.specs.Written.{lineFeed}
 use Rattle.intelhex.specs.Lines.{before, carriageReturn, withoutReturn, standing, allDigits, formOf, countIn, addressIn, typeIn, dataIn, judged}
 use Rattle.intelhex.specs.Reading.{given, Next, data-record, end-record, stop, nextBy, nextIn, nextOf, next}
@@ -32,7 +32,8 @@ use Rattle.intelhex.specs.declared.record.Form.{Form}
 use Rattle.intelhex.specs.declared.record.Form.the-variants as form
 use Rattle.intelhex.specs.declared.record.Judged.{Judged}
 use Rattle.intelhex.specs.declared.record.Judged.the-variants as judged-as
-use Rattle.roundtrip.specs.Grammar.{Spells, nothing, a-byte, LineEnd, lf, cr-lf, LineOf, DataRecord, EndRecord, IsAbove, Begins}
+use Rattle.roundtrip.specs.Digits.{is-digit}
+use Rattle.roundtrip.specs.Grammar.{Spells, nothing, a-byte, LineEnd, lf, cr-lf, IsLineOf, IsDataRecord, IsEndRecord, IsAbove, Begins}
 use Rattle.roundtrip.specs.Records.{FaultSays, RecordSays, record-says}
 
 -- ---- where the first LF stands
@@ -136,12 +137,13 @@ colon-first [] e = absurd (let z : 0 ≡ 58 = e in omega arith)
 colon-first (c ∷ cs) e = ap (λ (x : ℕ). x ∷ cs) e
 
 spelt : (cs : List ℕ) (k : ℕ) → length cs ≡ 2 * k → allDigits cs ≡ true → Spells cs (bytesOf cs)
+unfolding byteOf
 spelt [] k l e = nothing
 spelt (a ∷ []) k l e = absurd (omega arith)
 spelt (a ∷ b ∷ cs) k l e =
     let p = both-holds (isDigit a) (both (isDigit b) (allDigits cs)) e in
     let q = both-holds (isDigit b) (allDigits cs) (p .1) in
-    a-byte (p .0) (q .0) (spelt cs (k - 1) (omega arith) (q .1))
+    a-byte (is-digit a (p .0)) (is-digit b (q .0)) (spelt cs (k - 1) (omega arith) (q .1))
 
 abbrev pub FormSays : List ℕ → Form → Type 0
 FormSays line (form.Bytes n) = (getD line 0 0 ≡ letter ":") × (allDigits (drop 1 line) ≡ true)
@@ -170,14 +172,14 @@ pub data Stops (text : List ℕ) : ℕ → Type 0 where
 
 abbrev pub NextSays : List ℕ → Next → Type 0
 NextSays text (data-record size g) =
-    (bytes : List ℕ) × (line : List ℕ) × LineOf bytes line × DataRecord bytes × (text ≡ line ++ drop size text) × (g ≡ given (addressIn bytes) (dataIn bytes))
-NextSays text (end-record size) = (bytes : List ℕ) × (line : List ℕ) × LineOf bytes line × EndRecord bytes × (text ≡ line ++ drop size text)
+    (bytes : List ℕ) × (line : List ℕ) × IsLineOf bytes line × IsDataRecord bytes × (text ≡ line ++ drop size text) × (g ≡ given (addressIn bytes) (dataIn bytes))
+NextSays text (end-record size) = (bytes : List ℕ) × (line : List ℕ) × IsLineOf bytes line × IsEndRecord bytes × (text ≡ line ++ drop size text)
 NextSays text (stop ending.End) = ⊥
 NextSays text (stop ending.Part) = ⊥
 NextSays text (stop (ending.Refused f)) = Stops text (numberOfFault f)
 
 -- by a record
-module _ (text bytes line : List ℕ) (size : ℕ) (f : LineOf bytes line) (five : 5 ≤ length bytes) (is : text ≡ line ++ drop size text) (some : No (text ≡ [])) where
+module _ (text bytes line : List ℕ) (size : ℕ) (f : IsLineOf bytes line) (five : 5 ≤ length bytes) (is : text ≡ line ++ drop size text) (some : No (text ≡ [])) where
   begins : (length bytes ≡ countIn bytes + 5) × (typeIn bytes ≡ 1 → (countIn bytes ≡ 0) × (addressIn bytes ≡ 0)) → Begins text bytes (drop size text)
   begins g = record { line = line; formed = f; form = (five, g); is = is }
 
@@ -213,7 +215,7 @@ module _ (text : List ℕ) (n m : ℕ) (r : Return text m n) (h : m < length tex
       let five = l .1 in
       let b = length-drop 1 (take n text) in
       let g = bytes-length d in
-      let formed : LineOf (bytesOf d) (take (m + 1) text) = record {
+      let formed : IsLineOf (bytesOf d) (take (m + 1) text) = record {
         digits = d;
         end = E;
         spells = spelt d k (omega arith) (s .1);

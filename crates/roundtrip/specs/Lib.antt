@@ -1,8 +1,9 @@
 pub mod Grammar
+pub mod Digits
 pub mod Formed
 pub mod Records
 pub mod Found
-pub mod Fuel
+pub mod Steps
 pub mod Judging
 pub mod Calls
 pub mod Values

@@ -29,7 +29,7 @@ use Rattle.intelhex.specs.declared.record.Form.the-variants as form
 use Rattle.intelhex.specs.declared.record.Judged.{Judged}
 use Rattle.intelhex.specs.declared.record.Judged.the-variants as judged-as
 use Rattle.roundtrip.specs.Calls.{ReadText, read-by, ReadLines, went-by}
-use Rattle.roundtrip.specs.Fuel.{lines-data, lines-end, lines-stop}
+use Rattle.roundtrip.specs.Steps.{lines-data, lines-end, lines-stop}
 use Rattle.roundtrip.specs.Growing.{next-stays}
 use Rattle.roundtrip.specs.Judging.{Ends, never-part}
 use Rattle.roundtrip.specs.Refused.{sized}

@@ -11,7 +11,7 @@ use borrow.Author.Tests.{eqb-true, eqb-false, eq-eqb}
 use Rattle.base.specs.Exactly.{No, Iff}
 use Rattle.base.specs.Pick.{pick-true, pick-both}
 use Rattle.intelhex.specs.Faults.{imageSize, textSize, numberOfFault}
-use Rattle.intelhex.specs.Answers.{Answered, done, awaited, refused, writtenAs, readAs}
+use Rattle.intelhex.specs.Answers.{Answered, done, awaited, refused, refused-after, writtenAs, readAs}
 use Rattle.intelhex.specs.Reading.{Given, linesOf, putAll, blank, Read, read, readBy, readText}
 use Rattle.intelhex.specs.Underway.{text-unsized}
 use Rattle.intelhex.specs.Written.{Wrote, wrote, textOf}
@@ -28,16 +28,24 @@ use Rattle.roundtrip.specs.Grammar.{Cause, out-of-form, check-byte, anot
 use Rattle.roundtrip.specs.Judging.{Ends, ended-faultless, never-part, refused-cause, cause-ends, faultless-ends}
 use Rattle.roundtrip.specs.Calls.{ReadText, read-by, WriteText, wrote-by}
 
--- whether an answer is a refusal, and its number, 0 for any other
+-- whether an answer is a refusal, its number, and its lines, 0 for any other
 tag : Answered → ℕ
 tag done = 0
 tag awaited = 0
 tag (refused n) = 1
+tag (refused-after n lines) = 1
 
 unfoldable pub number : Answered → ℕ
 number done = 0
 number awaited = 0
 number (refused n) = n
+number (refused-after n lines) = n
+
+linesIn : Answered → ℕ
+linesIn done = 0
+linesIn awaited = 0
+linesIn (refused n) = 0
+linesIn (refused-after n lines) = lines
 
 -- an answer that says that all is done
 pub read-done : (r : Reading) → readAs r ≡ done → r ≡ reading.Read
@@ -62,18 +70,22 @@ module _ (text image : List ℕ) (s : length image ≡ imageSize) where
     answer-is : (e : Ending) → Ends text e → r ≡ readBy image (putAll (linesOf false false text .given) blank) (linesOf false false text .lines) e .answer
     answer-is e h = ap (λ (x : Read). x .answer) (read-by text image r after c ∙ sized e h)
 
-    cause : (n : ℕ) (e : Ending) → Ends text e → readAs r ≡ refused n → Cause text n
-    unfolding tag number
-    cause n End h q = absurd (let z : 0 ≡ 1 = ap tag (sym (ap readAs (answer-is End h)) ∙ q) in omega arith)
-    cause n Part h q = absurd (never-part text h)
-    cause n (Refused x) h q = subst (Cause text) (ap number (sym (ap readAs (answer-is (Refused x) h)) ∙ q)) (refused-cause text x h)
+    cause : (n lines : ℕ) (e : Ending) → Ends text e → readAs r ≡ refused-after n lines → Cause text n lines
+    unfolding tag number linesIn
+    cause n lines End h q = absurd (let z : 0 ≡ 1 = ap tag (sym (ap readAs (answer-is End h)) ∙ q) in omega arith)
+    cause n lines Part h q = absurd (never-part text h)
+    cause n lines (Refused x) h q =
+        let w = sym (ap readAs (answer-is (Refused x) h)) ∙ q in
+        subst (λ (m : ℕ). Cause text m lines) (ap number w) (subst (Cause text (numberOfFault x)) (ap linesIn w) (refused-cause text x h))
 
-    caused : (n : ℕ) → Cause text n → readAs r ≡ refused n
-    caused n x = let e = cause-ends text n x in ap readAs (answer-is (Refused (e .0)) (e .1)) ∙ ap refused (e .2)
+    caused : (n lines : ℕ) → Cause text n lines → readAs r ≡ refused-after n lines
+    caused n lines x =
+        let e = cause-ends text n lines x in
+        ap readAs (answer-is (Refused (e .0)) (e .1 .0)) ∙ λ j. refused-after (e .2 j) (e .1 .1 j)
 
-    -- THEOREM: a text is refused by a number exactly when it has a cause of that number: 16, 17, 18, 19 or 20, of the first record at fault
-    pub refused-exactly : (n : ℕ) → Iff (readAs r ≡ refused n) (Cause text n)
-    refused-exactly n = (cause n (linesOf false false text .ending) refl, caused n)
+    -- THEOREM: a text is refused by a number, after so many lines, exactly when it has a cause of that number behind as many: 16, 17, 18, 19 or 20, of the first record at fault
+    pub refused-exactly : (n lines : ℕ) → Iff (readAs r ≡ refused-after n lines) (Cause text n lines)
+    refused-exactly n lines = (cause n lines (linesOf false false text .ending) refl, caused n lines)
 
     faultless : (e : Ending) → Ends text e → readAs r ≡ done → (gs : List Given) × Faultless text gs
     unfolding tag
@@ -86,18 +98,18 @@ module _ (text image : List ℕ) (s : length image ≡ imageSize) where
     read-exactly = (faultless (linesOf false false text .ending) refl, λ x. ap readAs (answer-is End (faultless-ends text (x .0) (x .1) .0)))
 
 -- no text has a cause of 5
-no-five : (text : List ℕ) (n : ℕ) → Cause text n → n ≡ 5 → ⊥
-no-five text n (out-of-form b s a) e = omega arith
-no-five text n (check-byte b g s) e = omega arith
-no-five text n (another-type b g s t u) e = omega arith
-no-five text n (above-image b g s t u) e = omega arith
-no-five text n (no-end-record b) e = omega arith
-no-five text n (after-end b g d m) e = omega arith
+no-five : (text : List ℕ) (n lines : ℕ) → Cause text n lines → n ≡ 5 → ⊥
+no-five text n lines (out-of-form b s a) e = omega arith
+no-five text n lines (check-byte b g s) e = omega arith
+no-five text n lines (another-type b g s t u) e = omega arith
+no-five text n lines (above-image b g s t u) e = omega arith
+no-five text n lines (no-end-record b) e = omega arith
+no-five text n lines (after-end b g d m) e = omega arith
 
 -- THEOREM: reading is refused by 5 exactly when the image has another size
-pub refused-5 : (text image after : List ℕ) (r : Reading) → ReadText text image r after → Iff (readAs r ≡ refused 5) (No (length image ≡ imageSize))
+pub refused-5 : (text image after : List ℕ) (r : Reading) → ReadText text image r after → Iff (readAs r ≡ refused-after 5 0) (No (length image ≡ imageSize))
 refused-5 text image after r c =
-    ((λ q s. no-five text 5 (refused-exactly text image s r after c 5 .0 q) refl), λ n. ap (λ (x : Read). readAs (x .answer)) (read-by text image r after c ∙ sym (text-unsized text image n)))
+    ((λ q s. no-five text 5 0 (refused-exactly text image s r after c 5 0 .0 q) refl), λ n. ap (λ (x : Read). readAs (x .answer)) (read-by text image r after c ∙ sym (text-unsized text image n)))
 
 -- what leaves the image as found, or is read
 LeavesImage : List ℕ → Read → Type 0

@@ -18,78 +18,33 @@ use Rattle.intelhex.specs.Written.{lineFeed, lineOf, dataBytes, dataRecord, end
 use Rattle.intelhex.specs.Lines.{addressIn, dataIn}
 use Rattle.intelhex.specs.Reading.{Given, given, putAll, blank}
 use Rattle.intelhex.specs.Stores.{sets-append, sets-all}
-use Rattle.roundtrip.specs.Grammar.{Spells, nothing, a-byte, lf, LineOf, DataRecord, EndRecord, DataLines, none, a-line, Faultless}
+use Rattle.roundtrip.specs.Grammar.{Digit, decimal, capital, Spells, nothing, a-byte, lf, IsLineOf, IsDataRecord, IsEndRecord, GoodLines, none, a-line, Faultless}
 
 -- ---- digits
 
--- a character between two others, and one that is not
-within : (least c most : ℕ) → least ≤ c → c ≤ most → between least c most ≡ true
-unfolding between
-within least c most h k = both-true′ _ _ (le-leb least c h) (le-leb c most k)
-
-above : (least c most : ℕ) → most < c → between least c most ≡ false
-unfolding between both
-above least c most h = by (leb least c)
-  where
-    by : (t : Bool) → pick t (leb c most) false ≡ false
-    by true = pick-true _ _ _ refl ∙ lt-leb c most h
-    by false = pick-false _ _ _ refl
-
 -- the digit of a number below 16 is one, and is worth it
-digit-low : (n : ℕ) → n < 10 → digit n ≡ letter "0" + n
+written-digit : (n : ℕ) → n < 16 → Digit (digit n) n
 unfolding digit
-digit-low n h = pick-true _ _ _ (lt-ltb n 10 h)
-
-digit-high : (n : ℕ) → 10 ≤ n → digit n ≡ letter "A" + (n - 10)
-unfolding digit
-digit-high n h = pick-false _ _ _ (le-ltb n 10 h)
-
-low-is : (n : ℕ) → n < 10 → (isDigit (letter "0" + n) ≡ true) × (worth (letter "0" + n) ≡ n)
-unfolding isDigit worth
-low-is n h =
-    let b = within (letter "0") (letter "0" + n) (letter "9") (omega arith) (omega arith) in
-    let e : letter "0" + n - letter "0" ≡ n = omega arith in
-    (pick-true _ _ _ b, pick-true _ _ _ b ∙ e)
-
-high-is : (n : ℕ) → 10 ≤ n → n < 16 → (isDigit (letter "A" + (n - 10)) ≡ true) × (worth (letter "A" + (n - 10)) ≡ n)
-unfolding isDigit worth
-high-is n h k =
-    let c = letter "A" + (n - 10) in
-    let a = above (letter "0") c (letter "9") (omega arith) in
-    let b = within (letter "A") c (letter "F") (omega arith) (omega arith) in
-    let e : letter "A" + (n - 10) - letter "A" + 10 ≡ n = omega arith in
-    (pick-false _ _ _ a ∙ pick-true _ _ _ b, pick-false _ _ _ a ∙ pick-true _ _ _ b ∙ e)
-
-digit-is : (n : ℕ) → n < 16 → (isDigit (digit n) ≡ true) × (worth (digit n) ≡ n)
-digit-is n h = by (ltb n 10) refl
+written-digit n h = by (ltb n 10) refl
   where
-    by : (t : Bool) → ltb n 10 ≡ t → (isDigit (digit n) ≡ true) × (worth (digit n) ≡ n)
-    by true e =
-        let l : n < 10 = ltb-true n 10 e in
-        let p = low-is n l in
-        (ap isDigit (digit-low n l) ∙ p .0, ap worth (digit-low n l) ∙ p .1)
+    by : (t : Bool) → ltb n 10 ≡ t → Digit (pick (ltb n 10) (letter "0" + n) (letter "A" + (n - 10))) n
+    by true e = subst (λ (c : ℕ). Digit c n) (sym (pick-true _ _ _ e)) (decimal (ltb-true n 10 e))
     by false e =
-        let l : 10 ≤ n = ltb-false n 10 e in
-        let p = high-is n l h in
-        (ap isDigit (digit-high n l) ∙ p .0, ap worth (digit-high n l) ∙ p .1)
+        let k : 10 ≤ n = ltb-false n 10 e in
+        let m : 10 + (n - 10) ≡ n = omega arith in
+        subst (λ (c : ℕ). Digit c n) (sym (pick-false _ _ _ e)) (subst (Digit (letter "A" + (n - 10))) m (capital (omega arith)))
 
 -- the digits of bytes spell them
 abbrev pub AreBytes : List ℕ → Type 0
 AreBytes s = (i : ℕ) → getD s i 0 < 256
 
-byte-spelt : (b : ℕ) → b < 256 → byteOf (digit (b / 16)) (digit (b % 16)) ≡ b
-unfolding byteOf
-byte-spelt b h =
-    let p = digit-is (b / 16) (omega arith) .1 in
-    let q = digit-is (b % 16) (omega arith) .1 in
-    omega arith
-
 pub digits-spell : (bs : List ℕ) → AreBytes bs → Spells (digitsOf bs) bs
 digits-spell [] f = nothing
 digits-spell (b ∷ bs) f =
     let h = f 0 in
-    subst (λ (x : ℕ). Spells (digitsOf (b ∷ bs)) (x ∷ bs)) (byte-spelt b h)
-    (a-byte (digit-is (b / 16) (omega arith) .0) (digit-is (b % 16) (omega arith) .0) (digits-spell bs (λ i. f (suc i))))
+    let e : 16 * (b / 16) + b % 16 ≡ b = omega arith in
+    subst (λ (x : ℕ). Spells (digitsOf (b ∷ bs)) (x ∷ bs)) e
+    (a-byte (written-digit (b / 16) (omega arith)) (written-digit (b % 16) (omega arith)) (digits-spell bs (λ i. f (suc i))))
 
 -- ---- a record with its check byte
 abbrev pub checked : List ℕ → List ℕ
@@ -116,7 +71,7 @@ checked-bytes bytes f = go bytes f (check-byte bytes)
     go (x ∷ xs) f c zero = f 0
     go (x ∷ xs) f c (suc i) = go xs (λ j. f (suc j)) c i
 
-pub written-line : (bytes : List ℕ) → AreBytes bytes → LineOf (checked bytes) (lineOf bytes)
+pub written-line : (bytes : List ℕ) → AreBytes bytes → IsLineOf (checked bytes) (lineOf bytes)
 unfolding lineOf
 written-line bytes f = record { digits = digitsOf (checked bytes); end = lineFeed ∷ []; spells = digits-spell (checked bytes) (checked-bytes bytes f); ends = lf; is = refl }
 
@@ -138,7 +93,7 @@ module _ (address : ℕ) (part : List ℕ) (l : length part ≡ dataBytes) (f : 
   unfolding dataRecord
   data-data = take-at part (checkOf (dataRecord address part) ∷ []) dataBytes l
 
-  data-good : DataRecord (checked (dataRecord address part))
+  data-good : IsDataRecord (checked (dataRecord address part))
   unfolding dataRecord
   data-good =
       let n = length-append part (checkOf (dataRecord address part) ∷ []) in
@@ -150,7 +105,7 @@ abbrev pub givens : ℕ → ℕ → List ℕ → List Given
 givens zero address image = []
 givens (suc k) address image = given address (take dataBytes image) ∷ givens k (address + dataBytes) (drop dataBytes image)
 
-pub written-lines : (k address : ℕ) (image : List ℕ) → length image ≡ dataBytes * k → address + dataBytes * k ≤ imageSize → AreBytes image → DataLines (dataLines k address image) (givens k address image)
+pub written-lines : (k address : ℕ) (image : List ℕ) → length image ≡ dataBytes * k → address + dataBytes * k ≤ imageSize → AreBytes image → GoodLines (dataLines k address image) (givens k address image)
 unfolding dataLines
 written-lines zero address image l h f = none
 written-lines (suc k) address image l h f =
@@ -160,7 +115,7 @@ written-lines (suc k) address image l h f =
     let few : AreBytes part = part-bytes dataBytes image f in
     let low : address + dataBytes ≤ imageSize = omega arith in
     let rest = written-lines k (address + dataBytes) (drop dataBytes image) (omega arith) (omega arith) (λ i. subst (λ (x : ℕ). x < 256) (sym (getD-drop dataBytes image i 0)) (f (dataBytes + i))) in
-    subst (λ (g : Given). DataLines (dataLines (suc k) address image) (g ∷ givens k (address + dataBytes) (drop dataBytes image)))
+    subst (λ (g : Given). GoodLines (dataLines (suc k) address image) (g ∷ givens k (address + dataBytes) (drop dataBytes image)))
     (λ j. given (data-address address part t few low j) (data-data address part t few low j))
     (a-line (written-line (dataRecord address part) (data-are address part t few low)) (data-good address part t few low) rest)
   where
@@ -178,7 +133,7 @@ end-are (suc (suc zero)) = omega arith
 end-are (suc (suc (suc zero))) = omega arith
 end-are (suc (suc (suc (suc i)))) = omega arith
 
-end-good : EndRecord (checked endRecord)
+end-good : IsEndRecord (checked endRecord)
 end-good = ((omega arith, (refl, λ t. (refl, refl))), (checked-sum endRecord, refl))
 
 -- it has no fault

@@ -9,7 +9,7 @@ use lib.ListN.{length, take, drop}
 use Rattle.base.specs.Exactly.{No, Iff, apart}
 use Rattle.base.specs.Pick.{pick-both}
 use Rattle.intelhex.specs.Faults.{imageSize, numberOfFault}
-use Rattle.intelhex.specs.Answers.{Answered, done, awaited, refused, endedAs}
+use Rattle.intelhex.specs.Answers.{done, awaited, refused, endedAs}
 use Rattle.intelhex.specs.Bytes.{bytesOf}
 use Rattle.intelhex.specs.Lines.{standing, formOf, judged}
 use Rattle.intelhex.specs.Reading.{Next, data-record, end-record, stop, nextBy, nextIn, nextOf, nextAfter, next, endsAt, onNext, linesFrom, linesOf, Went}

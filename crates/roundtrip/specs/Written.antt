@@ -12,7 +12,7 @@ use Rattle.intelhex.specs.declared.Reading.{Reading}
 use Rattle.intelhex.specs.declared.Reading.the-variants as reading
 use Rattle.intelhex.specs.declared.Writing.{Writing}
 use Rattle.intelhex.specs.declared.Writing.the-variants as writing
-use Rattle.roundtrip.specs.Grammar.{DataLines, none, a-line, Faultless, Records, no-record, a-record, SumZero}
+use Rattle.roundtrip.specs.Grammar.{GoodLines, none, a-line, Faultless, Records, no-record, a-record, SumZero}
 use Rattle.roundtrip.specs.Calls.{ReadText, WriteText}
 use Rattle.roundtrip.specs.Refused.{read-done, written-done, read-exactly, written-exactly, written-text}
 use Rattle.roundtrip.specs.Spelt.{AreBytes, givens, text-faultless, text-gives}
@@ -42,7 +42,7 @@ read-written image₁ text₁ text image₀ image text₂ after w f a b l c =
 -- ---- sums
 
 -- the records of a text with no fault, each with the sum 0
-lines-records : (before : List ℕ) (gs : List Given) (rest : List ℕ) (rs : List (List ℕ)) → DataLines before gs → Records rest rs → SumZero rs
+lines-records : (before : List ℕ) (gs : List Given) (rest : List ℕ) (rs : List (List ℕ)) → GoodLines before gs → Records rest rs → SumZero rs
     → (qs : List (List ℕ)) × Records (before ++ rest) qs × SumZero qs × (length qs ≡ length gs + length rs)
 lines-records before gs rest rs none r z = (rs, r, z, let e : length rs ≡ 0 + length rs = omega arith in e)
 lines-records before gs rest rs (a-line {bytes = bytes} {line = line} {text = text} {gs = hs} f d l) r z =
