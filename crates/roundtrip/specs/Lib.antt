@@ -11,6 +11,8 @@ pub mod Refused
 pub mod Spelt
 pub mod Written
 pub mod Growing
+pub mod Resumed
 pub mod Pieces
 pub mod Unsized
 pub mod Table
+pub mod Sizes

@@ -5,15 +5,13 @@ use native.Mathlib.Omega.{arith}
 use mathlib.Core.Bool.{Bool, true, false}
 use mathlib.Core.List.{List, [], _∷_, _++_}
 use mathlib.Core.Path.{_≡_, refl, _∙_, ap, sym, subst}
-use lib.Dec.{ltb, leb}
+use lib.Dec.{ltb}
 use lib.ListN.{length, getD, take, drop, length-append, length-drop, take-append-drop, length-replicate}
 use lib.Seq.{sets, length-take-le, take-at, getD-drop}
-use borrow.Author.Tests.{ltb-true, ltb-false, lt-ltb, le-ltb, le-leb, lt-leb}
-use Rattle.base.specs.Bits.{both}
-use Rattle.base.specs.Both.{both-true′}
+use borrow.Author.Tests.{ltb-true, ltb-false}
 use Rattle.base.specs.Pick.{pick, pick-true, pick-false}
 use Rattle.intelhex.specs.Faults.{imageSize}
-use Rattle.intelhex.specs.Bytes.{between, isDigit, worth, digit, byteOf, digitsOf, total, sumOf, checkOf}
+use Rattle.intelhex.specs.Bytes.{worth, digit, digitsOf, total, sumOf, checkOf}
 use Rattle.intelhex.specs.Written.{lineFeed, lineOf, dataBytes, dataRecord, endRecord, dataRecords, dataLines, textOf}
 use Rattle.intelhex.specs.Lines.{addressIn, dataIn}
 use Rattle.intelhex.specs.Reading.{Given, given, putAll, blank}

@@ -4,20 +4,21 @@ use native.Mathlib.Omega.{arith}
 use mathlib.Core.Bool.{Bool, true, false}
 use mathlib.Core.List.{List, [], _∷_, _++_}
 use mathlib.Core.Path.{_≡_, refl, _∙_, ap, sym}
-use lib.Dec.{eqb}
-use lib.ListN.{length, getD, set, length-set, length-replicate, getD-replicate}
+use lib.Dec.{eqb, ltb}
+use lib.ListN.{length, getD, drop, length-take, set, length-set, length-replicate, getD-replicate}
 use lib.Seq.{sets, getD-set-same, getD-set-other}
-use borrow.Author.Tests.{eqb-true, eqb-false}
+use borrow.Author.Tests.{ltb-true, ltb-false, eqb-true, eqb-false}
 use Rattle.base.specs.Exactly.{No}
 use Rattle.base.specs.Pick.{pick-true, pick-false}
 use Rattle.intelhex.specs.Faults.{imageSize}
-use Rattle.intelhex.specs.Reading.{Given, Found, linesOf, putAll, blank, Read, read, readBy, readText}
+use Rattle.intelhex.specs.Lines.{countIn, addressIn, dataIn}
+use Rattle.intelhex.specs.Reading.{Given, given, Found, linesOf, putAll, blank, Read, read, readBy, readText}
 use Rattle.intelhex.specs.Underway.{put-append, put-length}
 use Rattle.intelhex.specs.declared.Ending.{Ending}
 use Rattle.intelhex.specs.declared.Ending.the-variants.{End, Part, Refused}
 use Rattle.intelhex.specs.declared.Reading.{Reading}
 use Rattle.intelhex.specs.declared.Reading.the-variants as reading
-use Rattle.roundtrip.specs.Grammar.{Faultless}
+use Rattle.roundtrip.specs.Grammar.{IsDataRecord, GoodLines, none, a-line, Faultless}
 use Rattle.roundtrip.specs.Judging.{ended-faultless, faultless-ends}
 use Rattle.roundtrip.specs.Calls.{ReadText, read-by}
 
@@ -103,11 +104,36 @@ gives text image after gs c f = good-reading text image after c .is ∙ ap (λ (
 pub read-faultless : (text image after : List ℕ) → ReadText text image reading.Read after → (gs : List Given) × Faultless text gs
 read-faultless text image after c = (linesOf false false text .given, ended-faultless text (good-reading text image after c .ended))
 
+-- what good lines give lies in the image
+abbrev Within : List Given → Type 0
+Within [] = Unit {0}
+Within (g ∷ gs) = ((i : ℕ) → Gives g i → i < imageSize) × Within gs
+
+record-within : (bytes : List ℕ) → IsDataRecord bytes → (i : ℕ) → Gives (given (addressIn bytes) (dataIn bytes)) i → i < imageSize
+record-within bytes d i h =
+    let l = length-take (countIn bytes) (drop 4 bytes) in
+    let a = h .0 in
+    let b = h .1 in
+    by (ltb 0x0A3F i) refl (λ k. d .1 .1 .1 (i - addressIn bytes, omega arith, omega arith))
+  where
+    by : (t : Bool) → ltb 0x0A3F i ≡ t → (0x0A3F < i → ⊥) → i < imageSize
+    by true e n = absurd (n (ltb-true _ _ e))
+    by false e n = let k : i ≤ 0x0A3F = ltb-false _ _ e in omega arith
+
+lines-within : (before : List ℕ) (gs : List Given) → GoodLines before gs → Within gs
+lines-within before gs none = tt
+lines-within before gs (a-line {bytes = bytes} {text = text} {gs = hs} f d l) = (record-within bytes d, lines-within text hs l)
+
+within-at : (xs ys : List Given) (g : Given) → Within (xs ++ (g ∷ ys)) → (i : ℕ) → Gives g i → i < imageSize
+within-at [] ys g w = w .0
+within-at (x ∷ xs) ys g w = within-at xs ys g (w .1)
+
 -- THEOREM: a byte that is given has the value of the last line that gives it
 pub later-value : (text image after : List ℕ) (xs ys : List Given) (g : Given) (i : ℕ) → ReadText text image reading.Read after → Faultless text (xs ++ (g ∷ ys))
-    → Gives g i → NoneGives ys i → i < imageSize → getD after i 0 ≡ getD (g .bytes) (i - g .address) 0
-later-value text image after xs ys g i c f h n l =
+    → Gives g i → NoneGives ys i → getD after i 0 ≡ getD (g .bytes) (i - g .address) 0
+later-value text image after xs ys g i c f h n =
     let e = length-replicate {A = ℕ} imageSize 0xFF in
+    let l = within-at xs ys g (lines-within (f .before) (xs ++ (g ∷ ys)) (f .lines)) i h in
     ap (λ (m : List ℕ). getD m i 0) (gives text image after (xs ++ (g ∷ ys)) c f) ∙ put-later xs ys g blank i h n (omega arith)
 
 -- THEOREM: a byte that no line gives is FFh

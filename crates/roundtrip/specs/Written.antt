@@ -18,12 +18,18 @@ use Rattle.roundtrip.specs.Refused.{read-done, written-done, read-exactl
 use Rattle.roundtrip.specs.Spelt.{AreBytes, givens, text-faultless, text-gives}
 use Rattle.roundtrip.specs.Values.{good-reading, gives}
 
+-- THEOREM: what was written of an image has no fault, and is 164 data records of 16 bytes each, from address 0 on and rising, that give the image, and the end record
+pub written-records : (image text₀ text : List ℕ) → AreBytes image → WriteText image text₀ writing.Written text → Faultless text (givens dataRecords 0 image)
+written-records image text₀ text f w =
+    let p = written-text image text₀ text w in
+    subst (λ (x : List ℕ). Faultless x (givens dataRecords 0 image)) (sym (p .1 .1)) (text-faultless image (p .0) f)
+
 -- THEOREM: what was written of an image is read back as the image
 pub written-read : (image text₀ text image₀ after : List ℕ) (r : Reading) → AreBytes image → WriteText image text₀ writing.Written text → length image₀ ≡ imageSize
     → ReadText text image₀ r after → (r ≡ reading.Read) × (after ≡ image)
 written-read image text₀ text image₀ after r f w s c =
     let p = written-text image text₀ text w in
-    let good : Faultless text (givens dataRecords 0 image) = subst (λ (x : List ℕ). Faultless x (givens dataRecords 0 image)) (sym (p .1 .1)) (text-faultless image (p .0) f) in
+    let good = written-records image text₀ text f w in
     let e : r ≡ reading.Read = read-done r (read-exactly text image₀ s r after c .1 (givens dataRecords 0 image, good)) in
     let c′ : ReadText text image₀ reading.Read after = subst (λ (x : Reading). ReadText text image₀ x after) e c in
     (e, gives text image₀ after (givens dataRecords 0 image) c′ good ∙ text-gives image (p .0))
@@ -68,8 +74,7 @@ givens-length (suc k) address image = ap suc (givens-length k (address + dataByt
 pub sum-zero : (image text₀ text : List ℕ) → AreBytes image → WriteText image text₀ writing.Written text
     → (rs : List (List ℕ)) × Records text rs × SumZero rs × (length rs ≡ 165)
 sum-zero image text₀ text f w =
-    let p = written-text image text₀ text w in
-    let i = faultless-records text (givens dataRecords 0 image) (subst (λ (x : List ℕ). Faultless x (givens dataRecords 0 image)) (sym (p .1 .1)) (text-faultless image (p .0) f)) in
+    let i = faultless-records text (givens dataRecords 0 image) (written-records image text₀ text f w) in
     let n = i .3 in
     let g = givens-length dataRecords 0 image in
     (i .0, i .1, i .2, omega arith)
