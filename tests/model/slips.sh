@@ -1,7 +1,7 @@
 #!/usr/bin/env bash
 # Serves the model with one deliberate slip after another and shows what catches each. A slip in the reading or
-# playing of a recording is tried by recordings alone, one in setpoints by pages alone, every other one by list and
-# wire alone.
+# playing of a recording is tried by recordings alone, one in setpoints by pages alone, one in Intel HEX files by these
+# alone, every other one by list and wire alone.
 # Further flags are passed on to the tester, for example --seed 7; `--only WORD` tries the slips whose line has the word.
 set -u
 here=$(cd "$(dirname "${BASH_SOURCE[0]}")" && pwd)
@@ -17,7 +17,8 @@ model="$CARGO_TARGET_DIR/release/wire-model"
 served=$(printf '%q' "$model")
 
 clean=$("$model" --list "$served --serve-list" --wire "$served --serve-wire" \
-    --playback "$served --serve-playback" --setpoint "$served --serve-setpoint" "$@" | tail -n 1)
+    --playback "$served --serve-playback" --setpoint "$served --serve-setpoint" \
+    --hexfile "$served --serve-hexfile" "$@" | tail -n 1)
 echo "without a slip: $clean"
 [[ $clean == *" 0 failed" ]] || exit 1
 
@@ -30,6 +31,8 @@ while read -r name text; do
         programs=(--playback "$served --slip $name --serve-playback")
     elif [[ $text == setpoint:* ]]; then
         programs=(--setpoint "$served --slip $name --serve-setpoint")
+    elif [[ $text == hexfile:* ]]; then
+        programs=(--hexfile "$served --slip $name --serve-hexfile")
     else
         programs=(--list "$served --slip $name --serve-list" --wire "$served --slip $name --serve-wire")
     fi

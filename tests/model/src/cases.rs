@@ -1,6 +1,7 @@
-//! The papers' bench cases, their worked list output and pages, and cases that only a lent table can
+//! The papers' bench cases, their worked list output, pages and files, and cases that only a lent table can
 //! show, all held against the model itself.
 
+mod hexfiles;
 mod setpoints;
 
 use std::collections::VecDeque;
@@ -68,6 +69,13 @@ pub const CASES: &[(&str, Case)] = &[
     ("a setpoint over any page", setpoints::written_pages),
     ("a setpoint of any length", setpoints::long_values),
     ("words without a setpoint", setpoints::other_words),
+    ("the table of Intel HEX files", hexfiles::table),
+    ("the text of an image", hexfiles::written_text),
+    ("records of any form", hexfiles::any_form),
+    ("a file's refusals in order", hexfiles::refusals_in_order),
+    ("addresses of data", hexfiles::addresses),
+    ("when a line is judged", hexfiles::judged_when),
+    ("what hexfile says", hexfiles::program_words),
 ];
 
 /// A host at a line of the model.

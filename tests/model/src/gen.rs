@@ -1,9 +1,11 @@
-//! Seeded cards, event scripts, recordings and pages.
+//! Seeded cards, event scripts, recordings, pages and Intel HEX files.
 
 pub mod bench;
 pub mod cards;
 pub mod faults;
 pub mod heads;
+pub mod hexfaults;
+pub mod hexfiles;
 pub mod pages;
 pub mod recordings;
 pub mod rng;

@@ -1,4 +1,4 @@
-//! Tries the list, wire, playback and setpoint programs, or the library for C behind its driver, against
+//! Tries the list, wire, playback, setpoint and hexfile programs, or the library for C behind its driver, against
 //! an independent model, or serves the model in their place.
 
 mod cases;
@@ -16,6 +16,7 @@ use std::time::{Duration, SystemTime, UNIX_EPOCH};
 
 use cases::{Case, CASES};
 use model::book::{slip_named, Book, Slip, SLIPS};
+use model::hexfile::served;
 use model::programs::{list, Wire};
 use model::recording::Playback;
 use model::setpoint::words::{command_of, said};
@@ -24,7 +25,8 @@ use tester::{run, Options};
 
 const USAGE: &str = "\
 wire-model [--list PROGRAM] [--wire PROGRAM] [--playback PROGRAM]
-           [--setpoint PROGRAM] [--setpoint-linked PROGRAM] [--seed N|time]
+           [--setpoint PROGRAM] [--setpoint-linked PROGRAM]
+           [--hexfile PROGRAM] [--hexfile-linked PROGRAM] [--seed N|time]
            [--cards N] [--scripts N] [--rounds N] [--long] [--stop N] [--wait SECONDS] [--rules]
 wire-model --library DRIVER [--seed N|time] [--lines N]
            [--long] [--stop N] [--wait SECONDS] [--rules]
@@ -32,6 +34,7 @@ wire-model --serve-list [--slip NAME]
 wire-model --serve-wire CARDFILE [--slip NAME]
 wire-model --serve-playback [--slip NAME]
 wire-model [--slip NAME] --serve-setpoint WORDS
+wire-model [--slip NAME] --serve-hexfile WORDS
 wire-model --serve-library [--slip NAME]
 wire-model --cases [--slip NAME]
 wire-model --slips";
@@ -44,6 +47,7 @@ enum Mode {
     ServeWire(String),
     ServePlayback,
     ServeSetpoint(Vec<Vec<u8>>),
+    ServeHexfile(Vec<Vec<u8>>),
     ServeLibrary,
     Cases,
     Slips,
@@ -74,6 +78,9 @@ fn main() -> ExitCode {
         Mode::ServeWire(path) => serve_wire(&path, slip).is_ok(),
         Mode::ServePlayback => serve_playback(slip).is_ok(),
         Mode::ServeSetpoint(words) => serve_setpoint(&words, slip).is_ok(),
+        Mode::ServeHexfile(words) => {
+            return ExitCode::from(served::serve(&words, &mut Book::new(slip)));
+        }
         Mode::ServeLibrary => library::calls::serve(&mut Book::new(slip)).is_ok(),
         Mode::Cases => run_cases(slip, true),
         Mode::Slips => {
@@ -97,6 +104,8 @@ fn read_flags() -> Result<(Mode, Options, Option<Slip>), String> {
         playback: None,
         setpoint: None,
         linked: None,
+        hexfile: None,
+        hexfile_linked: None,
         seed: 1,
         cards: 60,
         scripts: 480,
@@ -114,6 +123,8 @@ fn read_flags() -> Result<(Mode, Options, Option<Slip>), String> {
             "--playback" => options.playback = Some(value()?),
             "--setpoint" => options.setpoint = Some(value()?),
             "--setpoint-linked" => options.linked = Some(value()?),
+            "--hexfile" => options.hexfile = Some(value()?),
+            "--hexfile-linked" => options.hexfile_linked = Some(value()?),
             "--seed" => options.seed = seed(&value()?)?,
             "--cards" => options.cards = number(&value()?)?,
             "--scripts" => options.scripts = number(&value()?)?,
@@ -142,12 +153,15 @@ fn read_flags() -> Result<(Mode, Options, Option<Slip>), String> {
             "--serve-list" => mode = Mode::ServeList,
             "--serve-wire" => mode = Mode::ServeWire(value()?),
             "--serve-playback" => mode = Mode::ServePlayback,
-            "--serve-setpoint" => {
+            "--serve-setpoint" | "--serve-hexfile" => {
                 // All that follows are its words, which may be any bytes.
                 let words = std::env::args_os();
                 let before = words.len() - flags.len();
-                let words = words.skip(before).map(OsStringExt::into_vec);
-                mode = Mode::ServeSetpoint(words.collect());
+                let words = words.skip(before).map(OsStringExt::into_vec).collect();
+                mode = match flag.as_str() {
+                    "--serve-setpoint" => Mode::ServeSetpoint(words),
+                    _ => Mode::ServeHexfile(words),
+                };
                 break;
             }
             "--cases" => mode = Mode::Cases,
@@ -164,6 +178,7 @@ fn read_flags() -> Result<(Mode, Options, Option<Slip>), String> {
         &options.wire,
         &options.playback,
         &options.setpoint,
+        &options.hexfile,
     ];
     if matches!(mode, Mode::Test) && programs.iter().all(|program| program.is_none()) {
         return Err("nothing to test".into());

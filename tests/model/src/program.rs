@@ -148,11 +148,28 @@ impl Program {
     }
 
     /// Closes the input; the rest of the output, and whether the program ended by itself.
-    pub fn end(mut self) -> (Vec<u8>, bool) {
+    pub fn end(self) -> (Vec<u8>, bool) {
+        let (rest, status) = self.end_status();
+        (rest, status.is_some())
+    }
+
+    /// Closes the input; the rest of the output, and the exit status of a program that ended by itself.
+    pub fn end_status(mut self) -> (Vec<u8>, Option<i32>) {
         self.input = None;
         let rest = self.receive(usize::MAX);
         let ended = self.status();
-        (rest, ended.is_some_and(|status| status.code().is_some()))
+        (rest, ended.and_then(|status| status.code()))
+    }
+
+    /// Whether nothing is printed for a while, and the output does not end.
+    pub fn is_silent(&mut self, time: Duration) -> bool {
+        match self.output.recv_timeout(time) {
+            Ok(more) => {
+                self.held.extend(more);
+                false
+            }
+            Err(error) => error == RecvTimeoutError::Timeout && self.held.is_empty(),
+        }
     }
 
     /// Whether the program stops in time, by itself or by a signal; its input is left open.

@@ -2,6 +2,8 @@
 
 mod ends;
 mod feed;
+mod hexends;
+mod hexfile;
 mod playback;
 mod setpoint;
 
@@ -32,12 +34,16 @@ pub struct Options {
     pub setpoint: Option<String>,
     /// Command line that starts it sooner, for most of its starts.
     pub linked: Option<String>,
+    /// Command line of the hexfile program, and one that starts it sooner.
+    pub hexfile: Option<String>,
+    pub hexfile_linked: Option<String>,
     pub seed: u64,
     /// Random cards for the list program.
     pub cards: usize,
     /// Random scripts for the wire program.
     pub scripts: usize,
-    /// How often each recording is drawn for the playback program, and any pages for the setpoint program.
+    /// How often each recording is drawn for the playback program, any pages for the setpoint program and damaged files for
+    /// the hexfile program.
     pub rounds: usize,
     /// Failures after which the run stops.
     pub stop: usize,
@@ -69,6 +75,7 @@ struct Tester {
     events: usize,
     recordings: usize,
     pages: usize,
+    files: usize,
 }
 
 /// One script to be written: its name, how, and whether it is cut and disturbed.
@@ -116,6 +123,7 @@ pub fn run(options: Options) -> bool {
         events: 0,
         recordings: 0,
         pages: 0,
+        files: 0,
     };
     let mut book = Book::new(None);
     let mut played = Book::new(None);
@@ -134,16 +142,22 @@ pub fn run(options: Options) -> bool {
         let linked = linked.unwrap_or_else(|| command.clone());
         tester.run_setpoint(&command, &linked, &mut book);
     }
+    if let Some(command) = tester.options.hexfile.clone() {
+        let linked = tester.options.hexfile_linked.clone();
+        let linked = linked.unwrap_or_else(|| command.clone());
+        tester.run_hexfile(&command, &linked, &mut book);
+    }
     tester.judge_rules(&book, &played);
     // The folder holds card files alone; a leftover does no harm.
     let _ = fs::remove_dir_all(&tester.folder);
     println!(
-        "{} cards, {} scripts, {} events, {} recordings, {} pages, {:.1} s",
+        "{} cards, {} scripts, {} events, {} recordings, {} pages, {} files, {:.1} s",
         tester.cards,
         tester.scripts,
         tester.events,
         tester.recordings,
         tester.pages,
+        tester.files,
         start.elapsed().as_secs_f64()
     );
     println!("{} passed, {} failed", tester.passed, tester.failed);
@@ -179,6 +193,7 @@ impl Tester {
                 self.options.playback.is_some() && self.options.wire.is_some()
             }
             Place::Setpoint => self.options.setpoint.is_some(),
+            Place::Hexfile => self.options.hexfile.is_some(),
             Place::Lent => false,
         };
         let rules = RULES.iter().filter(|(_, place, _)| asked(*place));

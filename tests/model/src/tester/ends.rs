@@ -17,27 +17,35 @@ impl Tester {
         let page = [&[4, 0, 102, 0, 210, 0][..], &[0xFF; PAGE - 6]].concat();
         let all = ALL.map(|words| (linked, words));
         for (command, words) in all.into_iter().chain([(command, ALL[0])]) {
-            self.check("a directory as input is told as such", |tester| {
-                let input = File::open(&tester.folder).expect("the temporary folder");
-                tester.is_unread(command, words, input.into(), &folder)
-            });
+            self.check(
+                "setpoint",
+                "a directory as input is told as such",
+                |tester| {
+                    let input = File::open(&tester.folder).expect("the temporary folder");
+                    tester.is_unread(command, words, input.into(), &folder)
+                },
+            );
         }
         for (words, size) in [(ALL[0], 20), (ALL[2], PAGE), (ALL[4], PAGE)] {
-            self.check("input that breaks off is not taken for the end", |tester| {
-                let (ours, input) = broken(&page[..size]);
-                drop(ours);
-                tester.is_unread(linked, words, input, &reset)
-            });
+            self.check(
+                "setpoint",
+                "input that breaks off is not taken for the end",
+                |tester| {
+                    let (ours, input) = broken(&page[..size]);
+                    drop(ours);
+                    tester.is_unread(linked, words, input, &reset)
+                },
+            );
         }
         for words in ["read", "read101", "write101 21", "write102 9"] {
             let asked = format!("{linked} {words}");
-            self.check("it stops when nobody reads", |tester| {
+            self.check("setpoint", "it stops when nobody reads", |tester| {
                 let mut program = Program::start_unheard(&asked, tester.options.wait);
                 program.send(&page);
                 program.close();
                 program.stops()
             });
-            self.check("a full device is told as such", |tester| {
+            self.check("setpoint", "a full device is told as such", |tester| {
                 let errors = tester.folder.join("errors");
                 let asked = format!("{asked} >/dev/full");
                 let wait = tester.options.wait;
@@ -61,7 +69,7 @@ impl Tester {
     }
 
     /// Counts something that must be so.
-    fn check(&mut self, name: &str, holds: impl FnOnce(&Tester) -> bool) {
+    pub(super) fn check(&mut self, program: &str, name: &str, holds: impl FnOnce(&Tester) -> bool) {
         if self.is_over() {
             self.failed += 1;
             return;
@@ -69,7 +77,7 @@ impl Tester {
         let holds = holds(self);
         self.count(holds);
         if !holds {
-            println!("\nDIFFERENCE: setpoint, it is not so: {name}");
+            println!("\nDIFFERENCE: {program}, it is not so: {name}");
         }
     }
 }

@@ -271,7 +271,7 @@ fn fits(want: &Said, got: &Said) -> bool {
 }
 
 /// Text in quotes, other bytes as hex digits; of a long one, how it begins and ends.
-fn shown(bytes: &[u8]) -> String {
+pub(super) fn shown(bytes: &[u8]) -> String {
     let plain = |byte: &u8| matches!(byte, b' '..=b'~' | b'\n' | b'\r' | b'\t');
     let text = |bytes: &[u8]| format!("{:?}", String::from_utf8_lossy(bytes));
     if !bytes.iter().all(plain) {
