@@ -16,6 +16,7 @@ use crate::model::book::{Book, Rule};
 use crate::model::hexfile::words::{hexfile, Said};
 use crate::model::hexfile::{decided_at, read, record, Refusal, DATA, IMAGE, LINE};
 use crate::program::Program;
+use crate::report::first_difference;
 
 /// Damaged files in each round.
 const DAMAGED: usize = 250;
@@ -27,6 +28,9 @@ const LATE: Duration = Duration::from_millis(60);
 const FAR: usize = 60_000;
 /// A file of at most so many lines is made shorter where it is answered otherwise.
 const SHRUNK: usize = 60;
+
+/// Bytes that are shown of a long output.
+const AROUND: usize = 48;
 
 /// One step of giving the input.
 #[derive(Clone, Copy)]
@@ -94,8 +98,8 @@ impl Tester {
         self.run_writes(command, linked, &mut seed_for(seed, 20, 0), book);
         self.run_back(linked, &mut seed_for(seed, 21, 0), book);
         self.run_hex_usage(linked, &mut seed_for(seed, 22, 0), book);
-        self.run_hex_ways(linked, &mut seed_for(seed, 23, 0), book);
-        self.run_waits(linked, &mut seed_for(seed, 24, 0), book);
+        self.run_waits(linked, &mut seed_for(seed, 23, 0), book);
+        self.run_hex_ways(linked, &mut seed_for(seed, 24, 0), book);
         self.run_hex_ends(command, linked);
         for (number, group) in GROUPS.iter().enumerate() {
             let mut rng = seed_for(seed, 25, number);
@@ -108,10 +112,10 @@ impl Tester {
             let mut rng = seed_for(seed, 26, number);
             let given = damaged(&mut rng);
             let way = [Way::Whole, Way::Open, Way::Name, Way::Pieces][number % 4];
-            self.try_file(linked, &given, way, &mut rng, book);
-            let answer = read(&given.text, &mut Book::new(None));
-            book.saw_if(answer.is_err(), Rule::HexDamaged);
-            book.saw_if(answer.is_ok(), Rule::HexDamagedRead);
+            let (said, agrees) = self.try_file(linked, &given, way, &mut rng, book);
+            let refused = said.printed.starts_with(b"refused ");
+            book.saw_if(agrees && refused, Rule::HexDamaged);
+            book.saw_if(agrees && !refused, Rule::HexDamagedRead);
         }
     }
 
@@ -439,6 +443,10 @@ impl Tester {
         rng: &mut Rng,
         book: &mut Book,
     ) -> (Said, bool) {
+        if self.is_over() {
+            self.failed += 1;
+            return (Said::default(), false);
+        }
         let text = &given.text;
         let answer = read(text, book);
         let decided = decided_at(text);
@@ -721,10 +729,24 @@ fn fits(want: &Said, got: &Said) -> bool {
     got.printed == want.printed && rest.ends_with(b"\n") && lines == 1 && free && !named
 }
 
-/// What model and program say.
+/// What model and program say; of long outputs a part from the first difference on.
 fn show(want: &Said, got: &Said) {
+    let [wanted, printed] = [&want.printed, &got.printed];
+    let at = first_difference(wanted, printed);
+    let long = wanted.len().min(printed.len()) > AROUND && at < wanted.len().max(printed.len());
+    if long {
+        println!("both print the same {at} bytes, then:");
+    }
     for (who, said) in [("model", want), ("program", got)] {
-        let [printed, errors] = [&said.printed, &said.errors].map(|text| shown(text));
-        println!("{who:<8} {printed}, standard error {errors}");
+        let end = said.printed.len();
+        let part = match long {
+            true => &said.printed[at..end.min(at + AROUND)],
+            false => &said.printed,
+        };
+        let errors = shown(&said.errors);
+        println!(
+            "{who:<8} {}, {end} bytes, standard error {errors}",
+            shown(part)
+        );
     }
 }
