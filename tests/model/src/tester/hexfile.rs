@@ -72,7 +72,7 @@ enum Way {
 type Group = fn(&mut Rng) -> Vec<Given>;
 
 /// The groups of files.
-const GROUPS: [Group; 8] = [
+const GROUPS: [Group; 7] = [
     hexfiles::good,
     hexfaults::pairs,
     hexfaults::after,
@@ -80,7 +80,6 @@ const GROUPS: [Group; 8] = [
     hexfaults::faults,
     hexfaults::characters,
     hexfaults::every_damage,
-    hexfiles::long,
 ];
 
 /// One word as the program is given it.
@@ -95,19 +94,26 @@ impl Tester {
         for command in [command, linked] {
             self.run_table(command, book);
         }
+        let mut files = Vec::new();
+        for (number, group) in GROUPS.iter().enumerate() {
+            files.extend(group(&mut seed_for(seed, 25, number)));
+        }
+        // In any order, so that each sort comes soon.
+        let mut rng = seed_for(seed, 27, 0);
+        for place in (1..files.len()).rev() {
+            files.swap(place, rng.below(place + 1));
+        }
+        files.extend(hexfiles::long(&mut rng));
+        for (number, given) in files.iter().enumerate() {
+            let way = [Way::Whole, Way::Name, Way::Open, Way::Whole, Way::Open][number % 5];
+            self.try_file(linked, given, way, &mut rng, book);
+        }
         self.run_writes(command, linked, &mut seed_for(seed, 20, 0), book);
         self.run_back(linked, &mut seed_for(seed, 21, 0), book);
         self.run_hex_usage(linked, &mut seed_for(seed, 22, 0), book);
+        self.run_hex_ends(command, linked);
         self.run_waits(linked, &mut seed_for(seed, 23, 0), book);
         self.run_hex_ways(linked, &mut seed_for(seed, 24, 0), book);
-        self.run_hex_ends(command, linked);
-        for (number, group) in GROUPS.iter().enumerate() {
-            let mut rng = seed_for(seed, 25, number);
-            for (number, given) in group(&mut rng).into_iter().enumerate() {
-                let way = [Way::Whole, Way::Name, Way::Open, Way::Whole, Way::Open][number % 5];
-                self.try_file(linked, &given, way, &mut rng, book);
-            }
-        }
         for number in 0..DAMAGED * self.options.rounds.max(1) {
             let mut rng = seed_for(seed, 26, number);
             let given = damaged(&mut rng);
