@@ -1082,7 +1082,7 @@ slips! {
     HexByteAbove "hex-byte-above" "hexfile: a single byte above 0A3Fh is passed over",
     HexFirstAlone "hex-first-alone" "hexfile: only the first byte's address is judged",
     HexLastAlone "hex-last-alone" "hexfile: only the last byte's address is judged, in 16 bits",
-    HexRound "hex-round" "hexfile: addresses run round",
+    HexRound "hex-round" "hexfile: the end of a record is judged in 16 bits",
     HexEmptyAbove "hex-empty-above" "hexfile: a record without data above 0A3Fh is refused",
     HexSigned "hex-signed" "hexfile: addresses from 8000h on are passed over",
     HexOnesPassed "hex-ones-passed" "hexfile: a record at FFFFh is passed over",

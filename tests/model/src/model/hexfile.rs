@@ -203,19 +203,13 @@ impl Reader {
         let begun = std::mem::take(&mut self.begun);
         let closed = [&begun[..], b"\n"].concat();
         let bytes = bytes_of(&closed, book).filter(|bytes| bytes.len() > 4);
-        let slip = match bytes.map(|bytes| bytes[3]) {
-            Some(END) => Slip::HexEndOpen,
-            Some(_) => Slip::HexLastOpen,
-            None => Slip::HexPartOpen,
-        };
-        if book.slips(Slip::HexPartOpen) && slip == Slip::HexPartOpen {
-            return;
+        let kind = bytes.map(|bytes| bytes[3]);
+        match kind {
+            Some(END) if book.slips(Slip::HexEndOpen) => return self.take_line(&closed, book),
+            Some(DATA) if book.slips(Slip::HexLastOpen) => return self.take_line(&closed, book),
+            None if book.slips(Slip::HexPartOpen) => return,
+            _ => note_open(&begun, kind == Some(END), book),
         }
-        if book.slips(slip) {
-            self.take_line(&closed, book);
-            return;
-        }
-        note_open(&begun, slip == Slip::HexEndOpen, book);
         let number = if book.slips(Slip::HexOpen20) { 20 } else { 16 };
         self.refuse(number, self.lines + 1, book);
     }
@@ -426,6 +420,9 @@ impl Reader {
         if book.slips(Slip::HexLastAlone) {
             return (address + data - 1) & 0xFFFF >= top;
         }
+        if book.slips(Slip::HexRound) {
+            return (address + data) & 0xFFFF > top;
+        }
         if book.slips(Slip::HexSigned) && address >= 0x8000 {
             return false;
         }
@@ -461,8 +458,8 @@ impl Reader {
             };
         }
         if book.slips(Slip::HexLastByte) && record.data.len() == 255 {
-            let last = usize::from(record.address) + 254;
-            self.image[last] = 0xFF;
+            let last = self.image.get_mut(usize::from(record.address) + 254);
+            last.into_iter().for_each(|byte| *byte = 0xFF);
         }
     }
 }

@@ -94,6 +94,8 @@ impl Tester {
         for command in [command, linked] {
             self.run_table(command, book);
         }
+        self.run_writes(command, linked, &mut seed_for(seed, 20, 0), book);
+        self.run_hex_usage(linked, &mut seed_for(seed, 22, 0), book);
         let mut files = Vec::new();
         for (number, group) in GROUPS.iter().enumerate() {
             files.extend(group(&mut seed_for(seed, 25, number)));
@@ -108,9 +110,7 @@ impl Tester {
             let way = [Way::Whole, Way::Name, Way::Open, Way::Whole, Way::Open][number % 5];
             self.try_file(linked, given, way, &mut rng, book);
         }
-        self.run_writes(command, linked, &mut seed_for(seed, 20, 0), book);
         self.run_back(linked, &mut seed_for(seed, 21, 0), book);
-        self.run_hex_usage(linked, &mut seed_for(seed, 22, 0), book);
         self.run_hex_ends(command, linked);
         self.run_waits(linked, &mut seed_for(seed, 23, 0), book);
         self.run_hex_ways(linked, &mut seed_for(seed, 24, 0), book);
@@ -350,6 +350,13 @@ impl Tester {
         for way in [Way::Pieces, Way::EndLate] {
             let given = Given::new("our own file", own.clone());
             self.try_file(command, &given, way, rng, book);
+        }
+        // Devices by name: one that is empty, and one that has zeros without end.
+        for verb in ["read", "write"] {
+            for (device, bytes) in [("/dev/null", vec![]), ("/dev/zero", vec![0; 4096])] {
+                let words = [word(verb), word(device)];
+                self.try_given(command, "a device", &words, &bytes, &[Step::Ends], book);
+            }
         }
         // Input without end.
         let words = [word("read")];
@@ -735,24 +742,19 @@ fn fits(want: &Said, got: &Said) -> bool {
     got.printed == want.printed && rest.ends_with(b"\n") && lines == 1 && free && !named
 }
 
-/// What model and program say; of long outputs a part from the first difference on.
+/// What model and program say; of long outputs a part, from the first difference on where both are long.
 fn show(want: &Said, got: &Said) {
     let [wanted, printed] = [&want.printed, &got.printed];
-    let at = first_difference(wanted, printed);
-    let long = wanted.len().min(printed.len()) > AROUND && at < wanted.len().max(printed.len());
+    let same = first_difference(wanted, printed);
+    let long = wanted.len().min(printed.len()) > AROUND && wanted != printed;
+    let from = if long { same } else { 0 };
     if long {
-        println!("both print the same {at} bytes, then:");
+        println!("both print the same {same} bytes, then:");
     }
     for (who, said) in [("model", want), ("program", got)] {
         let end = said.printed.len();
-        let part = match long {
-            true => &said.printed[at..end.min(at + AROUND)],
-            false => &said.printed,
-        };
+        let part = shown(&said.printed[from..end.min(from + AROUND)]);
         let errors = shown(&said.errors);
-        println!(
-            "{who:<8} {}, {end} bytes, standard error {errors}",
-            shown(part)
-        );
+        println!("{who:<8} {part}, {end} bytes, standard error {errors}");
     }
 }

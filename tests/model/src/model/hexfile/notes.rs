@@ -77,8 +77,10 @@ impl Marks {
         self.falling |= record.address < self.last;
         self.last = record.address;
         for (place, byte) in (address..).zip(data) {
-            self.twice |= given[place];
-            self.changed |= given[place] && image[place] != *byte;
+            // A slip may let an address pass that is none of the image.
+            let before = given.get(place) == Some(&true);
+            self.twice |= before;
+            self.changed |= before && image[place] != *byte;
         }
     }
 
@@ -270,7 +272,7 @@ fn note_above(record: &Record, book: &mut Book) {
     let data = record.data.len();
     let fits = |address: usize| address + data <= IMAGE;
     book.saw_if(address == IMAGE, Rule::Hex19Next);
-    let past = address + data - IMAGE;
+    let past = (address + data).saturating_sub(IMAGE);
     book.saw_if(address < IMAGE && past == 1, Rule::Hex19Byte);
     book.saw_if(address < IMAGE && past > 1, Rule::Hex19Part);
     book.saw_if(fits(address & 0x0FFF), Rule::Hex19Low12);
