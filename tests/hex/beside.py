@@ -239,14 +239,11 @@ def memory():
         text, image = big(size, True)
         found = [peak(text, image) for _ in range(3)]
         one("%d MB from standard input: the image" % (size // 1_000_000), None not in found)
-        if None in found:
-            one("the peak memory of %d MB" % (size // 1_000_000), False)
-            return
-        least.append([min(column) for column in zip(*found)])
-        peaks = (size // 1_000_000, *least[-1])
-        print("peak memory of hexfile for %d MB: %d KB of its own, %d KB resident, %d KB mapped" % peaks)
-    (own, _, mapped), (own_long, _, mapped_long) = least
-    same = abs(own - own_long) <= NOISE and abs(mapped - mapped_long) <= NOISE
+        if None not in found:
+            least.append([min(column) for column in zip(*found)])
+            peaks = (size // 1_000_000, *least[-1])
+            print("peak memory of hexfile for %d MB: %d KB of its own, %d KB resident, %d KB mapped" % peaks)
+    same = len(least) == 2 and all(abs(least[0][column] - least[1][column]) <= NOISE for column in [0, 2])
     one("the peak memory is the same for 1 MB and 10 MB, to %d KB" % NOISE, same)
 
 
