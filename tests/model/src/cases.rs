@@ -769,6 +769,13 @@ mod tests {
         setpoint_written "a setpoint over any page",
         setpoint_values "a setpoint of any length",
         setpoint_words "words without a setpoint",
+        hex_table "the table of Intel HEX files",
+        hex_written "the text of an image",
+        hex_forms "records of any form",
+        hex_refusals "a file's refusals in order",
+        hex_addresses "addresses of data",
+        hex_judged "when a line is judged",
+        hex_words "what hexfile says",
     }
 
     /// The cases reach every rule that no program can show.
