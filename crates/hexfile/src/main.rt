@@ -12,7 +12,7 @@ use words::Way;
 // Says how the program is used.
 fn say_usage() {
     telling::tell(
-        b"usage: hexfile write | read [FILE] (without a file the input comes from standard input)\n",
+        b"usage: hexfile write [FILE] | hexfile read [FILE] (without a file from standard input)\n",
     );
 }
 

@@ -1,5 +1,6 @@
 // What is told on standard error.
 use intelhex::Fault;
+use intelhex::IMAGE_SIZE;
 use libc::STDERR_FILENO;
 
 // Tells words.
@@ -12,10 +13,17 @@ pub fn tell_number(n: u64) {
     io::print_decimal(STDERR_FILENO, n);
 }
 
+// Tells how many bytes an image has.
+fn tell_size() {
+    tell(b"an image has ");
+    tell_number(IMAGE_SIZE as u64);
+    tell(b" bytes");
+}
+
 // Tells what is wrong with a line, or with an image.
 pub fn tell_fault(fault: Fault) {
     match fault {
-        Fault::WrongSize => tell(b"an image has 2624 bytes"),
+        Fault::WrongSize => tell_size(),
         Fault::TooLong => tell(
             b"no line end in its first 523 characters, which is the most that a line has",
         ),
@@ -27,7 +35,7 @@ pub fn tell_fault(fault: Fault) {
         Fault::WrongCount => tell(b"the count is not the number of its data bytes"),
         Fault::EndNotZero => tell(b"an end record whose count or address is not 0"),
         Fault::CheckByte => {
-            tell(b"the check byte is wrong: the bytes of the record do not add up to 0")
+            tell(b"the check byte is wrong: the low byte of the sum of the record's bytes is not 0")
         }
         Fault::UnknownType => tell(b"a record of a type other than 00 and 01"),
         Fault::AboveImage => tell(b"a data byte at an address above 0A3Fh"),

@@ -14,11 +14,11 @@ fn tell_refused(fault: Fault, bytes: usize) {
     telling::tell(b"hexfile: ");
     telling::tell_fault(fault);
     if bytes < BYTES_MOST {
-        telling::tell(b", here are ");
+        telling::tell(b", this has ");
         telling::tell_number(bytes as u64);
         telling::tell(b"\n");
     } else {
-        telling::tell(b", here are more\n");
+        telling::tell(b", this has more\n");
     }
 }
 

@@ -1,4 +1,5 @@
--- Document 02, M-110: "LF or CR LF is read, a line without either is out of form". The line that a text begins with, and what it says.
+-- Document 02, M-110: "LF or CR LF is read, a line without either is out of form". The line that a text begins with, and what it says. What else is quoted here is the request
+-- that settled the rest.
 use Prim.Native.Char.{code as letter}
 use Prim.Native.Nat.{ℕ, suc, _+_, _-_, _*_, _/_, _%_}
 use mathlib.Core.Bool.{Bool, true, false, not}
@@ -28,7 +29,7 @@ before (c ∷ cs) = pick (eqb c lineFeed) 0 (suc (before cs))
 abbrev pub carriageReturn : ℕ
 carriageReturn = 0x0D
 
--- how many characters a line has, of so many before its LF: one CR there is none of them
+-- how many characters a line has, of so many before its LF: a CR right before the LF belongs to the line's end
 unfoldable pub withoutReturn : List ℕ → ℕ → ℕ
 withoutReturn text n = pick (eqb n 0) n (pick (eqb (getD text (n - 1) 0) carriageReturn) (n - 1) n)
 
@@ -44,6 +45,10 @@ standing text =
 
 -- ---- what a line says
 
+-- a refusal, unless a test holds; else what comes after it
+abbrev pub unless : {A : Type 0} → Bool → A → A → A
+unless test refused on = pick test on refused
+
 abbrev pub allDigits : List ℕ → Bool
 allDigits [] = true
 allDigits (c ∷ cs) = both (isDigit c) (allDigits cs)
@@ -51,14 +56,11 @@ allDigits (c ∷ cs) = both (isDigit c) (allDigits cs)
 -- a line's characters: "`:`, then two hex digits of either case for each byte"; "16: .. a character out of form; an odd number of digits; fewer than five bytes"
 unfoldable pub formOf : List ℕ → Form
 formOf line =
-    pick (eqb (getD line 0 0) (letter ":"))
-    (pick (allDigits (drop 1 line))
-    (pick (eqb ((length line - 1) % 2) 0)
+    unless (eqb (getD line 0 0) (letter ":")) (form.Refused NoColon)
+    (unless (allDigits (drop 1 line)) (form.Refused NoDigit)
+    (unless (eqb ((length line - 1) % 2) 0) (form.Refused OddDigits)
     (pick (ltb ((length line - 1) / 2) 5) (form.Refused FewBytes)
-    (form.Bytes ((length line - 1) / 2)))
-    (form.Refused OddDigits))
-    (form.Refused NoDigit))
-    (form.Refused NoColon)
+    (form.Bytes ((length line - 1) / 2)))))
 
 -- the bytes of a record: count, address, type, data, check byte
 abbrev pub countIn : List ℕ → ℕ
@@ -75,7 +77,7 @@ dataIn bytes = take (countIn bytes) (drop 4 bytes)
 
 -- "a record of type 01 whose count or address is not 0, whatever its check byte"
 unfoldable pub isBadEnd : ℕ → ℕ → ℕ → Bool
-isBadEnd kind count address = both (eqb kind 1) (not (both (eqb count 0) (eqb address 0)))
+isBadEnd type count address = both (eqb type 1) (not (both (eqb count 0) (eqb address 0)))
 
 -- "a data byte at an address above 0A3Fh. Addresses do not run round .. A record without data has no such byte."
 unfoldable pub isAbove : ℕ → ℕ → Bool
@@ -87,13 +89,11 @@ unfoldable pub judged : List ℕ → Judged
 judged bytes =
     let count = countIn bytes in
     let address = addressIn bytes in
-    let kind = typeIn bytes in
-    pick (eqb (length bytes) (count + 5))
-    (pick (isBadEnd kind count address) (judged-as.Refused EndNotZero)
-    (pick (eqb (sumOf bytes) 0)
-    (pick (eqb kind 1) judged-as.End
-    (pick (eqb kind 0)
-    (pick (isAbove count address) (judged-as.Refused AboveImage) (judged-as.Data address count))
-    (judged-as.Refused UnknownType)))
-    (judged-as.Refused CheckByte)))
-    (judged-as.Refused WrongCount)
+    let type = typeIn bytes in
+    unless (eqb (length bytes) (count + 5)) (judged-as.Refused WrongCount)
+    (pick (isBadEnd type count address) (judged-as.Refused EndNotZero)
+    (unless (eqb (sumOf bytes) 0) (judged-as.Refused CheckByte)
+    (pick (eqb type 1) judged-as.End
+    (unless (eqb type 0) (judged-as.Refused UnknownType)
+    (pick (isAbove count address) (judged-as.Refused AboveImage)
+    (judged-as.Data address count))))))

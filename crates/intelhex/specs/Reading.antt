@@ -1,5 +1,5 @@
 -- Document 02, M-110: "Take records of any data length up to 255, upper or lower case, in any order; a byte given twice takes the later value, a byte not given is FFh."
--- What a text gives, line by line, and the image that is read of it.
+-- What a text gives, line by line, and the image that is read of it. What is quoted below of a file's end is the request that settled the rest.
 use Prim.Native.Nat.{ℕ, zero, suc, _+_}
 use mathlib.Core.Bool.{Bool, true, false}
 use mathlib.Core.List.{List, [], _∷_, _++_}
@@ -91,7 +91,7 @@ unfoldable pub linesFrom : ℕ → Bool → Bool → List ℕ → Found
 linesFrom zero more over text = found [] Part 0 0 over
 linesFrom (suc k) more over text = onNext (λ o t. linesFrom k more o t) over text (next over more text)
 
--- all of them; no line is without characters, so there are fewer lines than characters
+-- all of them; each line takes up a character, so that a turn for each character, and one for the end, are enough
 unfoldable pub linesOf : Bool → Bool → List ℕ → Found
 linesOf more over text = linesFrom (suc (length text)) more over text
 

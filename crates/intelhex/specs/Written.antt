@@ -1,4 +1,5 @@
--- Document 02, M-110: "Write an image as data records of 16 bytes in rising address order and an end record." The text of an image.
+-- Document 02, M-110: "Write an image as data records of 16 bytes in rising address order and an end record." The text of an image. What `:` and the
+-- order of the bytes are is the request's "A line is ..".
 use Prim.Native.Char.{code as letter}
 use Prim.Native.Nat.{ℕ, zero, suc, _+_, _/_, _%_}
 use mathlib.Core.List.{List, [], _∷_, _++_}

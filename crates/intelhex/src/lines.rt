@@ -35,7 +35,7 @@ fn before_end(text: &[u8], most: usize) -> usize
     most
 }
 
-// How many characters a line has, of so many before its LF: one CR there is none of them.
+// How many characters a line has, of so many before its LF: a CR right before the LF belongs to the line's end.
 fn without_return(text: &[u8], n: usize) -> usize
     ensures { λ r. ⌜ r ≡ withoutReturn (now (text .entry)) n ⌝ }
 {
