@@ -4,6 +4,7 @@ mod digits;
 mod lines;
 mod readers;
 mod record;
+mod storing;
 mod writers;
 
 pub use readers::blank_image;
@@ -18,6 +19,9 @@ pub const IMAGE_SIZE: usize = 2624;
 
 // The characters of an image as text.
 pub const TEXT_SIZE: usize = 7228;
+
+// LF, which ends a line.
+const LINE_FEED: u8 = 0x0A;
 
 // Why an image or a text is refused.
 pub enum Fault {

@@ -1,12 +1,16 @@
 // Where the line that a text begins with ends.
+use crate::LINE_FEED;
 ghost use mathlib.Core.Path.{_≡_};
 ghost use Prim.Native.Nat.{_≤_};
 ghost use lib.ListN.{length, take};
 ghost use Rattle.intelhex.specs.Faults.{lineMost};
 ghost use Rattle.intelhex.specs.Lines.{before, withoutReturn, standing};
 
-// The most characters of a line in form, its end among them.
-pub const LINE_MOST: usize = 523;
+// CR, which may stand before LF.
+const CARRIAGE_RETURN: u8 = 0x0D;
+
+// The most characters of a line in form, its end among them: a colon, two digits for each of 260 bytes, CR and LF.
+const LINE_MOST: usize = 523;
 
 // What a text begins with.
 pub enum Standing {
@@ -27,7 +31,7 @@ fn before_end(text: &[u8], most: usize) -> usize
 {
     let mut i: usize = 0;
     while i < most {
-        if text[i] == 0x0A {
+        if text[i] == LINE_FEED {
             return i;
         }
         i += 1;
@@ -42,7 +46,7 @@ fn without_return(text: &[u8], n: usize) -> usize
     if n == 0 {
         return n;
     }
-    if base::byte_at(text, n - 1) == 0x0D {
+    if base::byte_at(text, n - 1) == CARRIAGE_RETURN {
         return n - 1;
     }
     n

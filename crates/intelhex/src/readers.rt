@@ -9,10 +9,10 @@ use crate::lines::Standing;
 use crate::record;
 use crate::record::Form;
 use crate::record::Judged;
+use crate::storing;
 ghost use mathlib.Core.Path.{_≡_};
-ghost use Prim.Native.Nat.{_+_, _≤_};
+ghost use Prim.Native.Nat.{_≤_};
 ghost use lib.ListN.{length};
-ghost use lib.Seq.{sets};
 ghost use Rattle.intelhex.specs.Faults.{imageSize};
 ghost use Rattle.intelhex.specs.Lines.{standing, formOf, judged};
 ghost use Rattle.intelhex.specs.Reading.{nextBy, nextIn, nextOf, nextAfter, next, stop, endsAt, blank, linesOf, went, wentBy, readLines, read, readBy, readText};
@@ -26,8 +26,8 @@ pub enum Turn {
     Stop(Ending),
 }
 
-// The most bytes of a record.
-pub const RECORD_MOST: usize = 260;
+// The most bytes of a record: 255 data bytes and five more.
+const RECORD_MOST: usize = 260;
 
 // Room for the bytes of a record.
 fn record_room() -> [u8; RECORD_MOST]
@@ -44,18 +44,6 @@ pub fn blank_image() -> [u8; IMAGE_SIZE]
     [0xFF; IMAGE_SIZE]
 }
 
-// Bytes put into a slice from a place on; past its end there is none, and nothing is put.
-pub fn put_bytes(bytes: &[u8], slice: &mut [u8], at: usize)
-    requires { ⌜ at + length (now bytes) ≤ 0x20000 ⌝ }
-    ensures { λ r. ⌜ now (slice .exit) ≡ sets (now (slice .entry)) at (now (bytes .entry)) ⌝ }
-{
-    let mut i: usize = 0;
-    while i < bytes.len() {
-        base::put_at(slice, at + i, bytes[i]);
-        i += 1;
-    }
-}
-
 // A record's turn: what a data record gives is put into the image.
 fn take_record(bytes: &[u8], size: usize, image: &mut [u8]) -> Turn
     ensures { λ r. ⌜ turned r (now (image .exit)) ≡ turnedBy (now (image .entry)) (nextBy size (now (bytes .entry)) (judged (now (bytes .entry)))) ⌝ }
@@ -64,7 +52,7 @@ fn take_record(bytes: &[u8], size: usize, image: &mut [u8]) -> Turn
     match found {
         Judged::Data { address, count } => {
             let end = (count as usize) + 4;
-            put_bytes(&bytes[4..end], image, address as usize);
+            storing::put_bytes(&bytes[4..end], image, address as usize);
             Turn::On {
                 size: size,
                 over: false,
@@ -199,7 +187,7 @@ fn hand_over(ending: Ending, lines: usize, made: &[u8], image: &mut [u8]) -> Rea
 {
     match ending {
         Ending::End => {
-            put_bytes(made, image, 0);
+            storing::put_bytes(made, image, 0);
             Reading::Read
         }
         Ending::Part => Reading::Refused(Fault::NoEndRecord, lines),

@@ -84,10 +84,10 @@ fn address_in(bytes: &[u8]) -> u16
 }
 
 // An end record whose count or address is not 0.
-fn is_bad_end(kind: u8, count: u8, address: u16) -> bool
-    ensures { λ r. ⌜ r ≡ isBadEnd kind count address ⌝ }
+fn is_bad_end(record_type: u8, count: u8, address: u16) -> bool
+    ensures { λ r. ⌜ r ≡ isBadEnd record_type count address ⌝ }
 {
-    base::are_both(kind == 1, !base::are_both(count == 0, address == 0))
+    base::are_both(record_type == 1, !base::are_both(count == 0, address == 0))
 }
 
 // One of so many data bytes has an address above the last.
@@ -106,20 +106,20 @@ pub fn judge(bytes: &[u8]) -> Judged
 {
     let count = base::byte_at(bytes, 0);
     let address = address_in(bytes);
-    let kind = base::byte_at(bytes, 3);
+    let record_type = base::byte_at(bytes, 3);
     if bytes.len() != (count as usize) + 5 {
         return Judged::Refused(Fault::WrongCount);
     }
-    if is_bad_end(kind, count, address) {
+    if is_bad_end(record_type, count, address) {
         return Judged::Refused(Fault::EndNotZero);
     }
     if digits::sum_of(bytes) != 0 {
         return Judged::Refused(Fault::CheckByte);
     }
-    if kind == 1 {
+    if record_type == 1 {
         return Judged::End;
     }
-    if kind != 0 {
+    if record_type != 0 {
         return Judged::Refused(Fault::UnknownType);
     }
     if is_above(count, address) {

@@ -1,10 +1,11 @@
 // An image written as text.
 use crate::Fault;
 use crate::IMAGE_SIZE;
+use crate::LINE_FEED;
 use crate::TEXT_SIZE;
 use crate::Writing;
 use crate::digits;
-use crate::readers;
+use crate::storing;
 ghost use mathlib.Core.List.{[], _∷_};
 ghost use mathlib.Core.Path.{_≡_};
 ghost use Prim.Native.Nat.{_+_, _*_, _≤_};
@@ -19,6 +20,9 @@ const DATA_BYTES: usize = 16;
 
 // The characters of a data record's line.
 const LINE_SIZE: usize = 44;
+
+// Where the line of the end record begins, behind the lines of 164 data records.
+const END_AT: usize = 164 * LINE_SIZE;
 
 // The bytes of a data record without its check byte.
 const RECORD_SIZE: usize = 20;
@@ -37,7 +41,7 @@ fn end_record() -> [u8; 4]
     [0, 0, 0, 1]
 }
 
-// The two digits of a byte put into a text.
+// The two digits of a byte put into a text. Here and below, places are those of a text of 7,228 characters, and stay far below what a word holds.
 fn put_byte(b: u8, text: &mut [u8], at: usize)
     requires { ⌜ at ≤ 0x10000 ⌝ }
     ensures { λ r. ⌜ now (text .exit) ≡ sets (now (text .entry)) at (digitsOf (b ∷ [])) ⌝ }
@@ -68,7 +72,7 @@ fn put_line(bytes: &[u8], text: &mut [u8], at: usize)
     base::put_at(text, at, b':');
     put_digits(bytes, text, at + 1);
     put_byte(check, text, end + 1);
-    base::put_at(text, end + 3, 0x0A);
+    base::put_at(text, end + 3, LINE_FEED);
 }
 
 // A data record.
@@ -76,11 +80,11 @@ fn make_record(address: u16, given: &[u8], bytes: &mut [u8])
     requires { ⌜ (length (now given) ≡ 16) × (length (now bytes) ≡ 20) ⌝ }
     ensures { λ r. ⌜ now (bytes .exit) ≡ dataRecord address (now (given .entry)) ⌝ }
 {
-    base::put_at(bytes, 0, 16);
+    base::put_at(bytes, 0, DATA_BYTES as u8);
     base::put_at(bytes, 1, (address / 256) as u8);
     base::put_at(bytes, 2, (address % 256) as u8);
     base::put_at(bytes, 3, 0);
-    readers::put_bytes(given, bytes, 4);
+    storing::put_bytes(given, bytes, 4);
 }
 
 // The lines of all data records put into a text.
@@ -107,7 +111,7 @@ fn put_text(image: &[u8], text: &mut [u8])
 {
     let last = end_record();
     put_data_lines(image, text);
-    put_line(&last, text, 7216);
+    put_line(&last, text, END_AT);
 }
 
 // Writes an image as text. 5 for an image or a text of another size, with nothing changed.

@@ -16,31 +16,31 @@ Inv-loop text most i₀ i = (i ≤ most) × (i + before (drop i (take most text)
 abbrev μ-loop : tie.MeasureT-loop
 μ-loop text most i₀ i = most - i
 
--- src/lines.rt:28:5
+-- src/lines.rt:33:5
 loop-holds : tie.Need-loop-holds Inv-loop μ-loop
 loop-holds c = (search needs, search needs)
 
--- src/lines.rt:29:12
+-- src/lines.rt:34:12
 shared-slice-read-if1 : tie.Need-shared-slice-read-if1 Inv-loop μ-loop
 shared-slice-read-if1 c = search needs
 
--- src/lines.rt:30:13
+-- src/lines.rt:35:13
 returns : tie.Need-returns Inv-loop μ-loop
 returns c = let l = c .before .before .before .loop in let a = c .before .before .before .before .args in end-here (now (a .text)) (a .most) (l .i) (search needs) _ (search needs) (search needs) (l .inv .1)
 
--- src/lines.rt:32:9
+-- src/lines.rt:37:9
 add-i : tie.Need-add-i Inv-loop μ-loop
 add-i c = search needs
 
--- src/lines.rt:28:5
+-- src/lines.rt:33:5
 loop-less : tie.Need-loop-less Inv-loop μ-loop
 loop-less c = search needs
 
--- src/lines.rt:28:5
+-- src/lines.rt:33:5
 loop-again : tie.Need-loop-again Inv-loop μ-loop
 loop-again c = let l = c .before .before .before .loop in let a = c .before .before .before .before .args in (search needs, end-later (now (a .text)) (a .most) (l .i) (search needs) _ (search needs) (search needs) (l .inv .1))
 
--- src/lines.rt:23:1
+-- src/lines.rt:28:1
 returns-2 : tie.Need-returns-2 Inv-loop μ-loop
 returns-2 c = let l = c .before .loop in let a = c .before .before .args in no-end (now (a .text)) (a .most) (l .i) (search needs) _ (search needs) (search needs) (l .inv .1)
 

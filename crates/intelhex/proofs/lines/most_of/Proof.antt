@@ -6,11 +6,11 @@ use Rattle.intelhex.proofs.lines.most_of.Tie as tie
 use Rattle.intelhex.proofs.lines.most_of.Reads as reads
 use Rattle.intelhex.proofs.lines.most_of.Lts as lts
 
--- src/lines.rt:56:9
+-- src/lines.rt:60:9
 returns : tie.Need-returns
 returns c = most-few (now (c .before .args .text)) (search needs)
 
--- src/lines.rt:52:1
+-- src/lines.rt:56:1
 returns-2 : tie.Need-returns-2
 returns-2 c = most-many (now (c .before .args .text)) (search needs)
 

@@ -10,35 +10,35 @@ use Rattle.intelhex.proofs.lines.before_end.Reads as before-end-reads
 use Rattle.intelhex.proofs.lines.most_of.Reads as most-of-reads
 use Rattle.intelhex.proofs.lines.without_return.Reads as without-return-reads
 
--- src/lines.rt:66:9
+-- src/lines.rt:70:9
 returns : tie.Need-returns
 returns c = stands-nothing _ (search needs)
 
--- src/lines.rt:68:9
+-- src/lines.rt:72:9
 most-of-requires : tie.Need-most-of-requires
 most-of-requires c κs = search needs
 
--- src/lines.rt:69:9
+-- src/lines.rt:73:9
 before-end-requires : tie.Need-before-end-requires
 before-end-requires c κs = let m = most-within (now (c .before .before .before .args .text)) .0 in let e = c .most-of .ensures in search (needs, m, e)
 
--- src/lines.rt:72:25
+-- src/lines.rt:76:25
 without-return-requires : tie.Need-without-return-requires
 without-return-requires c κs = search needs
 
--- src/lines.rt:73:19
+-- src/lines.rt:77:19
 add-t7 : tie.Need-add-t7
 add-t7 c = search needs
 
--- src/lines.rt:71:9
+-- src/lines.rt:75:9
 returns-2 : tie.Need-returns-2
 returns-2 c = stands-line _ _ _ (search needs) (c .before .before .before .most-of .ensures) (c .before .before .before-end .ensures) _ _ (search needs) (c .without-return .ensures) refl
 
--- src/lines.rt:77:9
+-- src/lines.rt:81:9
 returns-3 : tie.Need-returns-3
 returns-3 c = stands-unended _ _ _ (search needs) (c .before .before .before .most-of .ensures) (c .before .before .before-end .ensures) (search needs) (search needs)
 
--- src/lines.rt:62:1
+-- src/lines.rt:66:1
 returns-4 : tie.Need-returns-4
 returns-4 c = stands-endless _ _ _ (search needs) (c .before .before .before .most-of .ensures) (c .before .before .before-end .ensures) (search needs) (search needs)
 

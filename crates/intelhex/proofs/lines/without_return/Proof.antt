@@ -7,29 +7,29 @@ use Rattle.intelhex.proofs.lines.without_return.Reads as reads
 use Rattle.intelhex.proofs.lines.without_return.Lts as lts
 use Rattle.base.proofs.byte_at.Reads as byte-at-reads
 
--- src/lines.rt:42:9
+-- src/lines.rt:47:9
 returns : tie.Need-returns
 unfolding withoutReturn
 returns c = search cases
 
--- src/lines.rt:44:28
+-- src/lines.rt:49:28
 sub-byte-at : tie.Need-sub-byte-at
 sub-byte-at c = search needs
 
--- src/lines.rt:44:8
+-- src/lines.rt:49:8
 byte-at-requires : tie.Need-byte-at-requires
 byte-at-requires c κs = search needs
 
--- src/lines.rt:45:16
+-- src/lines.rt:50:16
 sub-result : tie.Need-sub-result
 sub-result c = search needs
 
--- src/lines.rt:45:9
+-- src/lines.rt:50:9
 returns-2 : tie.Need-returns-2
 unfolding withoutReturn
 returns-2 c = search (cases, ← c .before .byte-at .ensures)
 
--- src/lines.rt:38:1
+-- src/lines.rt:43:1
 returns-3 : tie.Need-returns-3
 unfolding withoutReturn
 returns-3 c = search (cases, ← c .before .byte-at .ensures)

@@ -4,11 +4,11 @@ use Rattle.intelhex.proofs.readers.awaited.Tie as tie
 use Rattle.intelhex.proofs.readers.awaited.Reads as reads
 use Rattle.intelhex.proofs.readers.awaited.Lts as lts
 
--- src/readers.rt:97:1
+-- src/readers.rt:86:1
 returns : tie.Need-returns
 returns c = search cases
 
--- src/readers.rt:97:1
+-- src/readers.rt:86:1
 returns-2 : tie.Need-returns-2
 returns-2 c = search cases
 

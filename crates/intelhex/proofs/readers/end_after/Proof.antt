@@ -5,17 +5,17 @@ use Rattle.intelhex.proofs.readers.end_after.Tie as tie
 use Rattle.intelhex.proofs.readers.end_after.Reads as reads
 use Rattle.intelhex.proofs.readers.end_after.Lts as lts
 
--- src/readers.rt:127:13
+-- src/readers.rt:116:13
 returns : tie.Need-returns
 unfolding nextAfter
 returns c = search cases
 
--- src/readers.rt:129:9
+-- src/readers.rt:118:9
 returns-2 : tie.Need-returns-2
 unfolding nextAfter
 returns-2 c = search cases
 
--- src/readers.rt:122:1
+-- src/readers.rt:111:1
 returns-3 : tie.Need-returns-3
 unfolding nextAfter
 returns-3 c = search cases

@@ -17,67 +17,67 @@ Inv-loop over text more image₀ bytes₀ at₀ lines₀ past₀ image bytes at 
 abbrev μ-loop : tie.MeasureT-loop
 μ-loop over text more image₀ bytes₀ at₀ lines₀ past₀ image bytes at lines past = length text - at
 
--- src/readers.rt:159:21
+-- src/readers.rt:148:21
 record-room-requires : tie.Need-record-room-requires Inv-loop μ-loop
 record-room-requires c κs = search needs
 
--- src/readers.rt:163:5
+-- src/readers.rt:152:5
 loop-holds : tie.Need-loop-holds Inv-loop μ-loop
 loop-holds c = underway-start _ _ _ _ _ (sym (c .record-room .ensures))
 
--- src/readers.rt:164:36
+-- src/readers.rt:153:36
 sub-take-next : tie.Need-sub-take-next Inv-loop μ-loop
 sub-take-next c = let w = c .loop .inv .within in search (needs, w)
 
--- src/readers.rt:164:36
+-- src/readers.rt:153:36
 part-take-next-start : tie.Need-part-take-next-start Inv-loop μ-loop
 part-take-next-start c = let w = c .loop .inv .within in search (needs, w)
 
--- src/readers.rt:164:36
+-- src/readers.rt:153:36
 part-take-next-end : tie.Need-part-take-next-end Inv-loop μ-loop
 part-take-next-end c = search needs
 
--- src/readers.rt:164:55
+-- src/readers.rt:153:55
 slice-aggregate-take-next : tie.Need-slice-aggregate-take-next Inv-loop μ-loop
 slice-aggregate-take-next c = sym (c .before .before .loop .inv .room)
 
--- src/readers.rt:164:13
+-- src/readers.rt:153:13
 take-next-requires : tie.Need-take-next-requires Inv-loop μ-loop
 take-next-requires c κs = c .before .before .before .loop .inv .room
 
--- src/readers.rt:165:24
+-- src/readers.rt:154:24
 enum-known-turn : tie.Need-enum-known-turn Inv-loop μ-loop
 enum-known-turn c = search needs
 
--- src/readers.rt:167:25
+-- src/readers.rt:156:25
 enum-told : tie.Need-enum-told Inv-loop μ-loop
 enum-told c = search needs
 
--- src/readers.rt:167:25
+-- src/readers.rt:156:25
 stopped-by-requires : tie.Need-stopped-by-requires Inv-loop μ-loop
 stopped-by-requires c κs = search needs
 
--- src/readers.rt:166:13
+-- src/readers.rt:155:13
 same-length : tie.Need-same-length Inv-loop μ-loop
 same-length c = c .before .before .before .before .before .before .take-next .kept .1 .1 .1 .1 .0 ∙ c .before .before .before .before .before .before .before .before .before .before .loop .inv .long
 
--- src/readers.rt:166:13
+-- src/readers.rt:155:13
 returns : tie.Need-returns Inv-loop μ-loop
 returns c = underway-stopped _ _ _ _ _ _ _ _ _ (c .before .before .before .before .before .before .before .before .before .before .loop .inv) _ _ _ (c .before .before .before .before .before .before .take-next .last .1 .1 .1 .1 .0) (c .before .enum-told .given .1) (c .stopped-by .ensures) (c .before .before .before .before .before .before .take-next .ensures)
 
--- src/readers.rt:173:9
+-- src/readers.rt:162:9
 add-at : tie.Need-add-at Inv-loop μ-loop
 add-at c = let s = underway-sums _ _ _ _ _ _ _ _ _ (c .before .before .before .before .before .before .before .before .before .before .loop .inv) _ _ (c .before .before .before .before .before .before .take-next .last .1 .1 .1 .0) (c .before .before .before .before .before .before .take-next .last .1 .1 .1 .1 .0) (c .before .before .before .before .before .before .take-next .kept .1 .1 .1 .0) _ (c .before .turn .given .1) (c .before .before .before .before .before .before .take-next .ensures) .0 in search (needs, s)
 
--- src/readers.rt:174:9
+-- src/readers.rt:163:9
 add-lines : tie.Need-add-lines Inv-loop μ-loop
 add-lines c = let s = underway-sums _ _ _ _ _ _ _ _ _ (c .before .before .before .before .before .before .before .before .before .before .loop .inv) _ _ (c .before .before .before .before .before .before .take-next .last .1 .1 .1 .0) (c .before .before .before .before .before .before .take-next .last .1 .1 .1 .1 .0) (c .before .before .before .before .before .before .take-next .kept .1 .1 .1 .0) _ (c .before .turn .given .1) (c .before .before .before .before .before .before .take-next .ensures) .1 .0 in search (needs, s)
 
--- src/readers.rt:163:5
+-- src/readers.rt:152:5
 loop-less : tie.Need-loop-less Inv-loop μ-loop
 loop-less c = underway-sums _ _ _ _ _ _ _ _ _ (c .before .before .before .before .before .before .before .before .before .before .loop .inv) _ _ (c .before .before .before .before .before .before .take-next .last .1 .1 .1 .0) (c .before .before .before .before .before .before .take-next .last .1 .1 .1 .1 .0) (c .before .before .before .before .before .before .take-next .kept .1 .1 .1 .0) _ (c .before .turn .given .1) (c .before .before .before .before .before .before .take-next .ensures) .1 .1
 
--- src/readers.rt:163:5
+-- src/readers.rt:152:5
 loop-again : tie.Need-loop-again Inv-loop μ-loop
 loop-again c = underway-next _ _ _ _ _ _ _ _ _ (c .before .before .before .before .before .before .before .before .before .before .loop .inv) _ _ (c .before .before .before .before .before .before .take-next .last .1 .1 .1 .0) (c .before .before .before .before .before .before .take-next .last .1 .1 .1 .1 .0) (c .before .before .before .before .before .before .take-next .kept .1 .1 .1 .0) _ (c .before .turn .given .1) (c .before .before .before .before .before .before .take-next .ensures) .1 .1
 

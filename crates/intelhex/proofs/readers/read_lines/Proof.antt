@@ -6,19 +6,19 @@ use Rattle.intelhex.proofs.readers.read_lines.Reads as reads
 use Rattle.intelhex.proofs.readers.read_lines.Lts as lts
 use Rattle.intelhex.proofs.readers.read_all.Reads as read-all-reads
 
--- src/readers.rt:185:9
+-- src/readers.rt:174:9
 returns : tie.Need-returns
 returns c = lines-unsized _ _ _ _ (search needs)
 
--- src/readers.rt:192:5
+-- src/readers.rt:181:5
 read-all-requires : tie.Need-read-all-requires
 read-all-requires c κs = search needs
 
--- src/readers.rt:181:1
+-- src/readers.rt:170:1
 same-length : tie.Need-same-length
 same-length c = search needs
 
--- src/readers.rt:181:1
+-- src/readers.rt:170:1
 returns-2 : tie.Need-returns-2
 returns-2 c = lines-sized _ _ _ _ (search needs) _ (c .before .before .read-all .ensures)
 

@@ -6,7 +6,7 @@ use Rattle.intelhex.proofs.record.is_bad_end.Reads as reads
 use Rattle.intelhex.proofs.record.is_bad_end.Lts as lts
 use Rattle.base.proofs.are_both.Reads as are-both-reads
 
--- src/record.rt:90:32
+-- src/record.rt:90:39
 are-both-requires : tie.Need-are-both-requires
 are-both-requires c κs = search needs
 

@@ -8,31 +8,31 @@ use Rattle.intelhex.proofs.writers.put_byte.Lts as lts
 use Rattle.base.proofs.put_at.Reads as put-at-reads
 use Rattle.intelhex.proofs.digits.digit_of.Reads as digit-of-reads
 
--- src/writers.rt:45:28
+-- src/writers.rt:49:28
 digit-of-requires : tie.Need-digit-of-requires
 digit-of-requires c κs = search needs
 
--- src/writers.rt:45:5
+-- src/writers.rt:49:5
 put-at-requires : tie.Need-put-at-requires
 put-at-requires c κs = search needs
 
--- src/writers.rt:46:24
+-- src/writers.rt:50:24
 add-put-at : tie.Need-add-put-at
 add-put-at c = search needs
 
--- src/writers.rt:46:32
+-- src/writers.rt:50:32
 digit-of-requires-2 : tie.Need-digit-of-requires-2
 digit-of-requires-2 c κs = search needs
 
--- src/writers.rt:46:5
+-- src/writers.rt:50:5
 put-at-requires-2 : tie.Need-put-at-requires-2
 put-at-requires-2 c κs = search needs
 
--- src/writers.rt:41:1
+-- src/writers.rt:45:1
 same-length : tie.Need-same-length
 same-length c = search needs
 
--- src/writers.rt:41:1
+-- src/writers.rt:45:1
 returns : tie.Need-returns
 returns c = let a = c .before .before .before .before .before .before .before .before .before .before .before .args in byte-put (now (a .text)) _ _ (a .at) (a .b) _ _ (c .before .before .before .before .before .before .before .before .digit-of .ensures) (c .before .before .before .digit-of2 .ensures) (c .before .before .before .before .before .before .before .put-at .ensures) (c .before .before .put-at2 .ensures)
 

@@ -11,51 +11,51 @@ use Rattle.intelhex.proofs.digits.check_of.Reads as check-of-reads
 use Rattle.intelhex.proofs.writers.put_byte.Reads as put-byte-reads
 use Rattle.intelhex.proofs.writers.put_digits.Reads as put-digits-reads
 
--- src/writers.rt:66:9
+-- src/writers.rt:70:9
 check-of-requires : tie.Need-check-of-requires
 check-of-requires c κs = search needs
 
--- src/writers.rt:67:20
+-- src/writers.rt:71:20
 mul-end : tie.Need-mul-end
 mul-end c = search needs
 
--- src/writers.rt:67:15
+-- src/writers.rt:71:15
 add-end : tie.Need-add-end
 add-end c = search needs
 
--- src/writers.rt:68:5
+-- src/writers.rt:72:5
 put-at-requires : tie.Need-put-at-requires
 put-at-requires c κs = search needs
 
--- src/writers.rt:69:29
+-- src/writers.rt:73:29
 add-put-digits : tie.Need-add-put-digits
 add-put-digits c = search needs
 
--- src/writers.rt:69:5
+-- src/writers.rt:73:5
 put-digits-requires : tie.Need-put-digits-requires
 put-digits-requires c κs = search needs
 
--- src/writers.rt:70:27
+-- src/writers.rt:74:27
 add-put-byte : tie.Need-add-put-byte
 add-put-byte c = search needs
 
--- src/writers.rt:70:5
+-- src/writers.rt:74:5
 put-byte-requires : tie.Need-put-byte-requires
 put-byte-requires c κs = search needs
 
--- src/writers.rt:71:24
+-- src/writers.rt:75:24
 add-put-at : tie.Need-add-put-at
 add-put-at c = search needs
 
--- src/writers.rt:71:5
+-- src/writers.rt:75:5
 put-at-requires-2 : tie.Need-put-at-requires-2
 put-at-requires-2 c κs = search needs
 
--- src/writers.rt:62:1
+-- src/writers.rt:66:1
 same-length : tie.Need-same-length
 same-length c = search needs
 
--- src/writers.rt:62:1
+-- src/writers.rt:66:1
 returns : tie.Need-returns
 returns c = line-put (now (c .before .before .before .before .before .before .before .before .before .before .before .before .before .before .before .before .before .before .before .args .bytes)) (now (c .before .before .before .before .before .before .before .before .before .before .before .before .before .before .before .before .before .before .before .args .text)) _ _ _ _ (c .before .before .before .before .before .before .before .before .before .before .before .before .before .before .before .before .before .before .before .args .at) _ _ (c .before .before .before .before .before .before .before .before .before .before .before .before .before .before .before .before .check-of .ensures) refl (c .before .before .before .before .before .before .before .before .before .before .before .before .before .before .put-at .ensures) (c .before .before .before .before .before .before .before .before .before .before .put-digits .ensures) (c .before .before .before .before .before .before .put-byte .ensures) (c .before .before .put-at2 .ensures)
 

@@ -6,10 +6,10 @@ use mathlib.Core.Path.{_≡_, refl, _∙_, ap}
 use denote.Ref.{now}
 use Rattle.intelhex.specs.Stores.{stored-next, stored-all}
 use borrow.Author.Needs.{needs}
-use Rattle.intelhex.proofs.readers.put_bytes.Statement.{statement}
-use Rattle.intelhex.proofs.readers.put_bytes.Tie as tie
-use Rattle.intelhex.proofs.readers.put_bytes.Reads as reads
-use Rattle.intelhex.proofs.readers.put_bytes.Lts as lts
+use Rattle.intelhex.proofs.storing.put_bytes.Statement.{statement}
+use Rattle.intelhex.proofs.storing.put_bytes.Tie as tie
+use Rattle.intelhex.proofs.storing.put_bytes.Reads as reads
+use Rattle.intelhex.proofs.storing.put_bytes.Lts as lts
 use Rattle.base.proofs.put_at.Reads as put-at-reads
 
 abbrev Inv-loop : tie.InvT-loop
@@ -18,39 +18,39 @@ Inv-loop bytes slice₀ at i₀ slice i = (i ≤ length bytes) × (length slice 
 abbrev μ-loop : tie.MeasureT-loop
 μ-loop bytes slice₀ at i₀ slice i = length bytes - i
 
--- src/readers.rt:53:5
+-- src/storing.rt:14:5
 loop-holds : tie.Need-loop-holds Inv-loop μ-loop
 loop-holds c = (search needs, search needs, refl)
 
--- src/readers.rt:54:29
+-- src/storing.rt:15:29
 add-put-at : tie.Need-add-put-at Inv-loop μ-loop
 add-put-at c = search needs
 
--- src/readers.rt:54:37
+-- src/storing.rt:15:37
 shared-slice-read-put-at : tie.Need-shared-slice-read-put-at Inv-loop μ-loop
 shared-slice-read-put-at c = search needs
 
--- src/readers.rt:54:9
+-- src/storing.rt:15:9
 put-at-requires : tie.Need-put-at-requires Inv-loop μ-loop
 put-at-requires c κs = search needs
 
--- src/readers.rt:55:9
+-- src/storing.rt:16:9
 add-i : tie.Need-add-i Inv-loop μ-loop
 add-i c = search needs
 
--- src/readers.rt:53:5
+-- src/storing.rt:14:5
 loop-less : tie.Need-loop-less Inv-loop μ-loop
 loop-less c = search needs
 
--- src/readers.rt:53:5
+-- src/storing.rt:14:5
 loop-again : tie.Need-loop-again Inv-loop μ-loop
 loop-again c = let l = c .before .before .before .before .before .before .loop in let a = c .before .before .before .before .before .before .before .before .before .args in (search needs, search needs, c .before .before .put-at .ensures ∙ ap (λ (x : List ℕ). set x (a .at + l .i) (getD (now (a .bytes)) (l .i) 0)) (l .inv .2) ∙ stored-next _ _ (l .i) _ (search needs))
 
--- src/readers.rt:48:1
+-- src/storing.rt:9:1
 same-length : tie.Need-same-length Inv-loop μ-loop
 same-length c = search needs
 
--- src/readers.rt:48:1
+-- src/storing.rt:9:1
 returns : tie.Need-returns Inv-loop μ-loop
 returns c = let l = c .before .loop in l .inv .2 ∙ stored-all _ _ (l .i) _ (search needs)
 
