@@ -4,7 +4,7 @@ use native.Mathlib.Nat.{add-comm}
 use native.Mathlib.Omega.{arith}
 use native.Mathlib.Numerals.{add-one}
 use mathlib.Core.List.{List, _++_}
-use mathlib.Core.Path.{_≡_, refl, _∙_, ap, sym}
+use mathlib.Core.Path.{_≡_, _∙_, ap, sym}
 use lib.ListN.{length, take, drop, getD, set, take-append-drop, length-drop}
 use lib.Seq.{length-take-le, getD-append-add, getD-drop, drop-cons, set-at, append-snoc, take-suc}
 use Rattle.console.specs.Input.{movedDown}

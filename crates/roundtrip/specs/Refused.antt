@@ -29,7 +29,7 @@ use Rattle.roundtrip.specs.Judging.{Ends, ended-faultless, never-part, r
 use Rattle.roundtrip.specs.Calls.{ReadText, read-by, WriteText, wrote-by}
 
 -- whether an answer is a refusal, its number, and its lines, 0 for any other
-tag : Answered → ℕ
+unfoldable pub tag : Answered → ℕ
 tag done = 0
 tag awaited = 0
 tag (refused n) = 1

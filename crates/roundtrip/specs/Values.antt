@@ -11,16 +11,17 @@ use borrow.Author.Tests.{ltb-true, ltb-false, eqb-true, eqb-false}
 use Rattle.base.specs.Exactly.{No}
 use Rattle.base.specs.Pick.{pick-true, pick-false}
 use Rattle.intelhex.specs.Faults.{imageSize}
+use Rattle.intelhex.specs.Answers.{readAs}
 use Rattle.intelhex.specs.Lines.{countIn, addressIn, dataIn}
 use Rattle.intelhex.specs.Reading.{Given, given, Found, linesOf, putAll, blank, Read, read, readBy, readText}
 use Rattle.intelhex.specs.Underway.{put-append, put-length}
 use Rattle.intelhex.specs.declared.Ending.{Ending}
 use Rattle.intelhex.specs.declared.Ending.the-variants.{End, Part, Refused}
-use Rattle.intelhex.specs.declared.Reading.{Reading}
 use Rattle.intelhex.specs.declared.Reading.the-variants as reading
 use Rattle.roundtrip.specs.Grammar.{IsDataRecord, GoodLines, none, a-line, Faultless}
 use Rattle.roundtrip.specs.Judging.{ended-faultless, faultless-ends}
 use Rattle.roundtrip.specs.Calls.{ReadText, read-by}
+use Rattle.roundtrip.specs.Refused.{tag}
 
 -- ---- stores
 
@@ -67,10 +68,6 @@ put-later xs ys g s i h n l =
 
 -- ---- a good reading
 
-tag : Reading → ℕ
-tag reading.Read = 0
-tag (reading.Refused f n) = 1
-
 -- where all was read, the image has its size, the text ended well, and the image is what it gives
 pub record Good (text image after : List ℕ) : Type 0 where
   pub sized : length image ≡ imageSize
@@ -86,12 +83,12 @@ good text image after e = by (eqb (length image) imageSize) refl
 
     ends : (x : Ending) → f .ending ≡ x → length image ≡ imageSize → read reading.Read after ≡ readBy image (putAll (f .given) blank) (f .lines) x → Good text image after
     ends End q s h = record { sized = s; ended = q; is = ap (λ (r : Read). r .image) h }
-    ends Part q s h = absurd (let z : 0 ≡ 1 = ap (λ (r : Read). tag (r .answer)) h in omega arith)
-    ends (Refused x) q s h = absurd (let z : 0 ≡ 1 = ap (λ (r : Read). tag (r .answer)) h in omega arith)
+    ends Part q s h = absurd (let z : 0 ≡ 1 = ap (λ (r : Read). tag (readAs (r .answer))) h in omega arith)
+    ends (Refused x) q s h = absurd (let z : 0 ≡ 1 = ap (λ (r : Read). tag (readAs (r .answer))) h in omega arith)
 
     by : (t : Bool) → eqb (length image) imageSize ≡ t → Good text image after
     by true t = ends (f .ending) refl (eqb-true _ _ t) (e ∙ pick-true _ _ _ t)
-    by false t = absurd (let z : 0 ≡ 1 = ap (λ (r : Read). tag (r .answer)) (e ∙ pick-false _ _ _ t) in omega arith)
+    by false t = absurd (let z : 0 ≡ 1 = ap (λ (r : Read). tag (readAs (r .answer))) (e ∙ pick-false _ _ _ t) in omega arith)
 
 pub good-reading : (text image after : List ℕ) → ReadText text image reading.Read after → Good text image after
 good-reading text image after c = good text image after (read-by text image reading.Read after c)
