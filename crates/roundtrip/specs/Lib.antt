@@ -15,4 +15,5 @@ pub mod Resumed
 pub mod Pieces
 pub mod Unsized
 pub mod Table
+pub mod Ours
 pub mod Sizes
