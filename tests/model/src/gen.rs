@@ -11,3 +11,4 @@ pub mod recordings;
 pub mod rng;
 pub mod stories;
 pub mod values;
+pub mod words;

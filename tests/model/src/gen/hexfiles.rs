@@ -1,6 +1,7 @@
 //! Intel HEX files in every form that is read, images to be written, and words that the hexfile program does not have.
 
 use super::rng::Rng;
+use super::words::with_long_words;
 use crate::model::book::{Book, Rule};
 use crate::model::hexfile::{record, write, DATA, END, IMAGE};
 
@@ -424,12 +425,5 @@ pub fn other_words() -> Vec<Vec<Vec<u8>>> {
         &["write", "a", "b", "c"],
         &["read", "a", "b", "c", "d", "e", "f", "g"],
     ];
-    let bytes = |line: &&[&str]| line.iter().map(|word| word.as_bytes().to_vec()).collect();
-    let mut all: Vec<Vec<Vec<u8>>> = lines.iter().map(bytes).collect();
-    all.push(vec![b"\xFFread".to_vec()]);
-    for length in [64, 4096, 100_000] {
-        all.push(vec![[&b"read"[..], &vec![b'x'; length]].concat()]);
-        all.push(vec![vec![b'x'; length]]);
-    }
-    all
+    with_long_words(&lines)
 }

@@ -3,6 +3,7 @@
 
 use super::pages::{bad_body, good, page, word_for, Trial};
 use super::rng::Rng;
+use super::words::with_long_words;
 use crate::model::setpoint::{length_of, DEGREES, PAGE, TENTHS};
 
 /// A page to be written, and read back.
@@ -266,12 +267,5 @@ pub fn other_words() -> Vec<Vec<Vec<u8>>> {
         &["21", "write101"],
         &["write102", "-", "210"],
     ];
-    let bytes = |line: &&[&str]| line.iter().map(|word| word.as_bytes().to_vec()).collect();
-    let mut all: Vec<Vec<Vec<u8>>> = lines.iter().map(bytes).collect();
-    all.push(vec![b"\xFFread".to_vec()]);
-    for length in [64, 4096, 100_000] {
-        all.push(vec![[&b"read"[..], &vec![b'x'; length]].concat()]);
-        all.push(vec![vec![b'x'; length]]);
-    }
-    all
+    with_long_words(&lines)
 }
