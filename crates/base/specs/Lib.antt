@@ -11,3 +11,4 @@ pub mod Bytes
 pub mod BytesLaw
 pub mod Along
 pub mod Lent
+pub mod Once

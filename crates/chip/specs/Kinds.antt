@@ -11,6 +11,10 @@ use Rattle.memory.specs.declared.Part.the-variants.{Ds28ec20}
 unfoldable pub knownKind : ℕ → Bool
 knownKind kind = pick (eqb kind 1) true (eqb kind 2)
 
+-- kind 1 by its name
+unfoldable pub isDs28ec20 : ℕ → Bool
+isDs28ec20 kind = eqb kind 1
+
 -- a kind with a memory
 unfoldable pub hasMemory : ℕ → Bool
 hasMemory kind = eqb kind 1

@@ -3,7 +3,7 @@ use memory::Part;
 use rom::Knows;
 ghost use mathlib.Core.Path.{_≡_};
 ghost use Prim.Native.Nat.{_≤_};
-ghost use Rattle.chip.specs.Kinds.{knownKind, hasMemory, hasScratchpad, hasRegisters, hasSwitch, takesOutside, partOf, knowsOf, imageMost, padMost, imageSize, padSize};
+ghost use Rattle.chip.specs.Kinds.{knownKind, isDs28ec20, hasMemory, hasScratchpad, hasRegisters, hasSwitch, takesOutside, partOf, knowsOf, imageMost, padMost, imageSize, padSize};
 
 // Kind 1 or 2.
 pub fn is_known(kind: u8) -> bool
@@ -13,6 +13,13 @@ pub fn is_known(kind: u8) -> bool
         return true;
     }
     kind == 2
+}
+
+// Kind 1 by its name.
+pub fn is_ds28ec20(kind: u8) -> bool
+    ensures { λ r. ⌜ r ≡ isDs28ec20 kind ⌝ }
+{
+    kind == 1
 }
 
 // A kind with a memory.

@@ -12,4 +12,5 @@ pub mod Listing
 pub mod Public
 pub mod AfterTrouble
 pub mod Case
+pub mod Count
 pub mod TooFew

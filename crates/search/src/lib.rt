@@ -2,6 +2,7 @@
 mod host;
 
 pub use host::Heard;
+pub use host::reset;
 pub use host::slot;
 pub use host::write_byte;
 use line::Refusal;
