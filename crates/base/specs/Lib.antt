@@ -12,3 +12,4 @@ pub mod BytesLaw
 pub mod Along
 pub mod Lent
 pub mod Once
+pub mod Stores

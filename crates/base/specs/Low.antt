@@ -3,8 +3,9 @@ use Prim.Native.Nat.{ℕ, zero, suc, _+_, _*_, _/_, _%_, _^_, _<_}
 use native.Mathlib.Omega.{arith}
 use native.Mathlib.Nat.{add-comm, div-eq-of-lt, mod-one}
 use mathlib.Core.Bool.{true, false}
-use mathlib.Core.Path.{_≡_, _∙_, ap}
-use lib.Pow.{mod-pow-add}
+use mathlib.Core.Path.{_≡_, _∙_, ap, sym}
+use lib.Dec.{eqb}
+use lib.Pow.{mod-pow-add, field, mod-mod-pow, shr-shr}
 use borrow.Author.Tests.{eqb-true, eqb-false}
 use Rattle.base.specs.Bits.{bitOf}
 
@@ -12,6 +13,16 @@ use Rattle.base.specs.Bits.{bitOf}
 pub bit-none : (n k : ℕ) → n < 2 ^ k → bitOf n k ≡ false
 unfolding bitOf
 bit-none n k h = let z : n / 2 ^ k ≡ 0 = div-eq-of-lt h in rw z
+
+-- a bit is one of the low bits
+pub bit-low : (n j k : ℕ) → bitOf (n % 2 ^ (j + 1 + k)) k ≡ bitOf n k
+unfolding bitOf
+bit-low n j k = ap (λ (x : ℕ). eqb (x % 2) 1) (field n (j + 1) k) ∙ ap (λ (x : ℕ). eqb x 1) (mod-mod-pow (n / 2 ^ k) j 1)
+
+-- a bit at a higher place is one of a quotient
+pub bit-high : (n i k : ℕ) → bitOf n (i + k) ≡ bitOf (n / 2 ^ i) k
+unfolding bitOf
+bit-high n i k = ap (λ (x : ℕ). eqb (x % 2) 1) (sym (shr-shr n i k))
 
 -- the low k + 1 bits of a number are bit k and the low k bits
 mod-next : (x k : ℕ) → x % 2 ^ (k + 1) ≡ x / 2 ^ k % 2 * 2 ^ k + x % 2 ^ k

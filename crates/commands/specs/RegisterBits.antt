@@ -3,15 +3,9 @@ use Prim.Native.Nat.{ℕ, zero, suc, _+_, _*_, _/_, _%_, _^_, _<_}
 use native.Mathlib.Omega.{arith}
 use mathlib.Core.List.{[], _∷_, _++_}
 use mathlib.Core.Path.{_≡_, refl, _∙_, ap, sym}
-use lib.Dec.{eqb}
-use lib.Pow.{field, mod-mod-pow, shr-shr}
 use Rattle.base.specs.Bits.{bitOf}
+use Rattle.base.specs.Low.{bit-low, bit-high}
 use Rattle.histories.specs.Sent.{bitsFrom, bitsOf}
-
--- a bit is one of the low bits
-bit-low : (n j k : ℕ) → bitOf (n % 2 ^ (j + 1 + k)) k ≡ bitOf n k
-unfolding bitOf
-bit-low n j k = ap (λ (x : ℕ). eqb (x % 2) 1) (field n (j + 1) k) ∙ ap (λ (x : ℕ). eqb x 1) (mod-mod-pow (n / 2 ^ k) j 1)
 
 -- so many low bits are those of the number
 bits-low : (k p n : ℕ) → bitsFrom k p (n % 2 ^ (k + p)) ≡ bitsFrom k p n
@@ -25,11 +19,10 @@ bits-low (suc k) p n =
 
 -- bits from a higher place on are those of a quotient
 bits-high : (k p i n : ℕ) → bitsFrom k (i + p) n ≡ bitsFrom k p (n / 2 ^ i)
-unfolding bitOf
 bits-high zero p i n = refl
 bits-high (suc k) p i n =
     let a : i + p + 1 ≡ i + (p + 1) = omega arith in
-    let first = ap (λ (x : ℕ). eqb (x % 2) 1) (sym (shr-shr n i p)) in
+    let first = bit-high n i p in
     let rest = ap (λ (x : ℕ). bitsFrom k x n) a ∙ bits-high k (p + 1) i n in
     λ j. first j ∷ rest j
 

@@ -8,7 +8,7 @@ use lib.ListN.{length, getD, take, drop, set, length-drop}
 use lib.Seq.{sets, getD-drop}
 use Rattle.intelhex.specs.Bytes.{byteOf, bytesOf}
 use Rattle.intelhex.specs.Ends.{bytes-length, byte-is}
-use Rattle.intelhex.specs.Stores.{stored-next}
+use Rattle.base.specs.Stores.{stored-next}
 
 module _ (line : List ℕ) (n : ℕ) where
   pub decoded-next : (s s₀ : List ℕ) (i : ℕ) → 2 * n + 1 ≤ length line → i < n → s ≡ sets s₀ 0 (take i (bytesOf (drop 1 line)))

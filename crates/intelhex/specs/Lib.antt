@@ -6,7 +6,6 @@ pub mod Reading
 pub mod Answers
 pub mod Turns
 pub mod Digits
-pub mod Stores
 pub mod Ends
 pub mod Spelling
 pub mod Putting

@@ -14,7 +14,7 @@ use Rattle.base.specs.Bits.{both}
 use Rattle.intelhex.specs.Faults.{imageSize, textSize}
 use Rattle.intelhex.specs.Bytes.{digitsOf, checkOf}
 use Rattle.intelhex.specs.Written.{lineFeed, lineOf, dataBytes, dataRecord, endRecord, dataRecords, dataLines, textOf, wrote, writeText}
-use Rattle.intelhex.specs.Stores.{sets-append, sets-all}
+use Rattle.base.specs.Stores.{sets-append, sets-all}
 use Rattle.intelhex.specs.Spelling.{digits-length, digits-append}
 use Rattle.intelhex.specs.declared.Fault.the-variants.{WrongSize}
 use Rattle.intelhex.specs.declared.Writing.the-variants as writing

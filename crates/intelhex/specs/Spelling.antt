@@ -7,7 +7,7 @@ use mathlib.Core.Path.{_≡_, refl, _∙_, ap, sym}
 use lib.ListN.{length, getD, take, set}
 use lib.Seq.{sets, take-suc, take-all, length-take-le}
 use Rattle.intelhex.specs.Bytes.{digit, digitsOf}
-use Rattle.intelhex.specs.Stores.{sets-append}
+use Rattle.base.specs.Stores.{sets-append}
 
 -- two digits for each byte, and those of bytes behind bytes
 pub digits-length : (bs : List ℕ) → length (digitsOf bs) ≡ 2 * length bs

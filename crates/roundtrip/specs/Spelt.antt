@@ -15,7 +15,7 @@ use Rattle.intelhex.specs.Bytes.{worth, digit, digitsOf, total, sumOf, checkOf}
 use Rattle.intelhex.specs.Written.{lineFeed, lineOf, dataBytes, dataRecord, endRecord, dataRecords, dataLines, textOf}
 use Rattle.intelhex.specs.Lines.{addressIn, dataIn}
 use Rattle.intelhex.specs.Reading.{Given, given, putAll, blank}
-use Rattle.intelhex.specs.Stores.{sets-append, sets-all}
+use Rattle.base.specs.Stores.{sets-append, sets-all}
 use Rattle.roundtrip.specs.Grammar.{Digit, decimal, capital, Spells, nothing, a-byte, lf, IsLineOf, IsDataRecord, IsEndRecord, GoodLines, none, a-line, Faultless}
 
 -- ---- digits

@@ -1,7 +1,7 @@
 use mathlib.Core.Path.{refl, _∙_, ap, sym}
 use Rattle.intelhex.specs.Reading.{read}
 use Rattle.intelhex.specs.declared.Reading.the-variants as reading
-use Rattle.intelhex.specs.Stores.{sets-all}
+use Rattle.base.specs.Stores.{sets-all}
 use Rattle.intelhex.specs.Underway.{handed}
 use borrow.Author.Needs.{needs}
 use Rattle.intelhex.proofs.readers.hand_over.Statement.{statement}

@@ -4,7 +4,7 @@ use lib.Seq.{sets}
 use mathlib.Core.List.{List}
 use mathlib.Core.Path.{_≡_, refl, _∙_, ap}
 use denote.Ref.{now}
-use Rattle.intelhex.specs.Stores.{stored-next, stored-all}
+use Rattle.base.specs.Stores.{stored-next, stored-all}
 use borrow.Author.Needs.{needs}
 use Rattle.intelhex.proofs.storing.put_bytes.Statement.{statement}
 use Rattle.intelhex.proofs.storing.put_bytes.Tie as tie
