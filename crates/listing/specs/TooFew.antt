@@ -1,15 +1,14 @@
 -- Document 01, "Refusal numbers", of the public search: 4 is given exactly when "the list has fewer places than distinct codes", where neither
 -- 8 nor 5 is.
-use Prim.Native.Nat.{ℕ, suc, _<_, _≤_}
+use Prim.Native.Nat.{ℕ, _<_, _≤_}
 use native.Mathlib.Omega.{arith}
-use mathlib.Core.Bool.{Bool, true, false, true≢false}
-use mathlib.Core.List.{List, [], _∷_, List·Memᴰ, List·Memᴰ·head, List·Memᴰ·tail, List·Memᴰ·cases-cons, List·Memᴰ·not-nil}
+use mathlib.Core.List.{List}
 use mathlib.Core.Logic.{_⊎_, inl, inr}
-use mathlib.Core.Path.{_≡_, refl, _∙_, ap, sym}
-use lib.Dec.{eqb, leb}
+use mathlib.Core.Path.{_≡_, refl, _∙_, sym}
+use lib.Dec.{leb}
 use lib.ListN.{length}
-use borrow.Author.Tests.{eqb-true, eq-eqb, leb-true, leb-false, le-leb, lt-leb}
-use Rattle.base.specs.Pick.{pick, pick-if}
+use borrow.Author.Tests.{leb-true, leb-false, le-leb, lt-leb}
+use Rattle.base.specs.Pick.{pick}
 use Rattle.base.specs.Once.{distinctIn}
 use Rattle.base.specs.Exactly.{Iff, then-exactly, by-first, by-else}
 use Rattle.line.specs.Refusals.{in-range-few, judged-well}

@@ -1,0 +1,7 @@
+pub mod Borne
+pub mod Host
+pub mod Round
+pub mod BorneLaw
+pub mod Reading
+pub mod Pages
+pub mod Rounds
