@@ -19,10 +19,11 @@ use Rattle.memory.specs.Part.{mapOf}
 use Rattle.chip.specs.Kinds.{partOf, imageSize}
 use Rattle.chip.specs.Chip.{Whole, memoryLook, memorySight, memorySlot, takesOf, sendsOf, levelReset, resetOf}
 use Rattle.chip.specs.declared.Chip.{Chip}
+use Rattle.chip.specs.declared.Level.the-variants.{FunctionCommand}
 use Rattle.histories.specs.Histories.{at, run, answers}
 use Rattle.histories.specs.Sent.{bitsFrom, bitsOf}
 use Rattle.recovery.specs.Filled.{filledBy, address-taken}
-use Rattle.recovery.specs.Goes.{Goes, goes-to, goes-append, goes-command}
+use Rattle.recovery.specs.Goes.{Goes, ec20, goes-to, goes-append, goes-command}
 use Rattle.recovery.specs.Installed.{Installed}
 use Rattle.commands.specs.ShortAddress.{matched}
 use Rattle.commands.specs.Streams.{thenOnes, butLevel, Streams}
@@ -38,7 +39,7 @@ abbrev pub memoryBits : ℕ → List ℕ → List Bool
 memoryBits t memory = bitsOf (drop t memory)
 
 -- the memory of a DS28EC20 ends at 0A3Fh
-memory-size : (kind : ℕ) → kind ≡ 1 → imageSize kind ≡ lastAddress + 1
+pub memory-size : (kind : ℕ) → kind ≡ 1 → imageSize kind ≡ lastAddress + 1
 unfolding imageSize pick
 memory-size kind e = rw e
 
@@ -57,7 +58,7 @@ module _ (c : Chip) (m : List ℕ) (rc : Bool) (r : Registers) (s : List ℕ) wh
   memory-leads a x v = ap (λ (j : ℕ). inPhase c m rc r s (pick (leb j lastAddress) (ReadMemory (a + 1) 0) Ones)) (sym (add-one a))
 
   -- the memory from an address on, then ones
-  streams-memory : (t : ℕ) → length m ≡ lastAddress + 1 → Streams (memoryBits t m) (inPhase c m rc r s (readFrom t lastAddress))
+  pub streams-memory : (t : ℕ) → length m ≡ lastAddress + 1 → Streams (memoryBits t m) (inPhase c m rc r s (readFrom t lastAddress))
   unfolding readFrom
   streams-memory t l =
       subst (λ (bits : List Bool). Streams bits (inPhase c m rc r s (readFrom t lastAddress))) (append-nil (memoryBits t m))
@@ -68,6 +69,13 @@ module _ (c : Chip) (m : List ℕ) (rc : Bool) (r : Registers) (s : List ℕ) wh
   goes-bits : (t : ℕ) → Goes (bitsFrom 16 0 t) (inPhase c m true r s (ReadAddress 0 0)) (inPhase c m true r s (readFrom (filledBy 0x8000 0 (bitsFrom 16 0 t)) lastAddress))
   unfolding sendsOf takesOf memorySlot memorySight memoryLook partOf mapOf ds28ec20 readAddress both pick
   goes-bits t = record { silent = refl; comes = refl }
+
+  -- the command and an address, after which the memory is sent from there on; the chip is silent over them
+  pub goes-read : (t : ℕ) → t < 0x10000 → Goes (readMemory t) (ec20 c m (FunctionCommand 0 0) true r s) (inPhase c m true r s (readFrom t lastAddress))
+  unfolding memoryFunction pick
+  goes-read t h =
+      goes-append (bitsFrom 8 0 0xF0) (bitsFrom 16 0 t) _ _ _ (goes-command c m 0xF0 r s (omega arith))
+      (goes-to (bitsFrom 16 0 t) _ _ _ (goes-bits t) (ap (λ (a : ℕ). inPhase c m true r s (readFrom a lastAddress)) (address-taken t h)))
 
 module _ (i : ℕ) (L : List Whole) (s : Installed i L) (t : ℕ) (h : t < 0x10000) where
   -- chip i, its code, and its registers after the reset
@@ -86,11 +94,7 @@ module _ (i : ℕ) (L : List Whole) (s : Installed i L) (t : ℕ) (h : t < 0x100
 
   -- the command and the address bring it there, and it is silent over them
   taken : Goes (readMemory t) (afterMatch own) begun
-  unfolding memoryFunction pick
-  taken =
-      goes-append (bitsFrom 8 0 0xF0) (bitsFrom 16 0 t) _ _ _ (goes-command (own .chip) (own .memory) 0xF0 first (own .pad) (omega arith))
-      (goes-to (bitsFrom 16 0 t) _ _ _ (goes-bits (own .chip) (own .memory) true first (own .pad) t)
-      (ap (λ (a : ℕ). inPhase (own .chip) (own .memory) true first (own .pad) (readFrom a lastAddress)) (address-taken t h)))
+  taken = goes-read (own .chip) (own .memory) true first (own .pad) t h
 
   -- what it sends from there on
   streams : Streams (memoryBits t (own .memory)) begun

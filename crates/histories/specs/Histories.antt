@@ -26,6 +26,19 @@ codesOf L = map (λ (w : Whole). w .chip .code) L
 abbrev pub kindsOf : List Whole → List ℕ
 kindsOf L = map (λ (w : Whole). w .chip .kind) L
 
+-- a chip's code, its kind and its memory
+pub record Stored : Type 0 where
+  pub code : ℕ
+  pub kind : ℕ
+  pub memory : List ℕ
+
+abbrev pub storedIn : Whole → Stored
+storedIn w = record { code = w .chip .code; kind = w .chip .kind; memory = w .memory }
+
+-- those of a line, in table order
+abbrev pub storesOf : List Whole → List Stored
+storesOf L = map storedIn L
+
 -- what an event answers on a line that stands well, and the line that it leaves; a refused event leaves it as it was
 unfoldable pub answerOf : Event → List Whole → Answered
 answerOf e L = answerBy (planOn e L) L

@@ -17,6 +17,7 @@ use Rattle.chip.specs.declared.Level.{Level}
 use Rattle.chip.specs.declared.Level.the-variants.{Waiting, Rom, FunctionCommand}
 use Rattle.line.specs.declared.Act.the-variants.{Take}
 use Rattle.line.specs.Named.{act-named}
+use Rattle.histories.specs.Histories.{storedIn}
 use Rattle.histories.specs.Fed.{fed, sendsNothing}
 use Rattle.histories.specs.Sent.{bitsFrom}
 
@@ -132,3 +133,29 @@ drops-out k v w h p e = level-taken w v (Rom (Search k 2)) (level-in k 2 w h p) 
 pub out-stays : (v : Bool) (w : Whole) → Out w → Out (takesOf v w)
 unfolding Out
 out-stays v w p = level-taken w v Waiting p ∙ p
+
+-- what it stores ----------------------------------------------------------------------------------
+
+-- what a slot changes in a chip at a known level, but for code and kind
+memory-taken : (w : Whole) (v : Bool) (l : Level) → w .chip .level ≡ l → takesOf v w .memory ≡ levelTakes w v l .memory
+memory-taken w v l e = ap (λ (u : Whole). u .memory) (takes-in w v l e)
+
+-- code, kind and memory of a chip that keeps its memory in a slot
+stored-slot : (v : Bool) (w : Whole) → takesOf v w .memory ≡ w .memory → storedIn (takesOf v w) ≡ storedIn w
+stored-slot v w e = let n = act-named (Take v) w in λ j. record { code = n .0 j; kind = n .1 j; memory = e j }
+
+-- a chip that takes part keeps them, and so does one that dropped out
+pub part-stored : (k s : ℕ) (v : Bool) (w : Whole) → k < 64 → Part k s w → storedIn (takesOf v w) ≡ storedIn w
+part-stored k s v w h p = stored-slot v w (memory-taken w v (Rom (Search k s)) (level-in k s w h p))
+
+pub out-stored : (v : Bool) (w : Whole) → Out w → storedIn (takesOf v w) ≡ storedIn w
+out-stored v w p = stored-slot v w (memory-taken w v Waiting (level-out w p))
+
+-- a chip keeps them over a reset and the command
+pub reset-stored : (w : Whole) → storedIn (resetOf w) ≡ storedIn w
+unfolding resetOf resetChip
+reset-stored w = refl
+
+pub opened-stored : (w : Whole) → storedIn (fed (bitsFrom 8 0 0xF0) (resetOf w)) ≡ storedIn w
+unfolding resetOf resetChip takesOf romSlot commandBit commandOf filled bitOf pick
+opened-stored w = refl

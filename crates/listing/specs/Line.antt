@@ -9,9 +9,9 @@ use Rattle.chip.specs.Chip.{Whole, takesOf}
 use Rattle.line.specs.Line.{absent}
 use Rattle.listing.specs.Order.{branch}
 use Rattle.listing.specs.Branch.{isNil}
-use Rattle.listing.specs.Chip.{Part, Out, begun, code-takes, bit-sent, bit-taken, not-sent, not-taken, quiet, goes-on, drops-out, out-quiet, out-stays}
+use Rattle.listing.specs.Chip.{Part, Out, begun, code-takes, bit-sent, bit-taken, not-sent, not-taken, quiet, goes-on, drops-out, out-quiet, out-stays, part-stored, out-stored}
 use Rattle.listing.specs.Slots.{sent, taken, opened, code-opened}
-use Rattle.histories.specs.Histories.{codesOf}
+use Rattle.histories.specs.Histories.{codesOf, storesOf}
 
 -- the chips of a line that take part have these codes, in this order, and are at slot s of place k; the others dropped out
 pub data At (k s : ℕ) : List Whole → List ℕ → Type 0 where
@@ -95,3 +95,9 @@ bit-written k v h nobody = nobody
 bit-written k v h (part {w} {x} {L} {xs} p e r) =
     written k v w x (taken v L) (branch v k xs) (same (bitOf x k) v) h p e (ap (λ (n : ℕ). same (bitOf n k) v) e) (bit-written k v h r)
 bit-written k v h (gone {w} o r) = gone (out-stays v w o) (bit-written k v h r)
+
+-- a slot of a place leaves what the chips store
+pub at-stored : (k s : ℕ) (v : Bool) {L : List Whole} {xs : List ℕ} → k < 64 → At k s L xs → storesOf (taken v L) ≡ storesOf L
+at-stored k s v h nobody = refl
+at-stored k s v h (part {w} p e r) = ap₂ _∷_ (part-stored k s v w h p) (at-stored k s v h r)
+at-stored k s v h (gone {w} o r) = ap₂ _∷_ (out-stored v w o) (at-stored k s v h r)

@@ -54,7 +54,7 @@ branch-order-unique xs ys zs o fits m =
 
 -- Demand 2. On every line, whatever state its chips are in, and with every number of places: the search lists the line's codes
 -- in branch order, as many as there are places for; it says whether these are all; it puts one reset on the line for each code
--- listed, and one if none is, and 200 slots for each; and the chips keep their codes. No more than 16 places are used.
+-- listed, and one if none is, and 200 slots for each; and the chips keep their codes, kinds and memories. No more than 16 places are used.
 pub listing : (places : ℕ) (L : List Whole) → Codes (codesOf L)
     → Lists (branchOrder 64 0 (codesOf L)) (capped places) L (play lineWire (searchHost places) L)
 listing places L fits = passes-list (capped places) L fits
@@ -71,6 +71,7 @@ listing-of-16 places L few fits =
       resets = rw (← c .0) (r .resets);
       slots = rw (← c .0) (r .slots);
       codes = r .codes;
+      stores = r .stores;
     }
 
 -- "A pass is given up as soon as no chip answers, which never comes here after presence": on a line with a chip, after a reset

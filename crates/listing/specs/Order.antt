@@ -11,7 +11,7 @@ use Rattle.base.specs.Pick.{pick}
 use Rattle.base.specs.Bits.{bitOf, same}
 use Rattle.chip.specs.Chip.{Whole}
 use Rattle.search.specs.Host.{Played, Listed, listed}
-use Rattle.histories.specs.Histories.{codesOf}
+use Rattle.histories.specs.Histories.{codesOf, storesOf}
 
 -- the codes whose bit k is d
 unfoldable pub branch : Bool → ℕ → List ℕ → List ℕ
@@ -51,12 +51,13 @@ pub record InBranchOrder (xs ys : List ℕ) : Type 0 where
 
 -- what a host with so many places came to on a line L whose codes in branch order are B: it listed the first of them, as many
 -- as there are places for, and says whether these are all; it put a reset on the line for each code that it listed, and one if
--- it listed none, and 200 slots for each; and the line that it left has the codes of L, in the same order
+-- it listed none, and 200 slots for each; and the line that it left has the codes of L, in the same order, and its kinds and memories too
 pub record Lists (B : List ℕ) (places : ℕ) (L : List Whole) (p : Played Listed (List Whole)) : Type 0 where
   pub result : p .result ≡ listed (take places B) (leb (length B) places)
   pub resets : p .resets ≡ max 1 (length (take places B))
   pub slots : p .slots ≡ 200 * length (take places B)
   pub codes : codesOf (p .line) ≡ codesOf L
+  pub stores : storesOf (p .line) ≡ storesOf L
 
 -- what two hosts came to on their lines is the same list with the same word on it, and so are their counts
 pub record SameListing (p q : Played Listed (List Whole)) : Type 0 where

@@ -12,12 +12,12 @@ use Rattle.search.specs.Host.{Host, Played, played, End, end, more, play, under
 use Rattle.search.specs.Counts.{more-more}
 use Rattle.search.specs.Pass.{mark-le}
 use Rattle.histories.specs.Below.{Codes}
-use Rattle.histories.specs.Histories.{lineWire, codesOf}
+use Rattle.histories.specs.Histories.{lineWire, codesOf, storesOf}
 use Rattle.listing.specs.Order.{branch}
 use Rattle.listing.specs.Branch.{isNil, branch-in, some-branch, Low, low-next}
 use Rattle.listing.specs.Rest.{rest, Outcome, ended, at-place}
 use Rattle.listing.specs.Slots.{sent, taken, read-played, write-played, codes-taken, opened}
-use Rattle.listing.specs.Line.{At, at-opened, bits-sent, nots-sent, all-quiet, bits-taken, nots-taken, bit-written}
+use Rattle.listing.specs.Line.{At, at-opened, bits-sent, nots-sent, all-quiet, bits-taken, nots-taken, bit-written, at-stored}
 
 -- the line after the three slots of a place
 abbrev three : Bool → Bool → Bool → List Whole → List Whole
@@ -56,6 +56,7 @@ pub record Passed (n k want path last : ℕ) (xs : List ℕ) (L : List Whole) : 
   pub after : List Whole
   pub here : List·Memᴰ found xs
   pub kept : codesOf after ≡ codesOf L
+  pub stores : storesOf after ≡ storesOf L
   pub played : play lineWire (pass n (underWay k want path last)) L ≡ passPlayed n found marked after
   pub outcome : Outcome n k want last marked found xs
 
@@ -91,6 +92,7 @@ place n k want path last xs L a b d h ea eb some ed at₀ at₁ at₂ r =
       after = r .after;
       here = branch-in d k (r .found) xs (r .here);
       kept = r .kept ∙ codes-three a b d L;
+      stores = r .stores ∙ at-stored k 2 d h at₂ ∙ at-stored k 1 b h at₁ ∙ at-stored k 0 a h at₀;
       played =
           place-played n k want path last L a b d (bits-sent k h at₀ ∙ ea) (nots-sent k h at₁ ∙ eb) (all-quiet k h at₂) some ed
           ∙ ap (more 0 3) (r .played) ∙ three-more n (r .found) (r .marked) (r .after);
@@ -112,6 +114,7 @@ passed zero k want path last (x ∷ xs) L e l s low fits at =
       after = L;
       here = i;
       kept = refl;
+      stores = refl;
       played = ap (λ (z : ℕ). passPlayed 0 z last L) p;
       outcome = ended refl refl;
     }

@@ -17,11 +17,11 @@ use Rattle.line.specs.Event.{askedBy, planEvent, outsideFits}
 use Rattle.search.specs.Host.{Host, done, bind, Played, played, Listed, listed, End, end, more, play, write, begun, pass, passes, goOn, upTo}
 use Rattle.search.specs.Counts.{more-more, andThen, play-bind}
 use Rattle.histories.specs.Below.{Codes}
-use Rattle.histories.specs.Histories.{answerOf, afterOf, lineWire, codesOf}
+use Rattle.histories.specs.Histories.{answerOf, afterOf, lineWire, codesOf, storesOf}
 use Rattle.listing.specs.Order.{branchOrder, Lists}
 use Rattle.listing.specs.Branch.{isNil, order-nil}
 use Rattle.listing.specs.Rest.{rest, rest-all, rest-some, Outcome, ended, parted}
-use Rattle.listing.specs.Slots.{afterReset, reset-played, opened, command-played, codes-reset, codes-opened}
+use Rattle.listing.specs.Slots.{afterReset, reset-played, opened, command-played, codes-reset, codes-opened, stores-reset, stores-opened}
 use Rattle.listing.specs.Line.{absent-codes}
 use Rattle.listing.specs.Pass.{Passed, pass-opened}
 
@@ -64,45 +64,49 @@ record Goes (n want : ℕ) (out r : List ℕ) (L : List Whole) : Type 0 where
   resets : play lineWire (passes n want out) L .resets ≡ max 1 (length (take n r))
   slots : play lineWire (passes n want out) L .slots ≡ 200 * length (take n r)
   codes : codesOf (play lineWire (passes n want out) L .line) ≡ codesOf L
+  stores : storesOf (play lineWire (passes n want out) L .line) ≡ storesOf L
 
 -- one pass that finds the last code
-goes-last : (n want : ℕ) (out r : List ℕ) (L K : List Whole) (c m : ℕ) → m ≡ 0 → r ≡ c ∷ [] → codesOf K ≡ codesOf L
+goes-last : (n want : ℕ) (out r : List ℕ) (L K : List Whole) (c m : ℕ) → m ≡ 0 → r ≡ c ∷ [] → codesOf K ≡ codesOf L → storesOf K ≡ storesOf L
     → play lineWire (passes (suc n) want out) L ≡ more 1 200 (play lineWire (onward n out c m) K) → Goes (suc n) want out r L
 unfolding play
-goes-last n want out r L K c m q h kept e =
+goes-last n want out r L K c m q h kept stays e =
     let f = e ∙ ap (λ (t : Host Listed). more 1 200 (play lineWire t K)) (onward-last n out c m q) in
     record {
       result = rw (f, h, take-nil {A = ℕ} n, le-leb 1 (suc n) (omega arith));
       resets = rw (f, h, take-nil {A = ℕ} n);
       slots = rw (f, h, take-nil {A = ℕ} n);
       codes = rw f kept;
+      stores = rw f stays;
     }
 
 -- one that fills the last place, with codes to come
-goes-full : (want : ℕ) (out r s : List ℕ) (L K : List Whole) (c m : ℕ) → 0 < m → r ≡ c ∷ s → 0 < length s → codesOf K ≡ codesOf L
+goes-full : (want : ℕ) (out r s : List ℕ) (L K : List Whole) (c m : ℕ) → 0 < m → r ≡ c ∷ s → 0 < length s → codesOf K ≡ codesOf L → storesOf K ≡ storesOf L
     → play lineWire (passes 1 want out) L ≡ more 1 200 (play lineWire (onward 0 out c m) K) → Goes 1 want out r L
 unfolding play
-goes-full want out r s L K c m q h some kept e =
+goes-full want out r s L K c m q h some kept stays e =
     let f = e ∙ ap (λ (t : Host Listed). more 1 200 (play lineWire t K)) (onward-full out c m q) in
     record {
       result = rw (f, h, lt-leb (suc (length s)) 1 (omega arith));
       resets = rw (f, h);
       slots = rw (f, h);
       codes = rw f kept;
+      stores = rw f stays;
     }
 
 -- one after which the host goes on
-goes-more : (n want : ℕ) (out r s : List ℕ) (L K : List Whole) (c m : ℕ) → 0 < m → r ≡ c ∷ s → 0 < length s → codesOf K ≡ codesOf L
+goes-more : (n want : ℕ) (out r s : List ℕ) (L K : List Whole) (c m : ℕ) → 0 < m → r ≡ c ∷ s → 0 < length s → codesOf K ≡ codesOf L → storesOf K ≡ storesOf L
     → play lineWire (passes (suc (suc n)) want out) L ≡ more 1 200 (play lineWire (onward (suc n) out c m) K)
     → Goes (suc n) (upTo (m - 1) c) (out ++ (c ∷ [])) s K
     → Goes (suc (suc n)) want out r L
-goes-more n want out r s L K c m q h some kept e g =
+goes-more n want out r s L K c m q h some kept stays e g =
     let f = e ∙ ap (λ (t : Host Listed). more 1 200 (play lineWire t K)) (onward-more n out c m q) in
     record {
       result = rw (f, h) (g .result ∙ ap₂ listed (append-snoc out c (take (suc n) s)) (sym (leb·suc-suc (length s) (suc n))));
       resets = rw (f, h, g .resets) (omega (arith, length-take (suc n) s));
       slots = rw (f, h, g .slots, mul-suc) (omega arith);
       codes = rw f (g .codes ∙ kept);
+      stores = rw f (g .stores ∙ stays);
     }
 
 -- the passes from any line with codes, whatever is wanted
@@ -113,10 +117,10 @@ goes zero want out xs L e s fits = go p (rw e at (p .outcome))
     p = pass-opened want L (rw e s) (rw e fits)
 
     go : (p : Passed 64 0 want 0 0 (codesOf L) (opened L)) → Outcome 64 0 want 0 (p .marked) (p .found) xs → Goes 1 want out (rest 64 0 want xs) L
-    go p (ended q h) = goes-last zero want out _ L (p .after) (p .found) (p .marked) q h (p .kept ∙ codes-opened L) (one-pass zero want out L (rw e s) p)
+    go p (ended q h) = goes-last zero want out _ L (p .after) (p .found) (p .marked) q h (p .kept ∙ codes-opened L) (p .stores ∙ stores-opened L) (one-pass zero want out L (rw e s) p)
     go p (parted q h) =
         let v = pass-opened (upTo (p .marked - 1) (p .found)) L (rw e s) (rw e fits) in
-        goes-full want out _ _ L (p .after) (p .found) (p .marked) q h (rest-some (rw e at (v .outcome))) (p .kept ∙ codes-opened L) (one-pass zero want out L (rw e s) p)
+        goes-full want out _ _ L (p .after) (p .found) (p .marked) q h (rest-some (rw e at (v .outcome))) (p .kept ∙ codes-opened L) (p .stores ∙ stores-opened L) (one-pass zero want out L (rw e s) p)
 goes (suc n) want out xs L e s fits = go p (rw e at (p .outcome)) (λ w. goes n w)
   where
     p : Passed 64 0 want 0 0 (codesOf L) (opened L)
@@ -125,10 +129,10 @@ goes (suc n) want out xs L e s fits = go p (rw e at (p .outcome)) (λ w. goes n 
     go : (p : Passed 64 0 want 0 0 (codesOf L) (opened L)) → Outcome 64 0 want 0 (p .marked) (p .found) xs
         → ((w : ℕ) (o ys : List ℕ) (K : List Whole) → codesOf K ≡ ys → isNil ys ≡ false → Codes ys → Goes (suc n) w o (rest 64 0 w ys) K)
         → Goes (suc (suc n)) want out (rest 64 0 want xs) L
-    go p (ended q h) below = goes-last (suc n) want out _ L (p .after) (p .found) (p .marked) q h (p .kept ∙ codes-opened L) (one-pass (suc n) want out L (rw e s) p)
+    go p (ended q h) below = goes-last (suc n) want out _ L (p .after) (p .found) (p .marked) q h (p .kept ∙ codes-opened L) (p .stores ∙ stores-opened L) (one-pass (suc n) want out L (rw e s) p)
     go p (parted q h) below =
         let v = pass-opened (upTo (p .marked - 1) (p .found)) L (rw e s) (rw e fits) in
-        goes-more n want out _ _ L (p .after) (p .found) (p .marked) q h (rest-some (rw e at (v .outcome))) (p .kept ∙ codes-opened L) (one-pass (suc n) want out L (rw e s) p)
+        goes-more n want out _ _ L (p .after) (p .found) (p .marked) q h (rest-some (rw e at (v .outcome))) (p .kept ∙ codes-opened L) (p .stores ∙ stores-opened L) (one-pass (suc n) want out L (rw e s) p)
         (below (upTo (p .marked - 1) (p .found)) (out ++ (p .found ∷ [])) xs (p .after) (p .kept ∙ codes-opened L ∙ e) s fits)
 
 -- what comes of a reset alone
@@ -159,6 +163,7 @@ passes-list places [] fits =
       resets = rw (take-nil {A = ℕ} places);
       slots = rw (take-nil {A = ℕ} places);
       codes = refl;
+      stores = refl;
     })
 passes-list zero (w ∷ L) fits =
     let some = rest-some (pass-opened 0 (w ∷ L) refl fits .outcome) in
@@ -168,10 +173,11 @@ passes-list zero (w ∷ L) fits =
       resets = refl;
       slots = refl;
       codes = codes-reset (w ∷ L);
+      stores = stores-reset (w ∷ L);
     })
 passes-list (suc n) (w ∷ L) fits =
     let g = goes n 0 [] (codesOf (w ∷ L)) (w ∷ L) refl refl fits in
-    rw (← rest-all 64 0 0 (codesOf (w ∷ L)) (omega arith)) (record { result = g .result; resets = g .resets; slots = g .slots; codes = g .codes })
+    rw (← rest-all 64 0 0 (codesOf (w ∷ L)) (omega arith)) (record { result = g .result; resets = g .resets; slots = g .slots; codes = g .codes; stores = g .stores })
 
 -- lists of at most 16 codes are cut by a number of places as they are by that number capped
 pub capped-cut : (places : ℕ) (B : List ℕ) → length B ≤ 16 → (take (capped places) B ≡ take places B) × (leb (length B) (capped places) ≡ leb (length B) places)

@@ -13,10 +13,10 @@ use Rattle.line.specs.Line.{valueOf, absent}
 use Rattle.line.specs.Refusals.{presence}
 use Rattle.line.specs.Events.{slotEvent, resetEvent}
 use Rattle.search.specs.Host.{Host, ask, Played, played, more, play, write}
-use Rattle.histories.specs.Histories.{answerOf, afterOf, lineWire, codesOf}
+use Rattle.histories.specs.Histories.{answerOf, afterOf, lineWire, codesOf, storesOf}
 use Rattle.histories.specs.Fed.{fed, sendsNothing}
 use Rattle.histories.specs.Sent.{bitsFrom}
-use Rattle.listing.specs.Chip.{code-takes, code-resets, code-fed, hears}
+use Rattle.listing.specs.Chip.{code-takes, code-resets, code-fed, hears, reset-stored, opened-stored}
 
 -- the AND of what the chips of a line send
 unfoldable pub sent : List Whole → Bool
@@ -105,7 +105,7 @@ fed-none [] = refl
 fed-none (w ∷ L) = ap (λ (r : List Whole). w ∷ r) (fed-none L)
 
 -- what a byte of n slots comes to
-abbrev writePlayed : ℕ → List Whole → Played (Unit {0}) (List Whole)
+abbrev pub writePlayed : ℕ → List Whole → Played (Unit {0}) (List Whole)
 writePlayed n L = played tt L 0 n
 
 -- one slot more
@@ -113,7 +113,7 @@ one-more : (n : ℕ) (L : List Whole) → more 0 1 (writePlayed n L) ≡ writePl
 one-more n L = λ i. writePlayed (one-add n i) L
 
 -- a byte that every chip hears
-byte-played : (n i byte : ℕ) (L : List Whole) → AllHear (bitsFrom n i byte) L → play lineWire (write n i byte) L ≡ writePlayed n (map (fed (bitsFrom n i byte)) L)
+pub byte-played : (n i byte : ℕ) (L : List Whole) → AllHear (bitsFrom n i byte) L → play lineWire (write n i byte) L ≡ writePlayed n (map (fed (bitsFrom n i byte)) L)
 unfolding play write
 byte-played zero i byte L h = ap (writePlayed 0) (fed-none L)
 byte-played (suc n) i byte L h =
@@ -144,3 +144,12 @@ code-opened w = code-fed (bitsFrom 8 0 0xF0) (resetOf w) ∙ code-resets w
 pub codes-opened : (L : List Whole) → codesOf (opened L) ≡ codesOf L
 codes-opened [] = refl
 codes-opened (w ∷ L) = ap₂ _∷_ (code-opened w) (codes-opened L)
+
+-- and what its chips store
+pub stores-reset : (L : List Whole) → storesOf (afterReset L) ≡ storesOf L
+stores-reset [] = refl
+stores-reset (w ∷ L) = ap₂ _∷_ (reset-stored w) (stores-reset L)
+
+pub stores-opened : (L : List Whole) → storesOf (opened L) ≡ storesOf L
+stores-opened [] = refl
+stores-opened (w ∷ L) = ap₂ _∷_ (opened-stored w) (stores-opened L)

@@ -1,14 +1,15 @@
--- A chip that is fed given bits: silent all along, and where it comes to. Of a DS28EC20: a match of its code, 0Fh and an address.
-use Prim.Native.Nat.{ℕ, zero, suc, _+_, _%_, _<_, _≤_}
+-- A chip that is fed given bits: silent all along, and where it comes to. Of any chip: a match of its code, or of another. Of a DS28EC20: 0Fh
+-- and an address.
+use Prim.Native.Nat.{ℕ, zero, suc, _+_, _%_, _^_, _<_, _≤_}
 use native.Mathlib.Omega.{arith}
 use mathlib.Core.Bool.{Bool, true, false}
 use mathlib.Core.List.{List, [], _∷_, _++_}
 use mathlib.Core.Path.{_≡_, refl, _∙_, ap, sym, subst}
 use borrow.Author.Tests.{lt-ltb, le-ltb}
 use Rattle.base.specs.Pick.{pick}
-use Rattle.base.specs.Bits.{bitOf, both, filled}
+use Rattle.base.specs.Bits.{bitOf, same, both, filled}
 use Rattle.base.specs.Both.{both-holds, both-true′}
-use Rattle.base.specs.Same.{same-own}
+use Rattle.base.specs.Same.{same-own, same-bit}
 use Rattle.rom.specs.Rom.{commandOf, commandBit, matchBit}
 use Rattle.rom.specs.declared.RomStep.the-variants.{Command, Match}
 use Rattle.scratchpad.specs.Registers.{registers, targetOf}
@@ -20,10 +21,11 @@ use Rattle.chip.specs.With.{withKind, withRc, withLevel, withRegisters}
 use Rattle.chip.specs.Chip.{Whole, whole, romSlot, functionIn, functionSlot, memorySlot, takesOf, sendsOf}
 use Rattle.chip.specs.declared.Chip.{Chip}
 use Rattle.chip.specs.declared.Level.{Level}
-use Rattle.chip.specs.declared.Level.the-variants.{Rom, FunctionCommand, Memory}
+use Rattle.chip.specs.declared.Level.the-variants.{Waiting, Rom, FunctionCommand, Memory}
 use Rattle.histories.specs.Fed.{fed, sendsNothing}
 use Rattle.histories.specs.Sent.{bitsFrom}
 use Rattle.recovery.specs.Sessions.{opening}
+use Rattle.recovery.specs.Opening.{low-bits, same-code}
 use Rattle.recovery.specs.Filled.{filledBy, byte-taken, address-taken}
 
 -- fed these bits, a chip sends nothing all along and comes to exactly u
@@ -59,36 +61,91 @@ module _ (c : Chip) (m : List ℕ) where
   abbrev pub ec20 : Level → Bool → Registers → List ℕ → Whole
   ec20 = ofKind 1
 
-  -- 55h
-  goes-55 : (rc : Bool) (r : Registers) (s : List ℕ) → Goes (bitsFrom 8 0 0x55) (ec20 (Rom (Command 0 0)) rc r s) (ec20 (Rom (Match 0)) false r s)
-  unfolding sendsOf takesOf romSlot commandBit commandOf filled bitOf both pick
-  goes-55 rc r s = record { silent = refl; comes = refl }
+  -- a match, of a chip of any kind
+  module _ (kind : ℕ) where
+    -- 55h
+    goes-55 : (rc : Bool) (r : Registers) (s : List ℕ) → Goes (bitsFrom 8 0 0x55) (ofKind kind (Rom (Command 0 0)) rc r s) (ofKind kind (Rom (Match 0)) false r s)
+    unfolding sendsOf takesOf romSlot commandBit commandOf filled bitOf both pick
+    goes-55 rc r s = record { silent = refl; comes = refl }
 
-  -- a bit of its code
-  own-bit : (p : ℕ) (r : Registers) (s : List ℕ) → p < 63 → takesOf (bitOf (c .code) p) (ec20 (Rom (Match p)) false r s) ≡ ec20 (Rom (Match (p + 1))) false r s
-  unfolding takesOf romSlot matchBit pick
-  own-bit p r s h = simp (same-own, lt-ltb p 63 h)
+    -- a bit of its code
+    own-bit : (p : ℕ) (r : Registers) (s : List ℕ) → p < 63 → takesOf (bitOf (c .code) p) (ofKind kind (Rom (Match p)) false r s) ≡ ofKind kind (Rom (Match (p + 1))) false r s
+    unfolding takesOf romSlot matchBit pick
+    own-bit p r s h = simp (same-own, lt-ltb p 63 h)
 
-  -- the last bit of its code
-  last-bit : (p : ℕ) (r : Registers) (s : List ℕ) → 63 ≤ p → takesOf (bitOf (c .code) p) (ec20 (Rom (Match p)) false r s) ≡ ec20 (FunctionCommand 0 0) true r s
-  unfolding takesOf romSlot matchBit pick
-  last-bit p r s h = simp (same-own, le-ltb p 63 h)
+    -- the last bit of its code
+    last-bit : (p : ℕ) (r : Registers) (s : List ℕ) → 63 ≤ p → takesOf (bitOf (c .code) p) (ofKind kind (Rom (Match p)) false r s) ≡ ofKind kind (FunctionCommand 0 0) true r s
+    unfolding takesOf romSlot matchBit pick
+    last-bit p r s h = simp (same-own, le-ltb p 63 h)
 
-  -- it sends nothing
-  own-sends : (p : ℕ) (r : Registers) (s : List ℕ) → sendsOf (ec20 (Rom (Match p)) false r s) ≡ true
-  unfolding sendsOf
-  own-sends p r s = refl
+    -- it sends nothing
+    own-sends : (p : ℕ) (r : Registers) (s : List ℕ) → sendsOf (ofKind kind (Rom (Match p)) false r s) ≡ true
+    unfolding sendsOf
+    own-sends p r s = refl
 
-  -- the bits of its code from a place on
-  goes-code : (k p : ℕ) (r : Registers) (s : List ℕ) → k + p ≡ 63 → Goes (bitsFrom (suc k) p (c .code)) (ec20 (Rom (Match p)) false r s) (ec20 (FunctionCommand 0 0) true r s)
-  goes-code zero p r s e = goes-bit _ [] _ _ (own-sends p r s) (record { silent = refl; comes = last-bit p r s (omega arith) })
-  goes-code (suc k) p r s e =
-      goes-bit _ (bitsFrom (suc k) (p + 1) (c .code)) _ _ (own-sends p r s)
-      (goes-from (bitsFrom (suc k) (p + 1) (c .code)) _ _ _ (own-bit p r s (omega arith)) (goes-code k (p + 1) r s (omega arith)))
+    -- the bits of its code from a place on
+    goes-code : (k p : ℕ) (r : Registers) (s : List ℕ) → k + p ≡ 63 → Goes (bitsFrom (suc k) p (c .code)) (ofKind kind (Rom (Match p)) false r s) (ofKind kind (FunctionCommand 0 0) true r s)
+    goes-code zero p r s e = goes-bit _ [] _ _ (own-sends p r s) (record { silent = refl; comes = last-bit p r s (omega arith) })
+    goes-code (suc k) p r s e =
+        goes-bit _ (bitsFrom (suc k) (p + 1) (c .code)) _ _ (own-sends p r s)
+        (goes-from (bitsFrom (suc k) (p + 1) (c .code)) _ _ _ (own-bit p r s (omega arith)) (goes-code k (p + 1) r s (omega arith)))
 
-  -- a match of its code
+    -- a match of its code
+    pub goes-match : (rc : Bool) (r : Registers) (s : List ℕ) → Goes (opening (c .code)) (ofKind kind (Rom (Command 0 0)) rc r s) (ofKind kind (FunctionCommand 0 0) true r s)
+    goes-match rc r s = goes-append (bitsFrom 8 0 0x55) (bitsFrom 64 0 (c .code)) _ _ _ (goes-55 rc r s) (goes-code 63 0 r s refl)
+
+    -- a chip that waits goes on waiting
+    pub goes-waiting : (vs : List Bool) (rc : Bool) (r : Registers) (s : List ℕ) → Goes vs (ofKind kind Waiting rc r s) (ofKind kind Waiting rc r s)
+    unfolding sendsOf takesOf
+    goes-waiting [] rc r s = record { silent = refl; comes = refl }
+    goes-waiting (v ∷ vs) rc r s = goes-bit v vs _ _ refl (goes-waiting vs rc r s)
+
+    -- a match of another code: the chip waits from the bit on at which the codes part
+    module _ (code : ℕ) (g : code < 2 ^ 64) (h : c .code < 2 ^ 64) (other : c .code ≡ code → ⊥) where
+      -- a bit that the codes share
+      shared-bit : (p : ℕ) (r : Registers) (s : List ℕ) → p < 63 → same (bitOf (c .code) p) (bitOf code p) ≡ true
+          → takesOf (bitOf code p) (ofKind kind (Rom (Match p)) false r s) ≡ ofKind kind (Rom (Match (p + 1))) false r s
+      unfolding takesOf romSlot matchBit pick
+      shared-bit p r s l e = simp (e, lt-ltb p 63 l)
+
+      -- the bit at which they part
+      parting-bit : (p : ℕ) (r : Registers) (s : List ℕ) → same (bitOf (c .code) p) (bitOf code p) ≡ false
+          → takesOf (bitOf code p) (ofKind kind (Rom (Match p)) false r s) ≡ ofKind kind Waiting false r s
+      unfolding takesOf romSlot matchBit pick
+      parting-bit p r s e = simp e
+
+      -- codes that share all bits are the same
+      shares-all : (p : ℕ) → p ≡ 63 → c .code % 2 ^ p ≡ code % 2 ^ p → same (bitOf (c .code) p) (bitOf code p) ≡ true → ⊥
+      shares-all p e low s =
+          other (same-code code g (c .code) (p + 1) (omega arith) h (low-bits (c .code) code p low (same-bit (bitOf (c .code) p) (bitOf code p) s)))
+
+      goes-apart : (k p : ℕ) (r : Registers) (s : List ℕ) → k + p ≡ 63 → c .code % 2 ^ p ≡ code % 2 ^ p
+          → Goes (bitsFrom (suc k) p code) (ofKind kind (Rom (Match p)) false r s) (ofKind kind Waiting false r s)
+      goes-apart zero p r s e low = go (same (bitOf (c .code) p) (bitOf code p)) refl
+        where
+          go : (t : Bool) → same (bitOf (c .code) p) (bitOf code p) ≡ t → Goes (bitsFrom 1 p code) (ofKind kind (Rom (Match p)) false r s) (ofKind kind Waiting false r s)
+          go true q = absurd (shares-all p (omega arith) low q)
+          go false q = goes-bit _ [] _ _ (own-sends p r s) (record { silent = refl; comes = parting-bit p r s q })
+      goes-apart (suc k) p r s e low = go (same (bitOf (c .code) p) (bitOf code p)) refl (goes-apart k (p + 1))
+        where
+          go : (t : Bool) → same (bitOf (c .code) p) (bitOf code p) ≡ t
+              → ((r : Registers) (s : List ℕ) → k + (p + 1) ≡ 63 → c .code % 2 ^ (p + 1) ≡ code % 2 ^ (p + 1)
+              → Goes (bitsFrom (suc k) (p + 1) code) (ofKind kind (Rom (Match (p + 1))) false r s) (ofKind kind Waiting false r s))
+              → Goes (bitsFrom (suc (suc k)) p code) (ofKind kind (Rom (Match p)) false r s) (ofKind kind Waiting false r s)
+          go true q more =
+              goes-bit _ (bitsFrom (suc k) (p + 1) code) _ _ (own-sends p r s)
+              (goes-from (bitsFrom (suc k) (p + 1) code) _ _ _ (shared-bit p r s (omega arith) q)
+              (more r s (omega arith) (low-bits (c .code) code p low (same-bit (bitOf (c .code) p) (bitOf code p) q))))
+          go false q more =
+              goes-bit _ (bitsFrom (suc k) (p + 1) code) _ _ (own-sends p r s)
+              (goes-from (bitsFrom (suc k) (p + 1) code) _ _ _ (parting-bit p r s q) (goes-waiting (bitsFrom (suc k) (p + 1) code) false r s))
+
+      pub goes-other : (rc : Bool) (r : Registers) (s : List ℕ) → Goes (opening code) (ofKind kind (Rom (Command 0 0)) rc r s) (ofKind kind Waiting false r s)
+      goes-other rc r s = goes-append (bitsFrom 8 0 0x55) (bitsFrom 64 0 code) _ _ _ (goes-55 rc r s) (goes-apart 63 0 r s refl (omega arith))
+
+  -- a match of a DS28EC20's code
   pub goes-opening : (rc : Bool) (r : Registers) (s : List ℕ) → Goes (opening (c .code)) (ec20 (Rom (Command 0 0)) rc r s) (ec20 (FunctionCommand 0 0) true r s)
-  goes-opening rc r s = goes-append (bitsFrom 8 0 0x55) (bitsFrom 64 0 (c .code)) _ _ _ (goes-55 rc r s) (goes-code 63 0 r s refl)
+  goes-opening = goes-match 1
 
   -- the 8 bits of a function command, as the register takes them
   goes-eight : (b : ℕ) (r : Registers) (s : List ℕ)

@@ -70,7 +70,7 @@ bit-value a b p = go (a / 2 ^ p % 2) (b / 2 ^ p % 2) (omega arith) (omega arith)
     go (suc (suc x)) y h k e = absurd (omega arith)
 
 -- two numbers that agree below a place and at it agree below the next
-low-bits : (a b p : ℕ) → a % 2 ^ p ≡ b % 2 ^ p → bitOf a p ≡ bitOf b p → a % 2 ^ (p + 1) ≡ b % 2 ^ (p + 1)
+pub low-bits : (a b p : ℕ) → a % 2 ^ p ≡ b % 2 ^ p → bitOf a p ≡ bitOf b p → a % 2 ^ (p + 1) ≡ b % 2 ^ (p + 1)
 low-bits a b p e h =
     let q : p + 1 ≡ 1 + p = omega arith in
     let k : a / 2 ^ p % 2 ≡ b / 2 ^ p % 2 = bit-value a b p h in
@@ -96,7 +96,7 @@ module _ (code : ℕ) where
 
   module _ (g : code < 2 ^ 64) where
     -- codes that agree in 64 bits are equal
-    same-code : (a p : ℕ) → p ≡ 64 → a < 2 ^ 64 → a % 2 ^ p ≡ code % 2 ^ p → a ≡ code
+    pub same-code : (a p : ℕ) → p ≡ 64 → a < 2 ^ 64 → a % 2 ^ p ≡ code % 2 ^ p → a ≡ code
     same-code a p e h s =
         let z : a % 2 ^ 64 ≡ code % 2 ^ 64 = ap (λ (n : ℕ). a % 2 ^ n) (sym e) ∙ s ∙ ap (λ (n : ℕ). code % 2 ^ n) e in
         sym (mod-eq-of-lt h) ∙ z ∙ mod-eq-of-lt g
