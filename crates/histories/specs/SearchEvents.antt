@@ -39,18 +39,18 @@ slotsIn [] = 0
 slotsIn (e ∷ es) = slotsOf e + slotsIn es
 
 -- a host that asks for nothing else, whatever it is answered
-data Asks {A : Type 0} : Host A → Type 0 where
+pub data Asks {A : Type 0} : Host A → Type 0 where
   ends : {a : A} → Asks (done a)
   asks : {e : Event} {f : Answered → Host A} → ResetOrSlot e → ((x : Answered) → Asks (f x)) → Asks (ask e f)
 
 -- one host, then another
-asks-bind : {A B : Type 0} {h : Host A} {g : A → Host B} → Asks h → ((a : A) → Asks (g a)) → Asks (bind h g)
+pub asks-bind : {A B : Type 0} {h : Host A} {g : A → Host B} → Asks h → ((a : A) → Asks (g a)) → Asks (bind h g)
 unfolding bind
 asks-bind (ends {a}) k = k a
 asks-bind (asks p r) k = asks p (λ x. asks-bind (r x) k)
 
 -- the command, a pass, and the passes of a search
-write-asks : (n i byte : ℕ) → Asks (write n i byte)
+pub write-asks : (n i byte : ℕ) → Asks (write n i byte)
 unfolding write
 write-asks zero i byte = ends
 write-asks (suc n) i byte = asks (a-slot (bitOf byte i)) (λ x. write-asks n (i + 1) byte)
@@ -62,7 +62,7 @@ pass-asks (suc n) p =
     asks (a-slot true) (λ x. asks (a-slot true) (λ y.
     pick-if (λ (h : Host End). Asks h) _ _ _ (λ t. ends) (λ t. asks (a-slot _) (λ z. pass-asks n _))))
 
-passes-ask : (n want : ℕ) (out : List ℕ) → Asks (passes n want out)
+pub passes-ask : (n want : ℕ) (out : List ℕ) → Asks (passes n want out)
 unfolding passes
 passes-ask zero want out = asks a-reset (λ x. pick-if (λ (h : Host Listed). Asks h) _ _ _ (λ t. ends) (λ t. ends))
 passes-ask (suc n) want out =
@@ -74,17 +74,17 @@ passes-ask (suc n) want out =
     (λ a. ends)))))
 
 -- what such a host puts on a table
-asked-events : {A : Type 0} (h : Host A) (l : Attached) → Asks h → ResetsAndSlots (eventsOf h l)
+pub asked-events : {A : Type 0} (h : Host A) (l : Attached) → Asks h → ResetsAndSlots (eventsOf h l)
 asked-events (done a) l r = tt
 asked-events (ask e f) l (asks p r) = (p, asked-events (f (saysOf e l)) (leavesOf e l) (r (saysOf e l)))
 
 -- what a host counts is what it puts on a table
-play-resets : {A : Type 0} (h : Host A) (l : Attached) → play wire h l .resets ≡ resetsIn (eventsOf h l)
+pub play-resets : {A : Type 0} (h : Host A) (l : Attached) → play wire h l .resets ≡ resetsIn (eventsOf h l)
 unfolding play
 play-resets (done a) l = refl
 play-resets (ask e f) l = ap (λ (n : ℕ). resetsOf e + n) (play-resets (f (saysOf e l)) (leavesOf e l))
 
-play-slots : {A : Type 0} (h : Host A) (l : Attached) → play wire h l .slots ≡ slotsIn (eventsOf h l)
+pub play-slots : {A : Type 0} (h : Host A) (l : Attached) → play wire h l .slots ≡ slotsIn (eventsOf h l)
 unfolding play
 play-slots (done a) l = refl
 play-slots (ask e f) l = ap (λ (n : ℕ). slotsOf e + n) (play-slots (f (saysOf e l)) (leavesOf e l))

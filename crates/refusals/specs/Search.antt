@@ -15,13 +15,13 @@ use Rattle.search.specs.Host.{play, searchHost}
 use Rattle.line.specs.Attached.{Attached, Stands}
 use Rattle.search.specs.Search.{Searched, complete, refused, completeOr4, wire, Search, outcome, searchBy, searchOf}
 
-numbered : (r s : ℕ) → (r ≡ s → ⊥) → refused r ≡ refused s → ⊥
+pub numbered : (r s : ℕ) → (r ≡ s → ⊥) → refused r ≡ refused s → ⊥
 numbered r s n e = n (number e)
   where
     number : refused r ≡ refused s → r ≡ s
     number p = cc
 
-not-complete : (s : ℕ) → complete ≡ refused s → ⊥
+pub not-complete : (s : ℕ) → complete ≡ refused s → ⊥
 not-complete s e = let z : _≡_ {A = ℕ} 0 1 = cc in omega arith
 
 module _ (list : List ℕ) (l : Attached) where

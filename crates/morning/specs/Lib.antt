@@ -1,0 +1,13 @@
+pub mod Page
+pub mod Bearing
+pub mod Counts
+pub mod RoundEvents
+pub mod Refused
+pub mod Sent
+pub mod Streaming
+pub mod Rows
+pub mod Reading
+pub mod Anded
+pub mod Reads
+pub mod Calls
+pub mod Case
