@@ -99,6 +99,12 @@ numerals-read-number κs a x y v w p q = (p ∙ sym q, refl)
 pub numerals-magnitude : Settled numerals.magnitude.ended numerals.magnitude.Reads.Learnt
 numerals-magnitude κs a x y v w p q = (p ∙ sym q, refl)
 
+pub numerals-hex-digit-of : Settled numerals.hex.digit_of.ended numerals.hex.digit_of.Reads.Learnt
+numerals-hex-digit-of κs a x y v w p q = (p ∙ sym q, refl)
+
+pub numerals-hex-put-digits : Settled numerals.hex.put_digits.ended numerals.hex.put_digits.Reads.Learnt
+numerals-hex-put-digits κs a x y v w p q = (refl, λ i. (tt, ((p ∙ sym q) i, w .1 .1)))
+
 -- setpoints
 
 pub setpoints-number-of : Settled setpoints.number_of.ended setpoints.number_of.Reads.Learnt

@@ -1,10 +1,10 @@
 -- Document 02, M-110: "upper or lower case"; "Each record's check byte makes the low byte of the sum of all its bytes zero". Hex digits, bytes in pairs of them, and
 -- the sum of a record's bytes.
 use Prim.Native.Char.{code as letter}
-use Prim.Native.Nat.{ℕ, _+_, _-_, _*_, _/_, _%_}
+use Prim.Native.Nat.{ℕ, _+_, _-_, _*_, _%_}
 use mathlib.Core.Bool.{Bool, true}
 use mathlib.Core.List.{List, [], _∷_}
-use lib.Dec.{ltb, leb}
+use lib.Dec.{leb}
 use Rattle.base.specs.Bits.{both}
 use Rattle.base.specs.Pick.{pick}
 
@@ -25,10 +25,6 @@ worth c =
     (pick (between (letter "A") c (letter "F")) (c - letter "A" + 10)
     (pick (between (letter "a") c (letter "f")) (c - letter "a" + 10) 0))
 
--- the digit that is worth so much: "We write capitals"
-unfoldable pub digit : ℕ → ℕ
-digit n = pick (ltb n 10) (letter "0" + n) (letter "A" + (n - 10))
-
 -- the byte of two digits, the higher first
 unfoldable pub byteOf : ℕ → ℕ → ℕ
 byteOf high low = 16 * worth high + worth low
@@ -38,11 +34,6 @@ abbrev pub bytesOf : List ℕ → List ℕ
 bytesOf [] = []
 bytesOf (high ∷ []) = []
 bytesOf (high ∷ low ∷ cs) = byteOf high low ∷ bytesOf cs
-
--- the digits of bytes
-abbrev pub digitsOf : List ℕ → List ℕ
-digitsOf [] = []
-digitsOf (b ∷ bs) = digit (b / 16) ∷ digit (b % 16) ∷ digitsOf bs
 
 -- ---- sums
 

@@ -7,7 +7,6 @@ pub mod Answers
 pub mod Turns
 pub mod Digits
 pub mod Ends
-pub mod Spelling
 pub mod Putting
 pub mod Sound
 pub mod Decoding

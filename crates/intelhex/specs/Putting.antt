@@ -12,10 +12,11 @@ use borrow.Author.Tests.{eq-eqb, ne-eqb}
 use Rattle.base.specs.Pick.{pick-true, pick-false}
 use Rattle.base.specs.Bits.{both}
 use Rattle.intelhex.specs.Faults.{imageSize, textSize}
-use Rattle.intelhex.specs.Bytes.{digitsOf, checkOf}
+use Rattle.numerals.specs.Hex.{digitsOf}
+use Rattle.numerals.specs.Spelling.{digits-length, digits-append}
+use Rattle.intelhex.specs.Bytes.{checkOf}
 use Rattle.intelhex.specs.Written.{lineFeed, lineOf, dataBytes, dataRecord, endRecord, dataRecords, dataLines, textOf, wrote, writeText}
 use Rattle.base.specs.Stores.{sets-append, sets-all}
-use Rattle.intelhex.specs.Spelling.{digits-length, digits-append}
 use Rattle.intelhex.specs.declared.Fault.the-variants.{WrongSize}
 use Rattle.intelhex.specs.declared.Writing.the-variants as writing
 

@@ -8,7 +8,8 @@ use lib.ListN.{length, take, drop}
 use Rattle.base.specs.Bits.{both}
 use Rattle.base.specs.Pick.{pick}
 use Rattle.intelhex.specs.Faults.{imageSize, textSize}
-use Rattle.intelhex.specs.Bytes.{digitsOf, checkOf}
+use Rattle.numerals.specs.Hex.{digitsOf}
+use Rattle.intelhex.specs.Bytes.{checkOf}
 use Rattle.intelhex.specs.declared.Fault.the-variants.{WrongSize}
 use Rattle.intelhex.specs.declared.Writing.{Writing}
 use Rattle.intelhex.specs.declared.Writing.the-variants as writing

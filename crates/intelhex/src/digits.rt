@@ -1,7 +1,6 @@
-// Hex digits, bytes as two of them, and the sum of bytes.
+// What hex digits are worth, the bytes of two of them, and the sum of bytes.
 ghost use mathlib.Core.Path.{_≡_};
-ghost use Prim.Native.Nat.{_≤_};
-ghost use Rattle.intelhex.specs.Bytes.{between, isDigit, worth, digit, byteOf, sumOf, checkOf};
+ghost use Rattle.intelhex.specs.Bytes.{between, isDigit, worth, byteOf, sumOf, checkOf};
 
 // A character lies between two others, or is one of them.
 fn is_between(least: u8, c: u8, most: u8) -> bool
@@ -44,14 +43,6 @@ pub fn byte_of(high: u8, low: u8) -> u8
     ensures { λ r. ⌜ r ≡ byteOf high low ⌝ }
 {
     16 * worth_of(high) + worth_of(low)
-}
-
-// The capital digit that is worth so much.
-pub fn digit_of(n: u8) -> u8
-    requires { ⌜ n ≤ 15 ⌝ }
-    ensures { λ r. ⌜ r ≡ digit n ⌝ }
-{
-    if n < 10 { b'0' + n } else { b'A' + (n - 10) }
 }
 
 // The low byte of the sum of bytes.

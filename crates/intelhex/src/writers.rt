@@ -6,13 +6,12 @@ use crate::TEXT_SIZE;
 use crate::Writing;
 use crate::digits;
 use crate::storing;
-ghost use mathlib.Core.List.{[], _∷_};
+use numerals::hex;
 ghost use mathlib.Core.Path.{_≡_};
 ghost use Prim.Native.Nat.{_+_, _*_, _≤_};
 ghost use lib.ListN.{length};
 ghost use lib.Seq.{sets};
 ghost use Rattle.intelhex.specs.Faults.{imageSize, textSize};
-ghost use Rattle.intelhex.specs.Bytes.{digitsOf};
 ghost use Rattle.intelhex.specs.Written.{lineOf, dataRecord, endRecord, dataRecords, dataLines, textOf, wrote, writeText};
 
 // The data bytes of a record.
@@ -41,37 +40,16 @@ fn end_record() -> [u8; 4]
     [0, 0, 0, 1]
 }
 
-// The two digits of a byte put into a text. Here and below, places are those of a text of 7,228 characters, and stay far below what a word holds.
-fn put_byte(b: u8, text: &mut [u8], at: usize)
-    requires { ⌜ at ≤ 0x10000 ⌝ }
-    ensures { λ r. ⌜ now (text .exit) ≡ sets (now (text .entry)) at (digitsOf (b ∷ [])) ⌝ }
-{
-    base::put_at(text, at, digits::digit_of(b / 16));
-    base::put_at(text, at + 1, digits::digit_of(b % 16));
-}
-
-// The digits of bytes put into a text.
-fn put_digits(bytes: &[u8], text: &mut [u8], at: usize)
-    requires { ⌜ at + 2 * length (now bytes) ≤ 0x10000 ⌝ }
-    ensures { λ r. ⌜ now (text .exit) ≡ sets (now (text .entry)) at (digitsOf (now (bytes .entry))) ⌝ }
-{
-    let mut i: usize = 0;
-    while i < bytes.len() {
-        put_byte(bytes[i], text, at + 2 * i);
-        i += 1;
-    }
-}
-
-// The line of a record put into a text.
+// The line of a record put into a text. Here and below, places are those of a text of 7,228 characters, and stay far below what a word holds.
 fn put_line(bytes: &[u8], text: &mut [u8], at: usize)
     requires { ⌜ at + 2 * length (now bytes) ≤ 0xFFF0 ⌝ }
     ensures { λ r. ⌜ now (text .exit) ≡ sets (now (text .entry)) at (lineOf (now (bytes .entry))) ⌝ }
 {
-    let check = digits::check_of(bytes);
+    let check = [digits::check_of(bytes)];
     let end = at + 2 * bytes.len();
     base::put_at(text, at, b':');
-    put_digits(bytes, text, at + 1);
-    put_byte(check, text, end + 1);
+    hex::put_digits(bytes, text, at + 1);
+    hex::put_digits(&check, text, end + 1);
     base::put_at(text, end + 3, LINE_FEED);
 }
 

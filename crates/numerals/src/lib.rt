@@ -1,4 +1,6 @@
-// Whole numbers as a user writes them: decimal digits, with a minus sign or none.
+// Numbers in digits: whole numbers as a user writes them, which are decimal digits with a minus sign or none; and bytes in hexadecimal digits (`hex`).
+pub mod hex;
+
 ghost use mathlib.Core.Path.{_≡_};
 ghost use Prim.Native.Nat.{_+_, _*_};
 ghost use lib.IntN.{pos, natAbs};

@@ -6,7 +6,8 @@ use mathlib.Core.Path.{_≡_, refl, _∙_, ap}
 use lib.ListN.{take, drop}
 use lib.Seq.{take-at, drop-at}
 use Rattle.base.specs.Pick.{pick}
-use Rattle.intelhex.specs.Bytes.{digit, sumOf, checkOf}
+use Rattle.numerals.specs.Hex.{digit}
+use Rattle.intelhex.specs.Bytes.{sumOf, checkOf}
 use Rattle.intelhex.specs.Putting.{lines-length}
 use Rattle.intelhex.specs.Written.{lineOf, dataRecord, endRecord, dataBytes, dataRecords, dataLines, textOf}
 use Rattle.intelhex.specs.declared.Writing.the-variants as writing

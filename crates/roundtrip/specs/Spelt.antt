@@ -11,7 +11,8 @@ use lib.Seq.{sets, length-take-le, take-at, getD-drop}
 use borrow.Author.Tests.{ltb-true, ltb-false}
 use Rattle.base.specs.Pick.{pick, pick-true, pick-false}
 use Rattle.intelhex.specs.Faults.{imageSize}
-use Rattle.intelhex.specs.Bytes.{worth, digit, digitsOf, total, sumOf, checkOf}
+use Rattle.numerals.specs.Hex.{digit, digitsOf}
+use Rattle.intelhex.specs.Bytes.{worth, total, sumOf, checkOf}
 use Rattle.intelhex.specs.Written.{lineFeed, lineOf, dataBytes, dataRecord, endRecord, dataRecords, dataLines, textOf}
 use Rattle.intelhex.specs.Lines.{addressIn, dataIn}
 use Rattle.intelhex.specs.Reading.{Given, given, putAll, blank}

@@ -1,25 +1,25 @@
 use Rattle.base.specs.Rules.{cases}
-use Rattle.intelhex.specs.Bytes.{digit}
+use Rattle.numerals.specs.Hex.{digit}
 use borrow.Author.Needs.{needs}
-use Rattle.intelhex.proofs.digits.digit_of.Statement.{statement}
-use Rattle.intelhex.proofs.digits.digit_of.Tie as tie
-use Rattle.intelhex.proofs.digits.digit_of.Reads as reads
-use Rattle.intelhex.proofs.digits.digit_of.Lts as lts
+use Rattle.numerals.proofs.hex.digit_of.Statement.{statement}
+use Rattle.numerals.proofs.hex.digit_of.Tie as tie
+use Rattle.numerals.proofs.hex.digit_of.Reads as reads
+use Rattle.numerals.proofs.hex.digit_of.Lts as lts
 
--- src/digits.rt:54:17
+-- src/hex.rt:14:19
 add-result : tie.Need-add-result
 add-result c = search needs
 
--- src/digits.rt:54:35
+-- src/hex.rt:14:39
 add-result-2 : tie.Need-add-result-2
 add-result-2 c = search needs
 
--- src/digits.rt:50:1
+-- src/hex.rt:10:1
 returns : tie.Need-returns
 unfolding digit
 returns c = search cases
 
--- src/digits.rt:50:1
+-- src/hex.rt:10:1
 returns-2 : tie.Need-returns-2
 unfolding digit
 returns-2 c = search cases
