@@ -1,5 +1,6 @@
 // What the program writes: words, and numbers in capital hexadecimal digits.
 use libc::STDOUT_FILENO;
+use numerals::hex;
 
 // Writes words as they are.
 pub fn say(words: &[u8]) {
@@ -12,20 +13,9 @@ pub fn refused(number: u64) {
     io::print_decimal(STDOUT_FILENO, number);
 }
 
-// A hexadecimal digit in capitals.
-fn capital(digit: u8) -> u8 {
-    if digit < 10 {
-        return b'0' + digit;
-    }
-    if digit < 16 {
-        return b'A' + (digit - 10);
-    }
-    b'?'
-}
-
 // Writes the two digits of a byte.
 pub fn say_digits(byte: u8) {
-    say(&[capital(byte / 16), capital(byte % 16)]);
+    say(&[hex::digit_of(byte / 16), hex::digit_of(byte)]);
 }
 
 // Writes a space and the two digits of a byte.
@@ -45,12 +35,9 @@ pub fn say_bit(bit: bool) {
 
 // Writes a space and the 16 digits of a code, bit 63 first.
 pub fn say_code(code: u64) {
+    let digits = terminal::code_digits(code);
     say(b" ");
-    let mut place: u8 = 8;
-    while 0 < place {
-        place -= 1;
-        say_digits(crc::byte_of(code, place));
-    }
+    say(&digits);
 }
 
 // Writes a comma, a space, a count and what it counts.

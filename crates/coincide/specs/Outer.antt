@@ -96,6 +96,15 @@ terminal-word κs a x y v w p q = (p ∙ sym q, refl)
 pub terminal-say-word : Settled terminal.say_word.ended terminal.say_word.Reads.Learnt
 terminal-say-word κs a x y v w p q = (refl, refl)
 
+pub terminal-code-digits : Settled terminal.code_digits.ended terminal.code_digits.Reads.Learnt
+terminal-code-digits κs a x y v w p q = (p ∙ sym q, refl)
+
+pub terminal-write-code : Settled terminal.write_code.ended terminal.write_code.Reads.Learnt
+terminal-write-code κs a x y v w p q = (refl, refl)
+
+pub terminal-write-codes : Settled terminal.write_codes.ended terminal.write_codes.Reads.Learnt
+terminal-write-codes κs a x y v w p q = (refl, refl)
+
 pub terminal-image-room : Settled terminal.image_room.ended terminal.image_room.Reads.Learnt
 terminal-image-room κs a x y v w p q = (p .0 ∙ sym (q .0), refl)
 

@@ -4,51 +4,6 @@ use libc::STDIN_FILENO;
 use libc::STDOUT_FILENO;
 use line::Table;
 
-// A hexadecimal digit in capitals.
-fn capital(digit: u8) -> u8 {
-    if digit < 10 {
-        return b'0' + digit;
-    }
-    if digit < 16 {
-        return b'A' + (digit - 10);
-    }
-    b'?'
-}
-
-// The 16 hexadecimal digits of a code, bit 63 first.
-fn code_digits(code: u64) -> [u8; 16] {
-    let mut text = [0u8; 16];
-    let mut rest = code;
-    let mut i: usize = 16;
-    while 0 < i {
-        i -= 1;
-        text[i] = capital((rest % 16) as u8);
-        rest = rest / 16;
-    }
-    text
-}
-
-// The line of a code.
-fn write_code(code: u64) {
-    let text = code_digits(code);
-    let word = terminal::word(crc::check_code(code));
-    io::write_all(STDOUT_FILENO, &text);
-    io::write_all(STDOUT_FILENO, b" ");
-    terminal::say_word(word);
-    io::write_all(STDOUT_FILENO, b"\n");
-}
-
-// The lines of the first n codes of a list.
-fn write_codes(list: &[u64], n: usize) {
-    let mut i: usize = 0;
-    while i < list.len() {
-        if i < n {
-            write_code(list[i]);
-        }
-        i += 1;
-    }
-}
-
 // The last line: codes and slots.
 fn write_counts(codes: usize, slots: u64) {
     io::print_decimal(STDOUT_FILENO, codes as u64);
@@ -64,7 +19,7 @@ fn search_and_write(t: Table, images: &mut [u8], pads: &mut [u8]) {
     let mut list = [0u64; 16];
     let found = search::search_line(table, &mut list, images, pads);
     let slots = found.slots;
-    write_codes(&list, found.listed);
+    terminal::write_codes(&list, found.listed);
     write_counts(found.listed, slots.0);
 }
 

@@ -3,6 +3,8 @@ use mathlib.Core.Bool.{Bool, true, false}
 use Prim.Native.Char.{code as letter}
 use Prim.Native.Nat.{ℕ}
 use mathlib.Core.List.{List, [], _∷_}
+use Rattle.numerals.specs.Hex.{digitsOf}
+use Rattle.crc.specs.Code.{byteOf}
 use Rattle.crc.specs.declared.CodeCheck.{CodeCheck}
 use Rattle.crc.specs.declared.CodeCheck.the-variants.{Good, Bad, AllZeros}
 use Rattle.card.specs.Card.{Carded, chips, refused}
@@ -25,3 +27,11 @@ wordOf AllZeros = Four (letter "z") (letter "e") (letter "r") (letter "o")
 abbrev pub charactersOf : Letters → List ℕ
 charactersOf (Two a b) = a ∷ b ∷ []
 charactersOf (Four a b c d) = a ∷ b ∷ c ∷ d ∷ []
+
+-- the eight bytes of a code, the eighth first
+abbrev pub eighthFirst : ℕ → List ℕ
+eighthFirst code = byteOf code 7 ∷ byteOf code 6 ∷ byteOf code 5 ∷ byteOf code 4 ∷ byteOf code 3 ∷ byteOf code 2 ∷ byteOf code 1 ∷ byteOf code 0 ∷ []
+
+-- "for each code 16 capital hex digits (bit 63 first)"
+unfoldable pub codeDigits : ℕ → List ℕ
+codeDigits code = digitsOf (eighthFirst code)

@@ -1,15 +1,16 @@
-// What the programs on a line share: the room that a table needs, the line that says why a card was refused, and the word for the
-// check of a code.
+// What the programs on a line share: the room that a table needs, the line that says why a card was refused, and the line of a
+// code.
 use card::CardAnswer;
 use crc::CodeCheck;
 use libc::STDOUT_FILENO;
 use line::IMAGES_MOST;
 use line::PADS_MOST;
+use numerals::hex;
 ghost use mathlib.Core.Path.{_≡_};
 ghost use lib.ListN.{length, replicate};
 ghost use Rattle.line.specs.Layout.{imagesMost, padsMost};
 ghost use Rattle.card.specs.Card.{carded};
-ghost use Rattle.terminal.specs.Words.{isRefused, wordOf};
+ghost use Rattle.terminal.specs.Words.{isRefused, wordOf, eighthFirst, codeDigits};
 
 // A word: as many places as it has letters.
 pub enum Letters {
@@ -67,6 +68,53 @@ pub fn say_word(word: Letters) {
         Letters::Four(a, b, c, d) => {
             io::write_all(STDOUT_FILENO, &[a, b, c, d]);
         }
+    }
+}
+
+// The eight bytes of a code, the eighth first.
+fn eighth_first(code: u64) -> [u8; 8]
+    ensures { λ r. ⌜ r ≡ eighthFirst code ⌝ }
+{
+    [
+        crc::byte_of(code, 7),
+        crc::byte_of(code, 6),
+        crc::byte_of(code, 5),
+        crc::byte_of(code, 4),
+        crc::byte_of(code, 3),
+        crc::byte_of(code, 2),
+        crc::byte_of(code, 1),
+        crc::byte_of(code, 0),
+    ]
+}
+
+// The 16 hexadecimal digits of a code, bit 63 first.
+pub fn code_digits(code: u64) -> [u8; 16]
+    ensures { λ r. ⌜ r ≡ codeDigits code ⌝ }
+{
+    let bytes = eighth_first(code);
+    let mut text = [0u8; 16];
+    hex::put_digits(&bytes, &mut text, 0);
+    text
+}
+
+// Writes the line of a code.
+pub fn write_code(code: u64) {
+    let text = code_digits(code);
+    let word = word(crc::check_code(code));
+    io::write_all(STDOUT_FILENO, &text);
+    io::write_all(STDOUT_FILENO, b" ");
+    say_word(word);
+    io::write_all(STDOUT_FILENO, b"\n");
+}
+
+// Writes the lines of the first n codes of a list.
+pub fn write_codes(list: &[u64], n: usize) {
+    let mut i: usize = 0;
+    while i < list.len() {
+        if i < n {
+            write_code(list[i]);
+        }
+        i += 1;
     }
 }
 
