@@ -19,10 +19,9 @@ fn say_codes(list: &[u64], listed: usize) {
 
 // Writes a search's refusal, where it was refused.
 fn say_refusal(answer: SearchAnswer) {
-    match answer {
-        SearchAnswer::Complete => {}
-        SearchAnswer::TooFewPlaces => text::refused(4),
-        SearchAnswer::Refused(r) => text::refused(line::number_of(r) as u64),
+    let number = search::number_of(answer);
+    if 0 < number {
+        text::refused(number as u64);
     }
 }
 

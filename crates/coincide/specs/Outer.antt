@@ -1,8 +1,9 @@
--- Two outcomes that a contract permits are the same: of card, recording, lent, packed, toemsakun and terminal the functions whose contract gives the answer, or the one thing that
+-- Two outcomes that a contract permits are the same: of card, recording, search, lent, packed, toemsakun and terminal the functions whose contract gives the answer, or the one thing that
 -- is changed, by an equation. Written by tools/ties.
 use mathlib.Core.Path.{refl, _∙_, sym}
 use Rattle.card.proofs as card
 use Rattle.recording.proofs as recording
+use Rattle.search.proofs as search
 use Rattle.lent.proofs as lent
 use Rattle.packed.proofs as packed
 use Rattle.toemsakun.proofs as toemsakun
@@ -27,6 +28,11 @@ recording-read-cards κs a x y v w p q = (p ∙ sym q, refl)
 
 pub recording-record-at : Settled recording.record_at.ended recording.record_at.Reads.Learnt
 recording-record-at κs a x y v w p q = (p ∙ sym q, refl)
+
+-- search
+
+pub search-number-of : Settled search.number_of.ended search.number_of.Reads.Learnt
+search-number-of κs a x y v w p q = (p ∙ sym q, refl)
 
 -- lent
 

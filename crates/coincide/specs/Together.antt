@@ -107,6 +107,13 @@ search-slot κs a x y v w p q =
       λ i. (tt, (tt, (r i .lent .images, (r i .lent .pads, tt)))),
     )
 
+pub search-reset : Settled search.reset.ended search.reset.Reads.Learnt
+search-reset κs a x y v w p q =
+    let r = p .1 ∙ sym (q .1) in (
+      λ i. record { table = record { n = r i .count; chips = r i .lent .chips }; value = (p .0 ∙ sym (q .0)) i },
+      λ i. (tt, (r i .lent .images, (r i .lent .pads, tt))),
+    )
+
 -- table, images and scratchpads
 pub search-write-byte : Settled search.write_byte.ended search.write_byte.Reads.Learnt
 search-write-byte κs a x y v w p q =

@@ -22,6 +22,11 @@ searched Complete = complete
 searched TooFewPlaces = refused 4
 searched (Refused r) = refused (numberOf r)
 
+-- the same as one number: 0 where the list is complete, else the refusal's
+abbrev pub numberIn : Searched → ℕ
+numberIn complete = 0
+numberIn (refused n) = n
+
 -- the line's own events as a wire
 abbrev pub wire : Wire
 wire = record { L = Attached; says = saysOf; does = leavesOf }

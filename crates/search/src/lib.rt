@@ -14,7 +14,7 @@ ghost use lib.ListN.{length, take, drop};
 ghost use Rattle.search.specs.Host.{play, passes, searchHost};
 ghost use mathlib.Core.List.{[]};
 ghost use Rattle.line.specs.Attached.{attached};
-ghost use Rattle.search.specs.Search.{searched, completeOr4, wire, outcome, fromPlayed, searchOf};
+ghost use Rattle.search.specs.Search.{searched, numberIn, completeOr4, wire, outcome, fromPlayed, searchOf};
 ghost use Rattle.search.specs.Passes.{playedList};
 
 // Resets put on the line. Never added to slots: the two differ in time.
@@ -134,6 +134,17 @@ fn seek_all(t: Table, list: &mut [u64], ms: &mut [u8], ss: &mut [u8]) -> Sought
 {
     let places = line::used_places(list.len());
     seek(t, list, places, ms, ss)
+}
+
+// The number of what a search answers: 0 where the list is complete, else that of the refusal.
+pub fn number_of(answer: SearchAnswer) -> u8
+    ensures { λ n. ⌜ n ≡ numberIn (searched answer) ⌝ }
+{
+    match answer {
+        SearchAnswer::Complete => 0,
+        SearchAnswer::TooFewPlaces => 4,
+        SearchAnswer::Refused(r) => line::number_of(r),
+    }
 }
 
 // The answer of a search that was not refused before its first event.
