@@ -2,7 +2,7 @@
 use Prim.Native.Nat.{ℕ, zero, suc, _-_, _<_}
 use native.Mathlib.Omega.{arith}
 use mathlib.Core.Bool.{true}
-use mathlib.Core.Path.{_≡_, refl, _∙_, sym, subst}
+use mathlib.Core.Path.{_≡_, refl, _∙_, ap, sym, subst}
 use lib.Dec.{ltb}
 use borrow.Author.Tests.{lt-ltb}
 use lib.IntN.{ℤ, pos, _-ℤ_}
@@ -18,7 +18,7 @@ use Rattle.line.specs.declared.SlotsAnswer.{SlotsAnswer}
 use Rattle.line.specs.declared.SlotsAnswer.the-variants as slots
 use Rattle.card.specs.Card.{Carded, chips, refused, carded}
 use Rattle.card.specs.declared.CardAnswer.{CardAnswer}
-use Rattle.search.specs.Search.{searched}
+use Rattle.search.specs.Search.{searched, numberIn}
 use Rattle.search.specs.declared.SearchAnswer.{SearchAnswer}
 use Rattle.toemsakun.specs.Library.{minus, answerNumber, slotsNumber, searchNumber}
 
@@ -44,6 +44,10 @@ event-at = along (λ (k : Answer). answerNumber (answered k))
 
 pub search-at : (n : ℕ) (q p : SearchAnswer) (r : ℤ) → q ≡ p → r ≡ searchNumber n (searched p) → r ≡ searchNumber n (searched q)
 search-at n = along (λ (k : SearchAnswer). searchNumber n (searched k))
+
+-- a search that was refused, by its number
+pub refused-at : (n : ℕ) (q p : SearchAnswer) (r : ℤ) → q ≡ p → minus (numberIn (searched p)) ≡ searchNumber n (searched p) → r ≡ minus (numberIn (searched q)) → r ≡ searchNumber n (searched q)
+refused-at n q p r e h k = k ∙ along (λ (a : SearchAnswer). searchNumber n (searched a)) q p (minus (numberIn (searched q))) e (ap (λ (a : SearchAnswer). minus (numberIn (searched a))) e ∙ h)
 
 pub card-at : (n : ℕ) (q p : CardAnswer) (r : ℤ) → q ≡ p → r ≡ cardNumber n (carded p) → r ≡ cardNumber n (carded q)
 card-at n = along (λ (k : CardAnswer). cardNumber n (carded k))

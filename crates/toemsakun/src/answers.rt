@@ -33,12 +33,18 @@ fn of_count(n: usize) -> i32
     n as i32
 }
 
+// Minus a number.
+fn minus_of(number: u8) -> i32
+    ensures { λ z. ⌜ z ≡ minus number ⌝ }
+{
+    -(number as i32)
+}
+
 // Minus the number of a refusal.
 fn of_refusal(r: Refusal) -> i32
     ensures { λ z. ⌜ z ≡ minus (numberOf r) ⌝ }
 {
-    let number = line::number_of(r);
-    -(number as i32)
+    minus_of(line::number_of(r))
 }
 
 // What an event answers.
@@ -69,7 +75,7 @@ pub fn of_search(answer: SearchAnswer, n: usize) -> i32
 {
     match answer {
         SearchAnswer::Complete => of_count(n),
-        SearchAnswer::TooFewPlaces => -4,
+        SearchAnswer::TooFewPlaces => minus_of(search::number_of(answer)),
         SearchAnswer::Refused(r) => of_refusal(r),
     }
 }
