@@ -93,6 +93,9 @@ records-head-at κs a x y v w p q = (p ∙ sym q, refl)
 
 -- numerals
 
+pub numerals-read-digits : Settled numerals.read_digits.ended numerals.read_digits.Reads.Learnt
+numerals-read-digits κs a x y v w p q = (p ∙ sym q, refl)
+
 pub numerals-read-number : Settled numerals.read_number.ended numerals.read_number.Reads.Learnt
 numerals-read-number κs a x y v w p q = (p ∙ sym q, refl)
 

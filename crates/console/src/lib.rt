@@ -57,8 +57,8 @@ pub fn is_written(bytes: &[u8]) -> bool {
     done
 }
 
-// Whether a number could be written.
-fn is_number_written(n: u64) -> bool {
+// Whether a number could be written on standard output, in decimal digits; if not, that is told likewise.
+pub fn is_number_written(n: u64) -> bool {
     let mut digits = [0u8; 20];
     let k = io::decimal(n, &mut digits);
     is_written(&digits[..k])

@@ -17,6 +17,7 @@ pub enum Numeral {
 
 // What digits come to.
 pub enum Counted {
+    // a number; one past 18 digits counts as the least of 19
     Number(u64),
     NoNumber,
 }
@@ -67,6 +68,13 @@ fn digits_from(text: &[u8], from: usize) -> Counted
         }
     }
     Counted::Number(n)
+}
+
+// What a text of digits alone says.
+pub fn read_digits(text: &[u8]) -> Counted
+    ensures { λ r. ⌜ r ≡ countedBy (digitsIn (now (text .entry))) ⌝ }
+{
+    digits_from(text, 0)
 }
 
 // A number with no sign.
