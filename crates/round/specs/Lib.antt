@@ -1,0 +1,5 @@
+pub mod Words
+pub mod AnyLength
+pub mod Matches
+pub mod Pages
+pub mod PagesLaw
