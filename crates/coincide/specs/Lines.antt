@@ -34,6 +34,9 @@ chip-set-up κs a x y v w p q = (p ∙ sym q, refl)
 pub chip-kinds-is-known : Settled chip.kinds.is_known.ended chip.kinds.is_known.Reads.Learnt
 chip-kinds-is-known κs a x y v w p q = (p ∙ sym q, refl)
 
+pub chip-kinds-is-ds28ec20 : Settled chip.kinds.is_ds28ec20.ended chip.kinds.is_ds28ec20.Reads.Learnt
+chip-kinds-is-ds28ec20 κs a x y v w p q = (p ∙ sym q, refl)
+
 pub chip-kinds-has-memory : Settled chip.kinds.has_memory.ended chip.kinds.has_memory.Reads.Learnt
 chip-kinds-has-memory κs a x y v w p q = (p ∙ sym q, refl)
 

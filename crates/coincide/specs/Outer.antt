@@ -1,9 +1,10 @@
--- Two outcomes that a contract permits are the same: of card, recording, search, lent, packed, toemsakun and terminal the functions whose contract gives the answer, or the one thing that
+-- Two outcomes that a contract permits are the same: of card, recording, search, rounds, lent, packed, toemsakun and terminal the functions whose contract gives the answer, or the one thing that
 -- is changed, by an equation. Written by tools/ties.
 use mathlib.Core.Path.{refl, _∙_, sym}
 use Rattle.card.proofs as card
 use Rattle.recording.proofs as recording
 use Rattle.search.proofs as search
+use Rattle.rounds.proofs as rounds
 use Rattle.lent.proofs as lent
 use Rattle.packed.proofs as packed
 use Rattle.toemsakun.proofs as toemsakun
@@ -33,6 +34,11 @@ recording-record-at κs a x y v w p q = (p ∙ sym q, refl)
 
 pub search-number-of : Settled search.number_of.ended search.number_of.Reads.Learnt
 search-number-of κs a x y v w p q = (p ∙ sym q, refl)
+
+-- rounds
+
+pub rounds-pages-asked : Settled rounds.pages_asked.ended rounds.pages_asked.Reads.Learnt
+rounds-pages-asked κs a x y v w p q = (p .0 ∙ sym (q .0), refl)
 
 -- lent
 

@@ -6,6 +6,7 @@ use Rattle.line.specs.Event.{Outcome}
 use Rattle.line.specs.Slots.{RunOutcome}
 use Rattle.recording.specs.Playing.{Handed}
 use Rattle.search.specs.Search.{Search}
+use Rattle.rounds.specs.Round.{Round}
 use Rattle.memory.proofs as memory
 use Rattle.chip.proofs as chip
 use Rattle.line.proofs as line
@@ -14,6 +15,7 @@ use Rattle.setpoints.proofs as setpoints
 use Rattle.intelhex.proofs as intelhex
 use Rattle.recording.proofs as recording
 use Rattle.search.proofs as search
+use Rattle.rounds.proofs as rounds
 use Rattle.packed.proofs as packed
 use Rattle.toemsakun.proofs as toemsakun
 use Rattle.console.proofs as console
@@ -135,6 +137,21 @@ search-search-line κs a x y v w p q =
         table = record { n = r i .line .count; chips = r i .line .lent .chips };
       },
       λ i. (tt, (r i .list, (r i .line .lent .images, (r i .line .lent .pads, tt)))),
+    )
+
+-- the same with the page buffer
+pub rounds-make-round : Settled rounds.make_round.ended rounds.make_round.Reads.Learnt
+rounds-make-round κs a x y v w p q =
+    let r = p ∙ sym q in
+    let s = searched-once (x .answer) (y .answer) (ap (λ (o : Round). o .found .answer) r) in (
+      λ i. record {
+        answer = s i;
+        listed = r i .found .number;
+        resets = record { 0 = r i .found .resets };
+        slots = record { 0 = r i .found .slots };
+        table = record { n = r i .found .line .count; chips = r i .found .line .lent .chips };
+      },
+      λ i. (tt, (r i .found .list, (r i .pages, (r i .found .line .lent .images, (r i .found .line .lent .pads, tt))))),
     )
 
 -- record, images and scratchpads

@@ -136,7 +136,7 @@ out-stays v w p = level-taken w v Waiting p ∙ p
 
 -- what it stores ----------------------------------------------------------------------------------
 
--- what a slot changes in a chip at a known level, but for code and kind
+-- the memory after a slot at a known level
 memory-taken : (w : Whole) (v : Bool) (l : Level) → w .chip .level ≡ l → takesOf v w .memory ≡ levelTakes w v l .memory
 memory-taken w v l e = ap (λ (u : Whole). u .memory) (takes-in w v l e)
 

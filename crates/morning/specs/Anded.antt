@@ -1,12 +1,10 @@
 -- Laws: what the AND of bytes is, bit by bit; and the page of a code that one DS28EC20 bears.
 use Prim.Native.Nat.{ℕ, zero, suc, _+_, _-_, _/_, _%_, _^_, _<_, _≤_}
 use native.Mathlib.Omega.{arith}
-use native.Mathlib.Numerals.{add-one}
 use mathlib.Core.Bool.{Bool, true, false}
 use mathlib.Core.List.{List, [], _∷_, _++_}
 use mathlib.Core.Path.{_≡_, refl, _∙_, ap, ap₂, sym}
 use lib.ListN.{length, getD, take, drop}
-use lib.Seq.{drop-cons}
 use Rattle.base.specs.Pick.{pick}
 use Rattle.base.specs.Bits.{bitOf, both, filled}
 use Rattle.base.specs.Both.{both-true}
@@ -14,6 +12,7 @@ use Rattle.base.specs.Low.{bit-low, bit-high}
 use Rattle.histories.specs.Below.{Bytes, byte-at}
 use Rattle.histories.specs.Sent.{bitsFrom}
 use Rattle.recovery.specs.Filled.{filledBy, byte-taken}
+use Rattle.morning.specs.Rows.{from-address}
 use Rattle.morning.specs.Page.{bothBits, andBits, andOf, bytesAt}
 
 -- the bits of a number and 80h below its highest are those of the number
@@ -106,9 +105,9 @@ and-small bs = filled-small-by 0 (andBits bs) (omega arith)
 and-one : (b : ℕ) → b < 256 → andOf (b ∷ []) ≡ b
 and-one b h = ap (filledBy 0x80 0) (λ j. both-true (bitOf b 0) j ∷ both-true (bitOf b 1) j ∷ both-true (bitOf b 2) j ∷ both-true (bitOf b 3) j ∷ both-true (bitOf b 4) j ∷ both-true (bitOf b 5) j ∷ both-true (bitOf b 6) j ∷ both-true (bitOf b 7) j ∷ []) ∙ byte-taken b h
 
--- THEOREM: the page of a code that one DS28EC20 bears is its own bytes
+-- the AND of one memory's bytes is its own bytes
 pub own-bytes : (n address : ℕ) (m : List ℕ) → Bytes m → address + n ≤ length m → bytesAt n address (m ∷ []) ≡ take n (drop address m)
 own-bytes zero address m f h = refl
 own-bytes (suc n) address m f h =
-    let e = drop-cons m address 0 (omega arith) ∙ ap (λ (j : ℕ). getD m address 0 ∷ drop j m) (sym (add-one address)) in
+    let e = from-address address m (omega arith) in
     ap₂ _∷_ (and-one (getD m address 0) (byte-at m f address)) (own-bytes n (address + 1) m f (omega arith)) ∙ ap (take (suc n)) (sym e)

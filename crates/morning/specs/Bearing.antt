@@ -65,7 +65,7 @@ by-borne b (c ∷ cs) k m =
     later e g (inl f) = absurd (true≢false (sym (eq-eqb (c .kind) 1 (ap (λ (x : Chip). x .kind) (sym f) ∙ k)) ∙ e))
     later e g (inr n) = g n
 
--- "m of them are borne by a DS28EC20: some chip of the table with that code is of kind 1": exactly then a code is among those borne
+-- THEOREM: "m of them are borne by a DS28EC20: some chip of the table with that code is of kind 1": exactly then a code is among those borne
 pub borne-exactly : (code : ℕ) (cs : List Chip) → Iff (List·Memᴰ code (borneIn cs)) (Bears code cs)
 borne-exactly code cs = (borne-by code cs, (λ b. rw (← b .has) (by-borne (b .bearer) cs (b .kind) (b .there))))
 
@@ -134,7 +134,7 @@ codes-table l =
 borne-on-line : (l : Attached) (x : ℕ) → List·Memᴰ x (borneOn l) → List·Memᴰ x (codesOf (lineFrom l))
 borne-on-line l x m = rw (codes-table l) (borne-coded x (take (l .count) (l .lent .chips)) m)
 
--- "A code that chips share counts once and is read once": the codes listed that are borne are as many as the distinct ones that are borne
+-- THEOREM: "A code that chips share counts once and is read once": the codes listed that are borne are as many as the distinct ones that are borne
 pub borne-listed : (l : Attached) → Codes (codesOf (lineFrom l)) → length (onlyBorne (borneOn l) (orderOf l)) ≡ distinctIn (borneOn l)
 borne-listed l fits =
     let b = branch-order (codesOf (lineFrom l)) fits in

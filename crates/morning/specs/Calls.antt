@@ -1,9 +1,9 @@
 -- Calls of `rounds::make_round` and `rounds::pages_asked`: whoever makes one is told what its contract says, and so what the theorems say.
 use Prim.Native.Nat.{ℕ, _≤_}
 use mathlib.Core.Bool.{Bool, true, false}
-use mathlib.Core.List.{List}
+use mathlib.Core.List.{List, [], _∷_}
 use mathlib.Core.Path.{_≡_, refl, sym, _∙_, subst}
-use lib.ListN.{length}
+use lib.ListN.{length, take}
 use contract.Lifetimes.{Lfts}
 use denote.Ref.{RefT}
 use denote.Triple.Clauses.{atExit}
@@ -17,19 +17,19 @@ use Rattle.search.specs.Search.{searched, completeOr4, outcome}
 use Rattle.search.specs.declared.SearchAnswer.{SearchAnswer}
 use Rattle.search.specs.declared.SearchAnswer.the-variants as search
 use Rattle.search.specs.declared.Found.{Found}
-use Rattle.rounds.specs.Borne.{onlyBorne, pagesAsked}
+use Rattle.rounds.specs.Borne.{onlyBorne, pageSize, pagesMost, pagesAsked}
 use Rattle.rounds.specs.Host.{roundHost}
 use Rattle.rounds.specs.Round.{Round, round, borneOn, roundVerdict, roundBy, roundOf}
 use Rattle.rounds.proofs as rounds
-use Rattle.histories.specs.Below.{Codes}
+use Rattle.histories.specs.Below.{Codes, Bytes}
 use Rattle.histories.specs.Histories.{codesOf, storesOf}
 use Rattle.histories.specs.Calls.{eventsOf}
 use Rattle.histories.specs.SearchEvents.{RunOfEvents}
 use Rattle.listing.specs.Public.{orderOf}
-use Rattle.morning.specs.Page.{pagesOf}
+use Rattle.morning.specs.Page.{bearersOf, pageOf, pagesOf}
 use Rattle.morning.specs.Counts.{codesCount, Sized, Counts, round-counts}
 use Rattle.morning.specs.RoundEvents.{round-is-run}
-use Rattle.morning.specs.Reads.{round-keeps, round-reads}
+use Rattle.morning.specs.Reads.{round-keeps, round-reads, round-reads-own}
 
 -- a caller's table, by value
 abbrev tableOf : Attached → Table
@@ -71,6 +71,7 @@ pub record Told (list pages : List ℕ) (l : Attached) (r : Round) : Type 0 wher
   pub run : RunOfEvents (r .found) (eventsOf (roundHost (length list) (borneOn l)) l) l
   pub keeps : storesOf (lineFrom (r .found .line)) ≡ storesOf (lineFrom l)
   pub reads : codesCount l ≤ length list → r .pages ≡ pagesOf (onlyBorne (borneOn l) (orderOf l)) (lineFrom l)
+  pub own : Bytes (l .lent .images) → (code : ℕ) (m : List ℕ) → bearersOf code (lineFrom l) ≡ m ∷ [] → pageOf code (lineFrom l) ≡ take pageSize m
 
 -- THEOREM: every call that the contract permits tells so
 pub round-told : (list pages : List ℕ) (l : Attached) (r : Round) → MakeRound list pages l r → Stands l → Codes (codesOf (lineFrom l)) → Sized pages l → Told list pages l r
@@ -81,6 +82,7 @@ round-told list pages l r c s fits size =
       run = round-is-run list pages l s size;
       keeps = round-keeps list pages l s fits size;
       reads = round-reads list pages l s fits size;
+      own = round-reads-own l s fits;
     })
 
 -- ---- there are such calls
@@ -121,5 +123,5 @@ some-round κs list pages l =
 
 -- a call of `rounds::pages_asked`: "A function answers the size of page buffer that a table asks, at most 512."
 pub pages-told : (κs : Lfts 0) (t : Table) (size : ℕ) → rounds.pages_asked.Reads.Learnt κs (t, tt) size (atExit rounds.pages_asked.ended κs (t, tt) (tt, tt))
-    → (size ≡ pagesAsked (t .n) (t .chips)) × (size ≤ 512)
+    → (size ≡ pagesAsked (t .n) (t .chips)) × (size ≤ pagesMost)
 pages-told κs t size p = p

@@ -1,4 +1,4 @@
--- Document 02, M-108, "How long is a morning round?": "Slots: 200 n + 352 m, at most 8,832 with 16 chips. Resets: n (1 if n is 0) and m
+-- The request M-108, "How long is a morning round?": "Slots: 200 n + 352 m, at most 8,832 with 16 chips. Resets: n (1 if n is 0) and m
 -- more, counted apart. Under refusal 4 both counts are the search's."
 use Prim.Native.Nat.{ℕ, max, _+_, _*_, _<_, _≤_}
 use native.Mathlib.Omega.{arith}
@@ -10,20 +10,23 @@ use lib.ListN.{length, take, drop, drop-of-length-le}
 use lib.Seq.{take-all, length-take-le, take-append-seam, sets}
 use borrow.Author.Tests.{le-leb, lt-leb, eq-eqb}
 use Rattle.base.specs.Pick.{pick-true, pick-false}
-use Rattle.base.specs.Once.{distinctIn}
+use Rattle.base.specs.Once.{onceEach, distinctIn, once-in, in-once}
+use Rattle.base.specs.Exactly.{Iff}
 use Rattle.line.specs.Attached.{Attached, Stands, lineFrom}
+use Rattle.line.specs.Event.{tableInRange}
 use Rattle.line.specs.Refusals.{well-judged, in-range-few}
 use Rattle.line.specs.declared.Verdict.{Verdict}
 use Rattle.line.specs.declared.Verdict.the-variants as verdict
 use Rattle.search.specs.Host.{play, searchHost}
 use Rattle.search.specs.Search.{complete, refused, wire, Search, outcome, fromPlayed, searchOf}
-use Rattle.rounds.specs.Borne.{onlyBorne, pagesAsked}
+use Rattle.rounds.specs.Borne.{onlyBorne, pageSize, pagesAsked}
 use Rattle.rounds.specs.Host.{readPages, roundHost}
 use Rattle.rounds.specs.Round.{Round, round, borneOn, roundVerdict, fromRound, roundBy, roundOf, isComplete}
 use Rattle.rounds.specs.Rounds.{search-well, round-stops, round-reads-on}
 use Rattle.histories.specs.Below.{Codes}
 use Rattle.histories.specs.Histories.{codesOf}
-use Rattle.listing.specs.Count.{order-distinct}
+use Rattle.listing.specs.Order.{SameMembers}
+use Rattle.listing.specs.Count.{once-distinct, no-more, order-distinct}
 use Rattle.listing.specs.Public.{orderOf, search-finds}
 use Rattle.morning.specs.Bearing.{borne-listed, borne-few, codes-few}
 
@@ -39,10 +42,27 @@ borneCount l = distinctIn (borneOn l)
 abbrev pub Sized : List ℕ → Attached → Type 0
 Sized pages l = length pages ≡ pagesAsked (l .count) (l .lent .chips)
 
--- "a page buffer not of 32 m bytes, m being that of the whole table": on a table that stands well, 32 m is what is asked
-pub pages-asked-are : (l : Attached) → Stands l → pagesAsked (l .count) (l .lent .chips) ≡ 32 * borneCount l
+-- THEOREM: "a page buffer not of 32 m bytes, m being that of the whole table": 32 m is what a table asks that 8 does not refuse
+pub pages-asked-are : (l : Attached) → tableInRange (l .count) (l .lent .chips) ≡ true → pagesAsked (l .count) (l .lent .chips) ≡ pageSize * borneCount l
 unfolding pagesAsked
-pages-asked-are l s = pick-true (leb (l .count) 16) _ 0 (le-leb (l .count) 16 (in-range-few (l .count) (l .lent .chips) (s .range)))
+pages-asked-are l h = pick-true (leb (l .count) 16) _ 0 (le-leb (l .count) 16 (in-range-few (l .count) (l .lent .chips) h))
+
+-- so a page buffer has its size exactly where it has 32 m bytes
+pub sized-exactly : (pages : List ℕ) (l : Attached) → tableInRange (l .count) (l .lent .chips) ≡ true → Iff (Sized pages l) (length pages ≡ pageSize * borneCount l)
+sized-exactly pages l h = let e = pages-asked-are l h in ((λ k. k ∙ e), (λ k. k ∙ sym e))
+
+-- lists with the same members have as many distinct ones
+same-distinct : (xs ys : List ℕ) → SameMembers xs ys → distinctIn xs ≡ distinctIn ys
+same-distinct xs ys m =
+    let a = no-more (onceEach xs) (onceEach ys) (once-distinct xs) (λ x i. in-once x ys (m x .0 (once-in x xs i))) in
+    let b = no-more (onceEach ys) (onceEach xs) (once-distinct ys) (λ x i. in-once x xs (m x .1 (once-in x ys i))) in
+    omega arith
+
+-- THEOREM: "n and m by the set of codes": tables with the same codes, and the same ones of them borne, however often and in whatever order, have
+-- the same n and m
+pub counts-by-codes : (l k : Attached) → SameMembers (codesOf (lineFrom l)) (codesOf (lineFrom k)) → SameMembers (borneOn l) (borneOn k)
+    → (codesCount l ≡ codesCount k) × (borneCount l ≡ borneCount k)
+counts-by-codes l k c b = (same-distinct (codesOf (lineFrom l)) (codesOf (lineFrom k)) c, same-distinct (borneOn l) (borneOn k) b)
 
 -- what a round answers, lists and counts where its list has a place for each code
 pub record Complete (places : List ℕ) (l : Attached) (s : Search) : Type 0 where
@@ -91,20 +111,20 @@ module _ (list pages : List ℕ) (l : Attached) (s : Stands l) (size : Sized pag
   stops f = round-well ∙ sym (round-stops list l (q .answer) (q .number) (q .list) (q .resets) (q .slots) (q .line) searches pages (borneOn l) (isComplete (q .answer)) refl f)
 
   -- the codes whose pages are read
-  abbrev readers : List ℕ
-  readers = onlyBorne (borneOn l) (take (q .number) (q .list))
+  abbrev toRead : List ℕ
+  toRead = onlyBorne (borneOn l) (take (q .number) (q .list))
 
   -- what the round comes to with a page for each of them
   abbrev after : Search
   after =
-      outcome (q .answer) (q .number) (q .list) (q .resets + length readers) (q .slots + 352 * length readers) (play wire (readPages readers []) (q .line) .line)
+      outcome (q .answer) (q .number) (q .list) (q .resets + length toRead) (q .slots + 352 * length toRead) (play wire (readPages toRead []) (q .line) .line)
 
   -- where the list is complete
   goes-on : isComplete (q .answer) ≡ true → roundOf list pages l .found ≡ after
   goes-on f =
       ap (λ (r : Round). r .found) (round-well
       ∙ sym (round-reads-on list l (q .answer) (q .number) (q .list) (q .resets) (q .slots) (q .line) searches pages (borneOn l)
-      (sets pages 0 (play wire (readPages readers []) (q .line) .result)) (play wire (readPages readers []) (q .line) .line) (length readers) (refl, refl) refl
+      (sets pages 0 (play wire (readPages toRead []) (q .line) .result)) (play wire (readPages toRead []) (q .line) .line) (length toRead) (refl, refl) refl
       (isComplete (q .answer)) refl f))
 
   module _ (fits : Codes (codesOf (lineFrom l))) where
@@ -122,7 +142,7 @@ module _ (list pages : List ℕ) (l : Attached) (s : Stands l) (size : Sized pag
         let lists : q .list ≡ orderOf l ++ drop (codesCount l) list = found .list ∙ (λ j. whole j ++ drop ((ap length whole ∙ n-is) j) list) in
         let first : take (q .number) (q .list) ≡ orderOf l
         = (λ j. take ((found .number ∙ ap length whole) j) (lists j)) ∙ take-append-seam (orderOf l) (drop (codesCount l) list) in
-        let m : length readers ≡ borneCount l = ap (λ (cs : List ℕ). length (onlyBorne (borneOn l) cs)) first ∙ borne-listed l fits in
+        let m : length toRead ≡ borneCount l = ap (λ (cs : List ℕ). length (onlyBorne (borneOn l) cs)) first ∙ borne-listed l fits in
         let g = goes-on (ap isComplete answer) in
         let slots : roundOf list pages l .found .slots ≡ 200 * codesCount l + 352 * borneCount l
         = ap (λ (x : Search). x .slots) g ∙ (λ j. (found .slots ∙ ap (λ (k : ℕ). 200 * k) (ap length whole ∙ n-is)) j + 352 * m j) in

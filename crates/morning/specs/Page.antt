@@ -1,23 +1,21 @@
--- Document 02, M-108: what page 0 of a code is. "Where chips share a code, the byte read is the AND of those of the DS28EC20s that bear it; a
+-- The request M-108: what page 0 of a code is. "Where chips share a code, the byte read is the AND of those of the DS28EC20s that bear it; a
 -- DS2413 with that code sends ones." Definitions alone.
 use Prim.Native.Nat.{ℕ, zero, suc, _+_}
 use mathlib.Core.Bool.{Bool, true}
 use mathlib.Core.List.{List, [], _∷_, _++_, map}
-use lib.Dec.{eqb}
 use lib.ListN.{getD, replicate}
 use Rattle.base.specs.Pick.{pick}
 use Rattle.base.specs.Bits.{both}
-use Rattle.chip.specs.Kinds.{isDs28ec20}
 use Rattle.chip.specs.Chip.{Whole}
 use Rattle.histories.specs.Histories.{Stored, storesOf}
 use Rattle.histories.specs.Sent.{bitsFrom}
 use Rattle.recovery.specs.Filled.{filledBy}
-use Rattle.rounds.specs.Borne.{pageSize}
+use Rattle.rounds.specs.Borne.{bearsCode, pageSize}
 
 -- the memories of the DS28EC20s that bear a code, in table order
 abbrev pub bearing : ℕ → List Stored → List (List ℕ)
 bearing code [] = []
-bearing code (c ∷ cs) = pick (both (isDs28ec20 (c .kind)) (eqb code (c .code))) (c .memory ∷ bearing code cs) (bearing code cs)
+bearing code (c ∷ cs) = pick (bearsCode code (c .kind) (c .code)) (c .memory ∷ bearing code cs) (bearing code cs)
 
 -- those of a line
 abbrev pub bearersOf : ℕ → List Whole → List (List ℕ)

@@ -29,7 +29,7 @@ Sound [] = Unit {0}
 Sound (c ∷ cs) = SoundChip c × Sound cs
 
 -- so every bearer has a page
-sound-longer : (code : ℕ) (cs : List Stored) → Sound cs → Longer code 32 cs
+pub sound-longer : (code : ℕ) (cs : List Stored) → Sound cs → Longer code pageSize cs
 unfolding isDs28ec20 imageSize both pick
 sound-longer code [] s = tt
 sound-longer code (c ∷ cs) (a, s) = (first, sound-longer code cs s)
@@ -37,7 +37,7 @@ sound-longer code (c ∷ cs) (a, s) = (first, sound-longer code cs s)
     size : (b : Bool) → both (isDs28ec20 (c .kind)) b ≡ true → imageSize (c .kind) ≡ 2624
     size b e = pick-if (λ (n : ℕ). isDs28ec20 (c .kind) ≡ true → n ≡ 2624) (isDs28ec20 (c .kind)) 2624 0 (λ p q. refl) (λ p q. absurd (true≢false (sym q ∙ p))) (both-holds (isDs28ec20 (c .kind)) b e .0)
 
-    first : bears code c ≡ true → 32 ≤ length (c .memory)
+    first : bears code c ≡ true → pageSize ≤ length (c .memory)
     first e = let k = a .full ∙ size _ e in omega arith
 
 -- ---- the host asks
@@ -131,7 +131,7 @@ module _ (code : ℕ) where
     page-reads L s =
         let e = page-goes L s in
         let r = bytes-read pageSize [] (rowsFrom code 0 (storesOf L)) (ready L) (all-send L s) in (
-          ap (λ (p : Played (List ℕ) (List Whole)). p .result) e ∙ r .result ∙ bytes-are 32 code 0 (storesOf L) (sound-longer code (storesOf L) s),
+          ap (λ (p : Played (List ℕ) (List Whole)). p .result) e ∙ r .result ∙ bytes-are pageSize code 0 (storesOf L) (sound-longer code (storesOf L) s),
           ap (λ (p : Played (List ℕ) (List Whole)). storesOf (p .line)) e ∙ r .stores ∙ all-stay L s,
         )
 

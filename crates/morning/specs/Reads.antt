@@ -1,39 +1,43 @@
--- Document 02, M-108: what a round reads. "Pages go into the lent buffer in list order, without gaps"; "Where chips share a code, the byte read is
+-- The request M-108: what a round reads. "Pages go into the lent buffer in list order, without gaps"; "Where chips share a code, the byte read is
 -- the AND of those of the DS28EC20s that bear it; a DS2413 with that code sends ones."
 use Prim.Native.Nat.{ℕ, zero, suc, _+_, _*_, _≤_}
 use native.Mathlib.Omega.{arith}
 use mathlib.Core.Bool.{true}
 use mathlib.Core.List.{List, [], _∷_, List·Memᴰ·head, List·Memᴰ·tail}
 use mathlib.Core.Path.{_≡_, refl, sym, _∙_, ap, subst}
-use lib.ListN.{length, take, length-append}
+use lib.ListN.{length, take, drop, length-append}
 use lib.Seq.{take-all, sets}
 use borrow.Author.Tests.{le-leb}
 use Rattle.base.specs.Pick.{pick-true, pick-both, pick-if}
 use Rattle.base.specs.Once.{isIn}
 use Rattle.base.specs.Stores.{sets-all}
+use Rattle.chip.specs.Kinds.{imageSize, padSize}
 use Rattle.chip.specs.Chip.{Whole}
+use Rattle.chip.specs.declared.Chip.{Chip}
 use Rattle.line.specs.Attached.{Attached, saysOf, leavesOf, Stands, lineFrom}
+use Rattle.line.specs.Layout.{split}
 use Rattle.line.specs.Refusals.{in-range-few}
 use Rattle.line.specs.Standing.{AllGood, line-good, line-length}
 use Rattle.search.specs.Host.{Host, done, ask, bind, Played, Listed, play, searchHost}
 use Rattle.search.specs.Counts.{andThen, play-bind}
 use Rattle.search.specs.Search.{wire}
-use Rattle.rounds.specs.Borne.{onlyBorne}
+use Rattle.rounds.specs.Borne.{onlyBorne, pageSize}
 use Rattle.rounds.specs.Host.{Rounded, rounded, readPages, thenPages, roundHost}
 use Rattle.rounds.specs.Round.{Round, borneOn, roundOf}
-use Rattle.histories.specs.Below.{Codes, Bytes}
-use Rattle.histories.specs.Histories.{codesOf, storesOf, lineWire}
+use Rattle.histories.specs.Below.{Codes, Bytes, take-bytes, drop-bytes}
+use Rattle.histories.specs.Histories.{Stored, codesOf, storesOf, lineWire}
 use Rattle.histories.specs.Joined.{play-joined}
 use Rattle.histories.specs.Standing.{says-is, line-after, stands-after}
 use Rattle.listing.specs.Order.{Lists}
 use Rattle.listing.specs.Listing.{branch-order, listing-of-16}
 use Rattle.listing.specs.Count.{order-distinct}
 use Rattle.listing.specs.Public.{orderOf}
-use Rattle.morning.specs.Page.{bearersOf, bytesAt, pageOf, pagesOf}
+use Rattle.morning.specs.Page.{bearing, bearersOf, bytesAt, pageOf, pagesOf}
+use Rattle.morning.specs.Rows.{bears, Longer}
 use Rattle.morning.specs.Anded.{own-bytes}
 use Rattle.morning.specs.Bearing.{borne-listed}
 use Rattle.morning.specs.Counts.{codesCount, Sized, pages-asked-are, round-well}
-use Rattle.morning.specs.Reading.{Sound, AllCodes, same-pages, pages-read}
+use Rattle.morning.specs.Reading.{Sound, sound-longer, AllCodes, same-pages, pages-read}
 
 -- a host leaves on a table the line that it leaves on the table's line
 host-line : {A : Type 0} (h : Host A) (l : Attached) → Stands l → lineFrom (play wire h l .line) ≡ play lineWire h (lineFrom l) .line
@@ -42,15 +46,15 @@ host-line (done a) l s = refl
 host-line (ask e f) l s =
     host-line (f (saysOf e l)) (leavesOf e l) (stands-after l e s) ∙ λ j. play lineWire (f (says-is l s e j)) (line-after l e s j) .line
 
--- 32 bytes of each page
+-- as many bytes of each page as a page has
 bytes-length : (n address : ℕ) (ms : List (List ℕ)) → length (bytesAt n address ms) ≡ n
 bytes-length zero address ms = refl
 bytes-length (suc n) address ms = ap suc (bytes-length n (address + 1) ms)
 
-pages-length : (codes : List ℕ) (L : List Whole) → length (pagesOf codes L) ≡ 32 * length codes
+pages-length : (codes : List ℕ) (L : List Whole) → length (pagesOf codes L) ≡ pageSize * length codes
 pages-length [] L = refl
 pages-length (c ∷ cs) L =
-    let a = bytes-length 32 0 (bearersOf c L) in
+    let a = bytes-length pageSize 0 (bearersOf c L) in
     let b = pages-length cs L in
     length-append (pageOf c L) (pagesOf cs L) ∙ (omega arith)
 
@@ -96,13 +100,13 @@ module _ (list pages : List ℕ) (l : Attached) (s : Stands l) (fits : Codes (co
       subst AllCodes (ap (λ (x : Listed). x .codes) (sym (lists .result))) (some-codes (length list) (orderOf l) (all-codes (orderOf l) (λ x m. fits x (b .members x .0 m))))
 
   -- what the pages come to that a host reads after the search
-  abbrev readers : List ℕ
-  readers = onlyBorne (borneOn l) (p .result .codes)
+  abbrev toRead : List ℕ
+  toRead = onlyBorne (borneOn l) (p .result .codes)
 
-  read : (play lineWire (readPages readers []) (p .line) .result ≡ pagesOf readers L) × (storesOf (play lineWire (readPages readers []) (p .line) .line) ≡ storesOf L)
+  read : (play lineWire (readPages toRead []) (p .line) .result ≡ pagesOf toRead L) × (storesOf (play lineWire (readPages toRead []) (p .line) .line) ≡ storesOf L)
   read =
-      let r = pages-read readers [] (p .line) (borne-codes (borneOn l) (p .result .codes) listed-codes) sound in
-      (r .0 ∙ same-pages readers L (p .line) (lists .stores), r .1 ∙ lists .stores)
+      let r = pages-read toRead [] (p .line) (borne-codes (borneOn l) (p .result .codes) listed-codes) sound in
+      (r .0 ∙ same-pages toRead L (p .line) (lists .stores), r .1 ∙ lists .stores)
 
   -- the host of the round on the line
   abbrev q : Played Rounded (List Whole)
@@ -111,9 +115,9 @@ module _ (list pages : List ℕ) (l : Attached) (s : Stands l) (fits : Codes (co
   by-search : q ≡ andThen lineWire p (thenPages (borneOn l))
   by-search = play-bind lineWire (searchHost (length list)) (thenPages (borneOn l)) L
 
-  by-pages : play lineWire (bind (readPages readers []) (λ bytes. done (rounded (p .result) bytes))) (p .line)
-      ≡ andThen lineWire (play lineWire (readPages readers []) (p .line)) (λ bytes. done (rounded (p .result) bytes))
-  by-pages = play-bind lineWire (readPages readers []) (λ (bytes : List ℕ). done (rounded (p .result) bytes)) (p .line)
+  by-pages : play lineWire (bind (readPages toRead []) (λ bytes. done (rounded (p .result) bytes))) (p .line)
+      ≡ andThen lineWire (play lineWire (readPages toRead []) (p .line)) (λ bytes. done (rounded (p .result) bytes))
+  by-pages = play-bind lineWire (readPages toRead []) (λ (bytes : List ℕ). done (rounded (p .result) bytes)) (p .line)
 
   -- code, kind and memory of every chip stay
   line-keeps : storesOf (q .line) ≡ storesOf L
@@ -155,7 +159,7 @@ module _ (list pages : List ℕ) (l : Attached) (s : Stands l) (fits : Codes (co
     long : length (pagesOf (onlyBorne (borneOn l) (orderOf l)) L) ≡ length pages
     long =
         pages-length (onlyBorne (borneOn l) (orderOf l)) L
-        ∙ (let b = borne-listed l fits in let k = pages-asked-are l s in omega (arith, size))
+        ∙ (let b = borne-listed l fits in let k = pages-asked-are l (s .range) in omega (arith, size))
 
     -- THEOREM: where the list has a place for each code, the page buffer holds the page of each code listed that is borne, in list order and
     -- without gaps: of each byte 0000h to 001Fh the AND over the DS28EC20s that bear the code, as the round found them
@@ -166,6 +170,32 @@ module _ (list pages : List ℕ) (l : Attached) (s : Stands l) (fits : Codes (co
         ∙ ap (sets pages 0) bytes-are
         ∙ sets-all pages (pagesOf (onlyBorne (borneOn l) (orderOf l)) L) long
 
--- THEOREM: "with one bearer, its own"
-pub own-page : (code : ℕ) (L : List Whole) (m : List ℕ) → bearersOf code L ≡ m ∷ [] → Bytes m → 32 ≤ length m → pageOf code L ≡ take 32 m
-own-page code L m e b h = ap (bytesAt 32 0) e ∙ own-bytes 32 0 m b (omega arith)
+-- ---- one bearer
+
+-- the memories of a line are bytes where the images are
+abbrev AllBytes : List Stored → Type 0
+AllBytes [] = Unit {0}
+AllBytes (c ∷ cs) = Bytes (c .memory) × AllBytes cs
+
+split-bytes : (cs : List Chip) (ms ss : List ℕ) → Bytes ms → AllBytes (storesOf (split cs ms ss))
+split-bytes [] ms ss b = tt
+split-bytes (c ∷ cs) ms ss b =
+    (take-bytes (imageSize (c .kind)) ms b, split-bytes cs (drop (imageSize (c .kind)) ms) (drop (padSize (c .kind)) ss) (drop-bytes (imageSize (c .kind)) ms b))
+
+-- so are those of the bearers of a code, and each has a page
+abbrev Paged : List (List ℕ) → Type 0
+Paged [] = Unit {0}
+Paged (m ∷ ms) = (Bytes m × (pageSize ≤ length m)) × Paged ms
+
+bearers-paged : (code : ℕ) (cs : List Stored) → AllBytes cs → Longer code pageSize cs → Paged (bearing code cs)
+bearers-paged code [] b l = tt
+bearers-paged code (c ∷ cs) (a, b) (h, l) = pick-if Paged (bears code c) _ _ (λ e. ((a, h e), bearers-paged code cs b l)) (λ e. bearers-paged code cs b l)
+
+-- THEOREM: "with one bearer, its own": the page of a code that one DS28EC20 bears is that chip's bytes 0000h to 001Fh
+pub round-reads-own : (l : Attached) → Stands l → Codes (codesOf (lineFrom l)) → Bytes (l .lent .images) → (code : ℕ) (m : List ℕ)
+    → bearersOf code (lineFrom l) ≡ m ∷ [] → pageOf code (lineFrom l) ≡ take pageSize m
+round-reads-own l s fits images code m e =
+    let L = lineFrom l in
+    let own = subst Paged e (bearers-paged code (storesOf L) (split-bytes (take (l .count) (l .lent .chips)) (l .lent .images) (l .lent .pads) images)
+    (sound-longer code (storesOf L) (line-sound L (line-good l s) fits))) in
+    ap (bytesAt pageSize 0) e ∙ own-bytes pageSize 0 m (own .0 .0) (let h = own .0 .1 in omega arith)

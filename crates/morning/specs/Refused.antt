@@ -1,4 +1,4 @@
--- Document 02, M-108: "Refusals: 8; 5 for images or scratchpads; 5 for a page buffer not of 32 m bytes, m being that of the whole table; these
+-- The request M-108: "Refusals: 8; 5 for images or scratchpads; 5 for a page buffer not of 32 m bytes, m being that of the whole table; these
 -- without an event, counts 0, list and pages as found. Then 4: list filled to its end, no page read, the buffer as found." Each exactly when,
 -- for every input, and what it leaves.
 use Prim.Native.Nat.{ℕ, _<_, _≤_}

@@ -1,4 +1,4 @@
--- Document 02, M-108: "The contractor wants to know how many slots that takes, and that the number reported is that of the slot events on the
+-- The request M-108: "The contractor wants to know how many slots that takes, and that the number reported is that of the slot events on the
 -- line." Which events: resets and slots alone; and the counts are theirs.
 use Prim.Native.Nat.{ℕ, zero, suc}
 use mathlib.Core.Bool.{true}

@@ -5,13 +5,12 @@ use native.Mathlib.Numerals.{add-one}
 use mathlib.Core.Bool.{Bool, true, false}
 use mathlib.Core.List.{List, [], _∷_, map}
 use mathlib.Core.Path.{_≡_, refl, _∙_, ap, ap₂, sym}
-use lib.Dec.{eqb}
 use lib.ListN.{length, getD, drop}
 use lib.Seq.{drop-cons}
 use Rattle.base.specs.Pick.{pick}
 use Rattle.base.specs.Bits.{both}
-use Rattle.chip.specs.Kinds.{isDs28ec20}
 use Rattle.histories.specs.Histories.{Stored}
+use Rattle.rounds.specs.Borne.{bearsCode}
 use Rattle.histories.specs.Sent.{bitsFrom, bitsOf}
 use Rattle.recovery.specs.Filled.{filledBy}
 use Rattle.commands.specs.Streams.{thenOnes}
@@ -20,7 +19,7 @@ use Rattle.morning.specs.Streaming.{otherBits, firstAnd, andRows, restRo
 
 -- a chip bears a code
 abbrev pub bears : ℕ → Stored → Bool
-bears code c = both (isDs28ec20 (c .kind)) (eqb code (c .code))
+bears code c = bearsCode code (c .kind) (c .code)
 
 -- the bits that the chips of a line have to send from an address on
 abbrev pub rowsFrom : ℕ → ℕ → List Stored → List (List Bool)
@@ -54,7 +53,7 @@ and-ones zero rows = refl
 and-ones (suc n) rows = ap (λ (bs : List Bool). firstAnd rows ∷ bs) (and-ones n (map otherBits rows))
 
 -- a memory from an address on, by the byte there
-from-address : (address : ℕ) (m : List ℕ) → address + 1 ≤ length m → drop address m ≡ getD m address 0 ∷ drop (address + 1) m
+pub from-address : (address : ℕ) (m : List ℕ) → address + 1 ≤ length m → drop address m ≡ getD m address 0 ∷ drop (address + 1) m
 from-address address m h = drop-cons m address 0 (omega arith) ∙ ap (λ (j : ℕ). getD m address 0 ∷ drop j m) (sym (add-one address))
 
 -- the bytes of the bearers at an address

@@ -22,6 +22,7 @@ use Rattle.histories.specs.Fed.{fed, sendsNothing}
 use Rattle.histories.specs.Sent.{bitsOf}
 use Rattle.recovery.specs.Sessions.{opening}
 use Rattle.recovery.specs.Goes.{Goes, goes-from, goes-append, ofKind, goes-match, goes-waiting, goes-other}
+use Rattle.rounds.specs.Borne.{bearsCode}
 use Rattle.commands.specs.Streams.{Streams, streams-ones}
 use Rattle.commands.specs.ReadMemory.{readMemory, memory-size, streams-memory, goes-read}
 
@@ -31,7 +32,7 @@ asked code = opening code ++ readMemory 0
 
 -- what a chip sends then: a DS28EC20 of the code its memory, another nothing
 abbrev pub pageBits : ℕ → Whole → List Bool
-pageBits code w = pick (both (isDs28ec20 (w .chip .kind)) (eqb code (w .chip .code))) (bitsOf (w .memory)) []
+pageBits code w = pick (bearsCode code (w .chip .kind) (w .chip .code)) (bitsOf (w .memory)) []
 
 -- a chip's kind is known, its memory has the size of its kind, and its code is of 64 bits
 pub record SoundChip (c : Stored) : Type 0 where

@@ -15,18 +15,14 @@ use Rattle.base.specs.Once.{isIn, onceEach, distinctIn}
 use Rattle.chip.specs.Kinds.{isDs28ec20}
 use Rattle.chip.specs.With.{noChip}
 use Rattle.chip.specs.declared.Chip.{Chip}
-use Rattle.rounds.specs.Borne.{borneIn, pageSize, pagesAsked}
+use Rattle.rounds.specs.Borne.{bearsCode, borneIn, pageSize, pagesAsked}
 
--- a chip bears a code: a DS28EC20 that has it
-abbrev pub bearsCode : ℕ → Chip → Bool
-bearsCode code c = both (isDs28ec20 (c .kind)) (eqb code (c .code))
-
--- it is the last DS28EC20 of a table that bears its code, with those after it
+-- a chip is the last DS28EC20 of a table that bears its code, with those after it
 abbrev pub lastBearer : Chip → List Chip → Bool
 lastBearer c cs = both (isDs28ec20 (c .kind)) (not (isIn (c .code) (borneIn cs)))
 
 -- a code among those that chips bear, by the first of them
-borne-first : (code : ℕ) (c : Chip) (cs : List Chip) → isIn code (borneIn (c ∷ cs)) ≡ pick (bearsCode code c) true (isIn code (borneIn cs))
+borne-first : (code : ℕ) (c : Chip) (cs : List Chip) → isIn code (borneIn (c ∷ cs)) ≡ pick (bearsCode code (c .kind) (c .code)) true (isIn code (borneIn cs))
 unfolding borneIn both pick
 borne-first code c cs = go (isDs28ec20 (c .kind))
   where
@@ -58,7 +54,7 @@ module _ (n : ℕ) (cs : List Chip) where
   past-chips i h k = drop-of-length-le (take n cs) {i = i} (let e = length-take-le n cs k in omega arith)
 
   -- ---- the loop that looks a code up
-  module _ (code i : ℕ) (t : Bool) (h : i < n) (k : n ≤ length cs) (e : t ≡ bearsCode code (getD cs i noChip)) where
+  module _ (code i : ℕ) (t : Bool) (h : i < n) (k : n ≤ length cs) (e : t ≡ bearsCode code (getD cs i noChip .kind) (getD cs i noChip .code)) where
     found-by : isIn code (borneIn (drop i (take n cs))) ≡ pick t true (isIn code (borneIn (drop (i + 1) (take n cs))))
     found-by =
         ap (λ (ds : List Chip). isIn code (borneIn ds)) (next-chip i h k)

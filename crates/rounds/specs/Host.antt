@@ -1,5 +1,5 @@
--- Document 02, M-108: the host of a round, a tree of events and answers as the search's is. "A round searches the line and then reads page 0 of
--- each DS28EC20 by Match ROM and Read Memory."
+-- The request M-108: the host of a round, a tree of events and answers as the search's is. Document 02: "A round searches the line and then reads
+-- page 0 of each DS28EC20 by Match ROM and Read Memory."
 use Prim.Native.Nat.{ℕ, zero, suc}
 use mathlib.Core.Bool.{true}
 use mathlib.Core.List.{List, [], _∷_, _++_}

@@ -1,4 +1,4 @@
--- Document 02, M-108: the round over a table, its buffers, a lent list and a lent page buffer, for every input.
+-- The request M-108: the round over a table, its buffers, a lent list and a lent page buffer, for every input.
 use Prim.Native.Nat.{ℕ}
 use mathlib.Core.Bool.{Bool, true, false}
 use mathlib.Core.List.{List, [], _∷_, _++_}

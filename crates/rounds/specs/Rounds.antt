@@ -23,7 +23,7 @@ use Rattle.rounds.specs.Borne.{onlyBorne, pagesAsked}
 use Rattle.rounds.specs.Host.{Rounded, rounded, readPages, thenPages, roundHost}
 use Rattle.rounds.specs.Round.{Round, round, roundVerdict, fromRound, roundBy, roundOf, isComplete}
 use Rattle.rounds.specs.Reading.{PutAt}
-use Rattle.rounds.specs.Pages.{pages-spend, search-spends}
+use Rattle.rounds.specs.Spends.{pages-spend, search-spends}
 
 -- ---- the verdict
 

@@ -1,19 +1,16 @@
 // Which codes a DS28EC20 bears, read off the table.
+use crate::PAGE_SIZE;
 use chip::Chip;
 use line::Table;
 ghost use mathlib.Core.Path.{_≡_};
-ghost use mathlib.Core.Bool.{not};
 ghost use Prim.Native.Nat.{_≤_};
-ghost use lib.Dec.{eqb};
 ghost use lib.ListN.{take, drop};
-ghost use Rattle.base.specs.Bits.{both};
 ghost use Rattle.base.specs.Once.{isIn, distinctIn};
-ghost use Rattle.chip.specs.Kinds.{isDs28ec20};
-ghost use Rattle.rounds.specs.Borne.{borneIn, pagesMost, pagesAsked};
+ghost use Rattle.rounds.specs.Borne.{bearsCode, borneIn, pagesMost, pagesAsked};
 
 // A chip is a DS28EC20 and bears the code.
 fn bears(c: Chip, code: u64) -> bool
-    ensures { λ r. ⌜ r ≡ both (isDs28ec20 (c .kind)) (eqb code (c .code)) ⌝ }
+    ensures { λ r. ⌜ r ≡ bearsCode code (c .kind) (c .code) ⌝ }
 {
     let kind = chip::kinds::is_ds28ec20(c.kind);
     base::are_both(kind, code == c.code)
@@ -69,14 +66,14 @@ fn count_borne(t: Table) -> usize
     codes
 }
 
-// The bytes of pages that a table asks for, 32 for each code that a DS28EC20 bears; 0 where it has over 16 chips.
+// The bytes of pages that a table asks for, a page for each code that a DS28EC20 bears; 0 where it has over 16 chips.
 pub fn pages_asked(t: Table) -> usize
     ensures { λ r. ⌜ r ≡ pagesAsked (t .n) (t .chips) ⌝ }
     ensures most { λ r. ⌜ r ≤ pagesMost ⌝ }
 {
     let n = t.n;
     if n <= 16 {
-        return 32 * count_borne(t);
+        return PAGE_SIZE * count_borne(t);
     }
     0
 }

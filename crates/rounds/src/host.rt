@@ -1,4 +1,5 @@
 // The host's way through the pages: a match, Read Memory from 0000h, and 32 bytes, for each code listed that is borne.
+use crate::PAGE_SIZE;
 use crate::borne;
 use line::Table;
 ghost use mathlib.Core.Path.{_≡_};
@@ -9,7 +10,7 @@ ghost use lib.Seq.{sets};
 ghost use Rattle.line.specs.Attached.{attached};
 ghost use Rattle.search.specs.Host.{played, play, write};
 ghost use Rattle.search.specs.Search.{wire, playedWrite};
-ghost use Rattle.rounds.specs.Borne.{borneIn, onlyBorne};
+ghost use Rattle.rounds.specs.Borne.{borneIn, onlyBorne, pageSize, pagesMost};
 ghost use Rattle.rounds.specs.Host.{readBits, readBytes, readPage, readPages};
 
 // A byte that the host read, and the table that its slots leave.
@@ -44,15 +45,15 @@ fn read_byte(t: Table, ms: &mut [u8], ss: &mut [u8]) -> ByteHeard
     }
 }
 
-// The 32 bytes of a page, put into the page buffer from a place on.
+// The bytes of a page, put into the page buffer from a place on.
 fn read_bytes(t: Table, pages: &mut [u8], at: usize, ms: &mut [u8], ss: &mut [u8]) -> Table
-    requires { ⌜ at ≤ 512 ⌝ }
-    ensures { λ r. ⌜ (now (pages .exit) ≡ sets (now (pages .entry)) at (play wire (readBytes 32 []) (attached (t .n) (t .chips) (now (ms .entry)) (now (ss .entry))) .result))
-        × (attached (r .n) (r .chips) (now (ms .exit)) (now (ss .exit)) ≡ play wire (readBytes 32 []) (attached (t .n) (t .chips) (now (ms .entry)) (now (ss .entry))) .line) ⌝ }
+    requires { ⌜ at ≤ pagesMost ⌝ }
+    ensures { λ r. ⌜ (now (pages .exit) ≡ sets (now (pages .entry)) at (play wire (readBytes pageSize []) (attached (t .n) (t .chips) (now (ms .entry)) (now (ss .entry))) .result))
+        × (attached (r .n) (r .chips) (now (ms .exit)) (now (ss .exit)) ≡ play wire (readBytes pageSize []) (attached (t .n) (t .chips) (now (ms .entry)) (now (ss .entry))) .line) ⌝ }
 {
     let mut table = t;
     let mut i: usize = 0;
-    while i < 32 {
+    while i < PAGE_SIZE {
         let h = read_byte(table, ms, ss);
         table = h.table;
         base::put_at(pages, at + i, h.byte);
@@ -86,7 +87,7 @@ fn read_page(
     ms: &mut [u8],
     ss: &mut [u8],
 ) -> Table
-    requires { ⌜ at ≤ 512 ⌝ }
+    requires { ⌜ at ≤ pagesMost ⌝ }
     ensures { λ r. ⌜ (now (pages .exit) ≡ sets (now (pages .entry)) at (play wire (readPage code) (attached (t .n) (t .chips) (now (ms .entry)) (now (ss .entry))) .result))
         × (attached (r .n) (r .chips) (now (ms .exit)) (now (ss .exit)) ≡ play wire (readPage code) (attached (t .n) (t .chips) (now (ms .entry)) (now (ss .entry))) .line) ⌝ }
 {
@@ -129,7 +130,7 @@ pub fn read_pages(
         let after = read_page(table, code, pages, at, ms, ss);
         table = after;
         count += 1;
-        at += 32;
+        at += PAGE_SIZE;
     }
     PagesRead {
         table: table,

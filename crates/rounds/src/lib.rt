@@ -21,6 +21,12 @@ ghost use Rattle.search.specs.Search.{searched, wire, outcome};
 ghost use Rattle.rounds.specs.Host.{roundHost};
 ghost use Rattle.rounds.specs.Round.{round, borneOn, roundVerdict, fromRound, roundOf, isComplete};
 
+// The bytes of a page.
+pub const PAGE_SIZE: usize = 32;
+
+// The slots of a page: 72 to match, 24 to ask, 256 to read.
+pub const PAGE_SLOTS: u64 = 352;
+
 // The most bytes of pages that a table asks for.
 pub const PAGES_MOST: usize = 512;
 
@@ -70,7 +76,7 @@ fn go_round(t: Table, list: &mut [u64], pages: &mut [u8], ms: &mut [u8], ss: &mu
             answer: answer,
             listed: found.listed,
             resets: Resets(resets.0 + read.pages),
-            slots: Slots(slots.0 + 352 * read.pages),
+            slots: Slots(slots.0 + PAGE_SLOTS * read.pages),
             table: after,
         };
     }
