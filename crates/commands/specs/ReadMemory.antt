@@ -70,12 +70,13 @@ module _ (c : Chip) (m : List ℕ) (rc : Bool) (r : Registers) (s : List ℕ) wh
   unfolding sendsOf takesOf memorySlot memorySight memoryLook partOf mapOf ds28ec20 readAddress both pick
   goes-bits t = record { silent = refl; comes = refl }
 
-  -- the command and an address, after which the memory is sent from there on; the chip is silent over them
-  pub goes-read : (t : ℕ) → t < 0x10000 → Goes (readMemory t) (ec20 c m (FunctionCommand 0 0) true r s) (inPhase c m true r s (readFrom t lastAddress))
-  unfolding memoryFunction pick
-  goes-read t h =
-      goes-append (bitsFrom 8 0 0xF0) (bitsFrom 16 0 t) _ _ _ (goes-command c m 0xF0 r s (omega arith))
-      (goes-to (bitsFrom 16 0 t) _ _ _ (goes-bits t) (ap (λ (a : ℕ). inPhase c m true r s (readFrom a lastAddress)) (address-taken t h)))
+-- the command and an address, after which the memory is sent from there on; the chip is silent over them
+pub goes-read : (c : Chip) (m : List ℕ) (r : Registers) (s : List ℕ) (t : ℕ) → t < 0x10000
+    → Goes (readMemory t) (ec20 c m (FunctionCommand 0 0) true r s) (inPhase c m true r s (readFrom t lastAddress))
+unfolding memoryFunction pick
+goes-read c m r s t h =
+    goes-append (bitsFrom 8 0 0xF0) (bitsFrom 16 0 t) _ _ _ (goes-command c m 0xF0 r s (omega arith))
+    (goes-to (bitsFrom 16 0 t) _ _ _ (goes-bits c m true r s t) (ap (λ (a : ℕ). inPhase c m true r s (readFrom a lastAddress)) (address-taken t h)))
 
 module _ (i : ℕ) (L : List Whole) (s : Installed i L) (t : ℕ) (h : t < 0x10000) where
   -- chip i, its code, and its registers after the reset
@@ -94,7 +95,7 @@ module _ (i : ℕ) (L : List Whole) (s : Installed i L) (t : ℕ) (h : t < 0x100
 
   -- the command and the address bring it there, and it is silent over them
   taken : Goes (readMemory t) (afterMatch own) begun
-  taken = goes-read (own .chip) (own .memory) true first (own .pad) t h
+  taken = goes-read (own .chip) (own .memory) first (own .pad) t h
 
   -- what it sends from there on
   streams : Streams (memoryBits t (own .memory)) begun

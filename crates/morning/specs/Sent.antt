@@ -91,7 +91,7 @@ module _ (code : ℕ) (w : Whole) where
     sends-memory full k =
         let r = first in
         sends-by code (bitsOf (w .memory)) w _
-        (own 1 _ k (goes-read (w .chip) (w .memory) true r (w .pad) 0 (omega arith)))
+        (own 1 _ k (goes-read (w .chip) (w .memory) r (w .pad) 0 (omega arith)))
         (streams-memory (w .chip) (w .memory) true r (w .pad) 0 (full ∙ memory-size (w .chip .kind) k))
         (λ j. record { code = w .chip .code; kind = sym k j; memory = w .memory })
 

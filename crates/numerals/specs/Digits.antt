@@ -13,7 +13,7 @@ use borrow.Author.Tests.{leb-true, lt-ltb, le-ltb, ltb-true, ltb-false}
 use Rattle.base.specs.Pick.{pick, pick-true, pick-false, pick-of, pick-if}
 use Rattle.base.specs.Both.{both-holds}
 use Rattle.numerals.specs.Numerals.{isDigit, digitsOn, digitsIn, most}
-use Rattle.numerals.specs.Read.{kept, countedBy}
+use Rattle.numerals.specs.Numerals.{kept, countedBy}
 use Rattle.numerals.specs.declared.Counted.{Counted}
 use Rattle.numerals.specs.declared.Counted.the-variants.{Number, NoNumber}
 

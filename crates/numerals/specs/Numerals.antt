@@ -4,7 +4,7 @@ use Prim.Native.Char.{code as letter}
 use Prim.Native.Nat.{ℕ, _+_, _-_, _*_}
 use mathlib.Core.Bool.{Bool}
 use mathlib.Core.List.{List, [], _∷_}
-use lib.Dec.{eqb, leb}
+use lib.Dec.{eqb, ltb, leb}
 use lib.IntN.{ℤ, pos, negℤ}
 use lib.ListN.{getD, drop}
 use lib.Signed.{ltZ}
@@ -12,6 +12,8 @@ use Rattle.base.specs.Pick.{pick}
 use Rattle.base.specs.Bits.{both}
 use Rattle.numerals.specs.declared.Numeral.{Numeral}
 use Rattle.numerals.specs.declared.Numeral.the-variants.{Number, NoNumber}
+use Rattle.numerals.specs.declared.Counted.{Counted}
+use Rattle.numerals.specs.declared.Counted.the-variants as counted
 
 -- ---- what a text says
 
@@ -56,7 +58,16 @@ said text = pick (eqb (getD text 0 0) (letter "-")) (signedAs minus (digitsIn (d
 abbrev pub most : ℕ
 most = 1000000000000000000
 
--- a number past that, or below its negative, counts as it, so that it fits a word of 64 bits
+-- a number without a sign past that counts as it, so that it fits a word of 64 bits
+unfoldable pub kept : ℕ → ℕ
+kept n = pick (ltb n most) n most
+
+-- what digits come to
+abbrev pub countedBy : Digits → Counted
+countedBy (digits n) = counted.Number (kept n)
+countedBy no-digits = counted.NoNumber
+
+-- so does one with a sign past that, or below its negative
 unfoldable pub capped : ℤ → ℤ
 capped z = pick (ltZ (pos most) z) (pos most) (pick (ltZ z (minus most)) (minus most) z)
 

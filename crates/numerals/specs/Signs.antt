@@ -13,7 +13,8 @@ use mir.Val.{Fits, SFits, toZ, ofZ}
 use mir.ValLaws.{toZ-pos, toZ-ofZ}
 use Rattle.base.specs.Pick.{pick}
 use Rattle.numerals.specs.Numerals.{Digits, digits, no-digits, signedAs, minus, most, capped, numeralBy}
-use Rattle.numerals.specs.Read.{kept, countedBy, withSign}
+use Rattle.numerals.specs.Numerals.{kept, countedBy}
+use Rattle.numerals.specs.Read.{withSign}
 use Rattle.numerals.specs.Digits.{kept-most, no-more}
 use Rattle.numerals.specs.declared.Numeral.the-variants.{Number}
 

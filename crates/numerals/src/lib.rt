@@ -6,7 +6,8 @@ ghost use Prim.Native.Nat.{_+_, _*_};
 ghost use lib.IntN.{pos, natAbs};
 ghost use lib.ListN.{drop};
 ghost use Rattle.numerals.specs.Numerals.{isDigit, digitsIn, minus, numeralOf};
-ghost use Rattle.numerals.specs.Read.{kept, countedBy, withSign};
+ghost use Rattle.numerals.specs.Numerals.{kept, countedBy};
+ghost use Rattle.numerals.specs.Read.{withSign};
 
 // What a text says.
 pub enum Numeral {

@@ -1,21 +1,21 @@
--- Laws: a number of any length is judged, though no more than the least number of 19 digits is kept of it.
-use Prim.Native.Nat.{ℕ, _<_, _≤_}
+-- A number of any length is judged, though no more than the least number of 19 digits is kept of it.
+use Prim.Native.Nat.{ℕ, _≤_}
 use native.Mathlib.Omega.{arith}
 use mathlib.Core.Bool.{Bool, true, false}
 use mathlib.Core.Path.{_≡_, refl, _∙_, ap, sym}
-use lib.Dec.{ltb, leb}
+use lib.Dec.{ltb}
 use borrow.Author.Tests.{ltb-true, ltb-false, le-ltb, lt-leb}
 use Rattle.base.specs.Pick.{pick, pick-false}
 use Rattle.line.specs.Layout.{capped}
 use Rattle.numerals.specs.Numerals.{digits, most}
-use Rattle.numerals.specs.Read.{kept, countedBy}
+use Rattle.numerals.specs.Numerals.{kept, countedBy}
 use Rattle.numerals.specs.Digits.{few, many}
 use Rattle.round.specs.Words.{choiceBy, withPages, givenOr}
 use Rattle.round.specs.declared.words.Choice.the-variants.{Given}
 use Rattle.round.specs.declared.words.Request.{Request}
 
 module _ (n : ℕ) where
-  -- "16 places (more count as 16)"
+  -- THEOREM: "16 places (more count as 16)"
   pub places-any : capped (givenOr (choiceBy (countedBy (digits n))) 16) ≡ capped n
   unfolding capped
   places-any = by (ltb n most) refl
@@ -27,7 +27,7 @@ module _ (n : ℕ) where
           let k : most ≡ kept n = many n h in
           pick-false _ _ _ (le-ltb (kept n) 16 (omega arith)) ∙ sym (pick-false _ _ _ (le-ltb n 16 (omega arith)))
 
-  -- "(0 to 1,024 may be given)"
+  -- THEOREM: "(0 to 1,024 may be given)"
   pub pages-any : (r : Request) → withPages r (choiceBy (countedBy (digits n))) ≡ withPages r (Given n)
   pages-any r = by (ltb n most) refl
     where

@@ -1,8 +1,8 @@
 -- Laws: the digits of a page put into a line.
-use Prim.Native.Nat.{ℕ, _+_, _-_, _*_, _≤_}
+use Prim.Native.Nat.{ℕ, _+_, _-_, _≤_}
 use native.Mathlib.Omega.{arith}
-use mathlib.Core.List.{List, [], _∷_, _++_}
-use mathlib.Core.Path.{_≡_, refl, _∙_, ap}
+use mathlib.Core.List.{List, _++_}
+use mathlib.Core.Path.{_≡_, _∙_, ap}
 use lib.ListN.{length, take, drop, replicate, length-drop}
 use lib.Seq.{sets, sets-eq, length-take-le}
 use Rattle.numerals.specs.Hex.{digitsOf}

@@ -6,7 +6,7 @@ use lib.Dec.{leb}
 use Rattle.base.specs.Bytes.{sameBytes}
 use Rattle.base.specs.Pick.{pick}
 use Rattle.numerals.specs.Numerals.{digitsIn}
-use Rattle.numerals.specs.Read.{countedBy}
+use Rattle.numerals.specs.Numerals.{countedBy}
 use Rattle.numerals.specs.declared.Counted.{Counted}
 use Rattle.numerals.specs.declared.Counted.the-variants.{Number, NoNumber}
 use Rattle.round.specs.declared.words.Word.{Word}

@@ -1,21 +1,20 @@
 // What the program writes of a round.
 use numerals::hex;
+use rounds::PAGE_SIZE;
 use search::Resets;
 use search::SearchAnswer;
 use search::Slots;
 ghost use mathlib.Core.Path.{_≡_};
 ghost use lib.ListN.{length};
+ghost use Rattle.rounds.specs.Borne.{pageSize};
 ghost use Rattle.round.specs.Pages.{pageLine};
 
-// The bytes of a page.
-const PAGE_SIZE: usize = 32;
-
-// The characters of its line.
+// The characters of a page's line.
 const LINE_SIZE: usize = 65;
 
 // The line of a page: its digits, and LF.
 fn page_line(page: &[u8]) -> [u8; LINE_SIZE]
-    requires { ⌜ length (now page) ≡ 32 ⌝ }
+    requires { ⌜ length (now page) ≡ pageSize ⌝ }
     ensures { λ r. ⌜ r ≡ pageLine (now (page .entry)) ⌝ }
 {
     let mut text = [b'\n'; LINE_SIZE];
@@ -56,8 +55,8 @@ fn are_counts_written(codes: usize, resets: Resets, slots: Slots) -> bool {
     false
 }
 
-// Whether the lines of the pages could be written, where the round was not refused.
-fn is_read_written(number: u8, pages: &[u8]) -> bool {
+// Whether the lines of the pages that are due could be written; a round that was refused has none.
+fn are_due_pages_written(number: u8, pages: &[u8]) -> bool {
     if number == 0 {
         return are_pages_written(pages);
     }
@@ -75,7 +74,7 @@ pub fn write(
 ) {
     let number = search::number_of(answer);
     terminal::write_codes(list, listed);
-    if is_read_written(number, pages) {
+    if are_due_pages_written(number, pages) {
         if are_counts_written(listed, resets, slots) {
             if 0 < number {
                 console::say_refused(number);

@@ -2,7 +2,7 @@
 use numerals::Counted;
 ghost use mathlib.Core.Path.{_≡_};
 ghost use Rattle.numerals.specs.Numerals.{digitsIn};
-ghost use Rattle.numerals.specs.Read.{countedBy};
+ghost use Rattle.numerals.specs.Numerals.{countedBy};
 ghost use Rattle.round.specs.Words.{wordOf, choiceBy, once, withImages, withPlaces, withPages, taken, givenOr};
 
 // Which option a word is.

@@ -4,7 +4,7 @@ use lib.ListN.{length, getD, drop}
 use denote.Ref.{now}
 use borrow.Author.Needs.{needs}
 use Rattle.numerals.specs.Numerals.{digitsOn, digitsIn, most}
-use Rattle.numerals.specs.Read.{countedBy}
+use Rattle.numerals.specs.Numerals.{countedBy}
 use Rattle.numerals.specs.Digits.{kept-most, digit-from, no-digits, first-digit, next-digit, no-digit, last-digit}
 use Rattle.numerals.proofs.digits_from.Statement.{statement}
 use Rattle.numerals.proofs.digits_from.Tie as tie
