@@ -6,6 +6,7 @@ mod hexends;
 mod hexfile;
 mod playback;
 mod setpoint;
+mod steps;
 
 use std::fs;
 use std::path::PathBuf;

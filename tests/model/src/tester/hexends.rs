@@ -6,9 +6,9 @@ use std::os::unix::ffi::OsStrExt;
 use std::os::unix::fs::symlink;
 use std::process::Stdio;
 
-use super::hexfile::{word, Step};
 use super::playback::{broken, says};
 use super::setpoint::shown;
+use super::steps::{word, Step};
 use super::Tester;
 use crate::gen::hexfiles::own_text;
 use crate::model::hexfile::IMAGE;
@@ -52,7 +52,7 @@ impl Tester {
             |tester| {
                 let (ours, input) = broken(b":00000001FE\n:00");
                 drop(ours);
-                let (said, fault) = tester.hex_told(linked, &[word("read")], input, &[]);
+                let (said, fault) = tester.told_in_steps(linked, &[word("read")], input, &[]);
                 said.printed == b"refused 17\n" && fault.is_none()
             },
         );
@@ -159,42 +159,11 @@ impl Tester {
                     fs::write(&path, content).expect("a file in the temporary folder");
                     let words = [word(verb), name.to_vec()];
                     let steps = [Step::Ends];
-                    let (said, fault) = tester.hex_told(&command, &words, Stdio::piped(), &steps);
+                    let (said, fault) =
+                        tester.told_in_steps(&command, &words, Stdio::piped(), &steps);
                     said.printed == want && said.errors.is_empty() && fault.is_none()
                 });
             }
         }
-    }
-
-    /// The command started inside a folder of the temporary one.
-    fn inside(&self, folder: &str, command: &str) -> String {
-        let path = self.folder.join(folder);
-        fs::create_dir_all(&path).expect("a folder in the temporary one");
-        format!("env -C '{}' {command}", path.display())
-    }
-
-    /// Whether the program prints nothing and tells just this name and the system's words, its input left open.
-    fn tells(
-        &self,
-        command: &str,
-        words: &[Vec<u8>],
-        input: Stdio,
-        name: &[u8],
-        error: i32,
-    ) -> bool {
-        let why = io::Error::from_raw_os_error(error).to_string();
-        let why = why.split(" (os error").next().unwrap_or(&why);
-        let line = [name, b": ", why.as_bytes(), b"\n"].concat();
-        let (said, fault) = self.hex_told(command, words, input, &[Step::Ends]);
-        let holds = said.printed.is_empty() && said.errors == line && fault.is_none();
-        if !holds {
-            println!("wanted on standard error: {}", shown(&line));
-            println!(
-                "printed: {}, standard error: {}",
-                shown(&said.printed),
-                shown(&said.errors)
-            );
-        }
-        holds
     }
 }

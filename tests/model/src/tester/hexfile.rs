@@ -1,12 +1,10 @@
 //! The hexfile program on files and images of every sort, and on words that it does not have.
 
-use std::fs::{self, File};
-use std::os::unix::ffi::OsStrExt;
+use std::fs::File;
 use std::process::Stdio;
-use std::thread;
-use std::time::Duration;
 
 use super::setpoint::shown;
+use super::steps::{word, Step};
 use super::{seed_for, shortest, Tester};
 use crate::gen::hexfaults::{self, damaged};
 use crate::gen::hexfiles::{self, filled, images, other_words, own_text, some, Given, Spot};
@@ -15,15 +13,10 @@ use crate::gen::rng::Rng;
 use crate::model::book::{Book, Rule};
 use crate::model::hexfile::words::{hexfile, Said};
 use crate::model::hexfile::{decided_at, read, record, Refusal, DATA, IMAGE, LINE};
-use crate::program::Program;
 use crate::report::first_difference;
 
 /// Damaged files in each round.
 const DAMAGED: usize = 250;
-/// A pause in which the program can read what it was sent.
-const PAUSE: Duration = Duration::from_micros(300);
-/// A pause in which a program that does not wait for more would answer.
-const LATE: Duration = Duration::from_millis(60);
 /// From this size on input is sent while the output is awaited.
 const FAR: usize = 60_000;
 /// A file of at most so many lines is made shorter where it is answered otherwise.
@@ -31,23 +24,6 @@ const SHRUNK: usize = 60;
 
 /// Bytes that are shown of a long output.
 const AROUND: usize = 48;
-
-/// One step of giving the input.
-#[derive(Clone, Copy)]
-pub(super) enum Step<'a> {
-    /// Sends this.
-    Send(&'a [u8]),
-    /// Sends this while the output is awaited, and ends the input.
-    Pour(&'a [u8]),
-    /// Sends this again and again, without end.
-    Endless(&'a [u8]),
-    /// Leaves the program time to read.
-    Pause,
-    /// Nothing may be printed for a while.
-    Silent,
-    /// The output must come to its end with the input open.
-    Ends,
-}
 
 /// A way to give a file.
 #[derive(Clone, Copy, PartialEq, Eq, Debug)]
@@ -81,11 +57,6 @@ const GROUPS: [Group; 7] = [
     hexfaults::characters,
     hexfaults::every_damage,
 ];
-
-/// One word as the program is given it.
-pub(super) fn word(text: &str) -> Vec<u8> {
-    text.as_bytes().to_vec()
-}
 
 impl Tester {
     /// Everything that the hexfile program is tried on. Most starts are of the linked program.
@@ -509,13 +480,6 @@ impl Tester {
         (said, agrees)
     }
 
-    /// A file in the temporary folder that holds this; its name.
-    fn file(&self, bytes: &[u8]) -> Vec<u8> {
-        let path = self.folder.join("a file");
-        fs::write(&path, bytes).expect("a file in the temporary folder");
-        path.as_os_str().as_bytes().to_vec()
-    }
-
     /// The step that sends all of this.
     fn whole<'a>(&self, bytes: &'a [u8]) -> Step<'a> {
         if bytes.len() < FAR {
@@ -569,7 +533,7 @@ impl Tester {
             return (Said::default(), false);
         }
         self.files += 1;
-        let (got, fault) = self.hex_told(command, words, input, steps);
+        let (got, fault) = self.told_in_steps(command, words, input, steps);
         let agrees = fits(want, &got) && fault.is_none();
         self.count(agrees);
         if !agrees {
@@ -588,42 +552,6 @@ impl Tester {
         (got, agrees)
     }
 
-    /// What the program says, and what is at fault in how it comes.
-    pub(super) fn hex_told(
-        &self,
-        command: &str,
-        words: &[Vec<u8>],
-        input: Stdio,
-        steps: &[Step],
-    ) -> (Said, Option<String>) {
-        let errors = self.folder.join("errors");
-        let wait = self.options.wait;
-        let mut program = Program::start_words(command, words, input, wait, &errors);
-        let mut fault = None;
-        for step in steps {
-            match step {
-                Step::Send(bytes) => program.send(bytes),
-                Step::Pour(bytes) => program.pour(bytes.to_vec(), false),
-                Step::Endless(bytes) => program.pour(bytes.to_vec(), true),
-                Step::Pause => thread::sleep(PAUSE),
-                Step::Silent if !program.is_silent(LATE) => {
-                    fault = Some("something is printed, or the output ends, too soon".into());
-                }
-                Step::Ends if !program.ends_open() => {
-                    fault = Some("the output does not end with the input open".into());
-                }
-                Step::Silent | Step::Ends => {}
-            }
-        }
-        let (printed, status) = program.end_status();
-        if status != Some(0) {
-            let told = status.map_or("none".into(), |status| status.to_string());
-            fault = Some(format!("the exit status is {told}"));
-        }
-        let errors = fs::read(&errors).unwrap_or_default();
-        (Said { printed, errors }, fault)
-    }
-
     /// Shows a file of fewer lines that is still answered otherwise.
     fn shrink_lines(&self, command: &str, text: &[u8]) {
         let lines: Vec<&[u8]> = text
@@ -636,7 +564,8 @@ impl Tester {
         let found = shortest(&lines, |lines: &[&[u8]]| {
             let text = lines.concat();
             let want = hexfile(&words, &text, &mut Book::new(None));
-            let (got, fault) = self.hex_told(command, &words, Stdio::piped(), &[Step::Send(&text)]);
+            let (got, fault) =
+                self.told_in_steps(command, &words, Stdio::piped(), &[Step::Send(&text)]);
             (!fits(&want, &got) || fault.is_some()).then(|| (lines.to_vec(), (want, got)))
         });
         let Some((lines, (want, got))) = found else {
