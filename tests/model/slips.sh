@@ -1,7 +1,7 @@
 #!/usr/bin/env bash
 # Serves the model with one deliberate slip after another and shows what catches each. A slip in the reading or
 # playing of a recording is tried by recordings alone, one in setpoints by pages alone, one in Intel HEX files by these
-# alone, every other one by list and wire alone.
+# alone, one in rounds by rounds alone, every other one by list and wire alone.
 # Further flags are passed on to the tester, for example --seed 7; `--only WORD` tries the slips whose line has the word.
 set -u
 here=$(cd "$(dirname "${BASH_SOURCE[0]}")" && pwd)
@@ -18,7 +18,7 @@ served=$(printf '%q' "$model")
 
 clean=$("$model" --list "$served --serve-list" --wire "$served --serve-wire" \
     --playback "$served --serve-playback" --setpoint "$served --serve-setpoint" \
-    --hexfile "$served --serve-hexfile" "$@" | tail -n 1)
+    --hexfile "$served --serve-hexfile" --round "$served --serve-round" "$@" | tail -n 1)
 echo "without a slip: $clean"
 [[ $clean == *" 0 failed" ]] || exit 1
 
@@ -33,6 +33,8 @@ while read -r name text; do
         programs=(--setpoint "$served --slip $name --serve-setpoint")
     elif [[ $text == hexfile:* ]]; then
         programs=(--hexfile "$served --slip $name --serve-hexfile")
+    elif [[ $text == round:* ]]; then
+        programs=(--round "$served --slip $name --serve-round")
     else
         programs=(--list "$served --slip $name --serve-list" --wire "$served --slip $name --serve-wire")
     fi

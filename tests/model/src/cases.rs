@@ -1,7 +1,8 @@
-//! The papers' bench cases, their worked list output, pages and files, and cases that only a lent table can
+//! The papers' bench cases, their worked list output, pages, files and rounds, and cases that only a lent table can
 //! show, all held against the model itself.
 
 mod hexfiles;
+mod rounds;
 mod setpoints;
 
 use std::collections::VecDeque;
@@ -76,6 +77,13 @@ pub const CASES: &[(&str, Case)] = &[
     ("addresses of data", hexfiles::addresses),
     ("when a line is judged", hexfiles::judged_when),
     ("what hexfile says", hexfiles::program_words),
+    ("the examples of a round", rounds::examples),
+    ("a round of 16 memories", rounds::sixteen),
+    ("who bears a code", rounds::borne_codes),
+    ("the events of a round", rounds::counted),
+    ("a round's refusals in order", rounds::refusals_in_order),
+    ("what round is asked", rounds::program_words),
+    ("a round of a refused card", rounds::refused_cards),
 ];
 
 /// A host at a line of the model.
@@ -776,6 +784,13 @@ mod tests {
         hex_addresses "addresses of data",
         hex_judged "when a line is judged",
         hex_words "what hexfile says",
+        round_examples "the examples of a round",
+        round_sixteen "a round of 16 memories",
+        round_borne "who bears a code",
+        round_counted "the events of a round",
+        round_refusals "a round's refusals in order",
+        round_words "what round is asked",
+        round_cards "a round of a refused card",
     }
 
     /// The cases reach every rule that no program can show.

@@ -1,4 +1,4 @@
-//! Seeded cards, event scripts, recordings, pages and Intel HEX files.
+//! Seeded cards, event scripts, recordings, pages, Intel HEX files and rounds.
 
 pub mod bench;
 pub mod cards;
@@ -9,6 +9,7 @@ pub mod hexfiles;
 pub mod pages;
 pub mod recordings;
 pub mod rng;
+pub mod rounds;
 pub mod stories;
 pub mod values;
 pub mod words;

@@ -1,4 +1,4 @@
-//! Tries the list, wire, playback, setpoint and hexfile programs, or the library for C behind its driver, against
+//! Tries the list, wire, playback, setpoint, hexfile and round programs, or the library for C behind its driver, against
 //! an independent model, or serves the model in their place.
 
 mod cases;
@@ -16,9 +16,10 @@ use std::time::{Duration, SystemTime, UNIX_EPOCH};
 
 use cases::{Case, CASES};
 use model::book::{slip_named, Book, Slip, SLIPS};
-use model::hexfile::served;
+use model::hexfile;
 use model::programs::{list, Wire};
 use model::recording::Playback;
+use model::round;
 use model::setpoint::words::{command_of, said};
 use model::setpoint::PAGE;
 use tester::{run, Options};
@@ -26,7 +27,8 @@ use tester::{run, Options};
 const USAGE: &str = "\
 wire-model [--list PROGRAM] [--wire PROGRAM] [--playback PROGRAM]
            [--setpoint PROGRAM] [--setpoint-linked PROGRAM]
-           [--hexfile PROGRAM] [--hexfile-linked PROGRAM] [--seed N|time]
+           [--hexfile PROGRAM] [--hexfile-linked PROGRAM]
+           [--round PROGRAM] [--round-linked PROGRAM] [--seed N|time]
            [--cards N] [--scripts N] [--rounds N] [--long] [--stop N] [--wait SECONDS] [--rules]
 wire-model --library DRIVER [--seed N|time] [--lines N]
            [--long] [--stop N] [--wait SECONDS] [--rules]
@@ -35,6 +37,7 @@ wire-model --serve-wire CARDFILE [--slip NAME]
 wire-model --serve-playback [--slip NAME]
 wire-model [--slip NAME] --serve-setpoint WORDS
 wire-model [--slip NAME] --serve-hexfile WORDS
+wire-model [--slip NAME] --serve-round WORDS
 wire-model --serve-library [--slip NAME]
 wire-model --cases [--slip NAME]
 wire-model --slips";
@@ -48,6 +51,7 @@ enum Mode {
     ServePlayback,
     ServeSetpoint(Vec<Vec<u8>>),
     ServeHexfile(Vec<Vec<u8>>),
+    ServeRound(Vec<Vec<u8>>),
     ServeLibrary,
     Cases,
     Slips,
@@ -79,7 +83,10 @@ fn main() -> ExitCode {
         Mode::ServePlayback => serve_playback(slip).is_ok(),
         Mode::ServeSetpoint(words) => serve_setpoint(&words, slip).is_ok(),
         Mode::ServeHexfile(words) => {
-            return ExitCode::from(served::serve(&words, &mut Book::new(slip)));
+            return ExitCode::from(hexfile::served::serve(&words, &mut Book::new(slip)));
+        }
+        Mode::ServeRound(words) => {
+            return ExitCode::from(round::served::serve(&words, &mut Book::new(slip)));
         }
         Mode::ServeLibrary => library::calls::serve(&mut Book::new(slip)).is_ok(),
         Mode::Cases => run_cases(slip, true),
@@ -106,6 +113,8 @@ fn read_flags() -> Result<(Mode, Options, Option<Slip>), String> {
         linked: None,
         hexfile: None,
         hexfile_linked: None,
+        round: None,
+        round_linked: None,
         seed: 1,
         cards: 60,
         scripts: 480,
@@ -125,6 +134,8 @@ fn read_flags() -> Result<(Mode, Options, Option<Slip>), String> {
             "--setpoint-linked" => options.linked = Some(value()?),
             "--hexfile" => options.hexfile = Some(value()?),
             "--hexfile-linked" => options.hexfile_linked = Some(value()?),
+            "--round" => options.round = Some(value()?),
+            "--round-linked" => options.round_linked = Some(value()?),
             "--seed" => options.seed = seed(&value()?)?,
             "--cards" => options.cards = number(&value()?)?,
             "--scripts" => options.scripts = number(&value()?)?,
@@ -153,14 +164,15 @@ fn read_flags() -> Result<(Mode, Options, Option<Slip>), String> {
             "--serve-list" => mode = Mode::ServeList,
             "--serve-wire" => mode = Mode::ServeWire(value()?),
             "--serve-playback" => mode = Mode::ServePlayback,
-            "--serve-setpoint" | "--serve-hexfile" => {
+            "--serve-setpoint" | "--serve-hexfile" | "--serve-round" => {
                 // All that follows are its words, which may be any bytes.
                 let words = std::env::args_os();
                 let before = words.len() - flags.len();
                 let words = words.skip(before).map(OsStringExt::into_vec).collect();
                 mode = match flag.as_str() {
                     "--serve-setpoint" => Mode::ServeSetpoint(words),
-                    _ => Mode::ServeHexfile(words),
+                    "--serve-hexfile" => Mode::ServeHexfile(words),
+                    _ => Mode::ServeRound(words),
                 };
                 break;
             }
@@ -179,6 +191,7 @@ fn read_flags() -> Result<(Mode, Options, Option<Slip>), String> {
         &options.playback,
         &options.setpoint,
         &options.hexfile,
+        &options.round,
     ];
     if matches!(mode, Mode::Test) && programs.iter().all(|program| program.is_none()) {
         return Err("nothing to test".into());

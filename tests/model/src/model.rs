@@ -1,4 +1,4 @@
-//! An independent model of the line, its chips, the card, the recording, the search, the
+//! An independent model of the line, its chips, the card, the recording, the search, the round, the
 //! setpoint record, Intel HEX files and the programs, written from the papers' words.
 
 pub mod book;
@@ -13,5 +13,6 @@ pub mod memory;
 pub mod programs;
 pub mod record;
 pub mod recording;
+pub mod round;
 pub mod search;
 pub mod setpoint;

@@ -5,6 +5,8 @@ mod feed;
 mod hexends;
 mod hexfile;
 mod playback;
+mod round;
+mod roundends;
 mod setpoint;
 mod steps;
 
@@ -38,13 +40,16 @@ pub struct Options {
     /// Command line of the hexfile program, and one that starts it sooner.
     pub hexfile: Option<String>,
     pub hexfile_linked: Option<String>,
+    /// Command line of the round program, and one that starts it sooner.
+    pub round: Option<String>,
+    pub round_linked: Option<String>,
     pub seed: u64,
     /// Random cards for the list program.
     pub cards: usize,
     /// Random scripts for the wire program.
     pub scripts: usize,
-    /// How often each recording is drawn for the playback program, any pages for the setpoint program and damaged files for
-    /// the hexfile program.
+    /// How often each recording is drawn for the playback program, any pages for the setpoint program, damaged files for
+    /// the hexfile program and any lines for the round program.
     pub rounds: usize,
     /// Failures after which the run stops.
     pub stop: usize,
@@ -77,6 +82,7 @@ struct Tester {
     recordings: usize,
     pages: usize,
     files: usize,
+    rounds: usize,
 }
 
 /// One script to be written: its name, how, and whether it is cut and disturbed.
@@ -125,9 +131,11 @@ pub fn run(options: Options) -> bool {
         recordings: 0,
         pages: 0,
         files: 0,
+        rounds: 0,
     };
     let mut book = Book::new(None);
     let mut played = Book::new(None);
+    let mut rounds = Book::new(None);
     tester.run_codes(&book);
     if let Some(command) = tester.options.list.clone() {
         tester.run_list(&command, &mut book);
@@ -148,17 +156,23 @@ pub fn run(options: Options) -> bool {
         let linked = linked.unwrap_or_else(|| command.clone());
         tester.run_hexfile(&command, &linked, &mut book);
     }
-    tester.judge_rules(&book, &played);
+    if let Some(command) = tester.options.round.clone() {
+        let linked = tester.options.round_linked.clone();
+        let linked = linked.unwrap_or_else(|| command.clone());
+        tester.run_round(&command, &linked, &mut rounds);
+    }
+    tester.judge_rules(&book, &played, &rounds);
     // The folder holds card files alone; a leftover does no harm.
     let _ = fs::remove_dir_all(&tester.folder);
     println!(
-        "{} cards, {} scripts, {} events, {} recordings, {} pages, {} files, {:.1} s",
+        "{} cards, {} scripts, {} events, {} recordings, {} pages, {} files, {} rounds, {:.1} s",
         tester.cards,
         tester.scripts,
         tester.events,
         tester.recordings,
         tester.pages,
         tester.files,
+        tester.rounds,
         start.elapsed().as_secs_f64()
     );
     println!("{} passed, {} failed", tester.passed, tester.failed);
@@ -171,14 +185,16 @@ impl Tester {
         self.failed >= self.options.stop
     }
 
-    /// Names the rules that the run should have reached and has not; the playback program has a book of its own.
-    fn judge_rules(&mut self, book: &Book, played: &Book) {
+    /// Names the rules that the run should have reached and has not; the playback and the round program have books of
+    /// their own.
+    fn judge_rules(&mut self, book: &Book, played: &Book, rounds: &Book) {
         if self.is_over() {
             println!("stopped early: what was not run counts as failed, rules are not judged");
             return;
         }
         let count = |rule: Rule, place: Place| match place {
             Place::Playback | Place::PlaybackAndWire => played.count(rule),
+            Place::Round | Place::RoundAndList => rounds.count(rule),
             _ => book.count(rule),
         };
         if self.options.rules {
@@ -195,6 +211,8 @@ impl Tester {
             }
             Place::Setpoint => self.options.setpoint.is_some(),
             Place::Hexfile => self.options.hexfile.is_some(),
+            Place::Round => self.options.round.is_some(),
+            Place::RoundAndList => self.options.round.is_some() && self.options.list.is_some(),
             Place::Lent => false,
         };
         let rules = RULES.iter().filter(|(_, place, _)| asked(*place));

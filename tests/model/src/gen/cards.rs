@@ -33,7 +33,7 @@ pub enum Style {
 }
 
 /// One record of a card.
-fn record(kind: u16, code: u64) -> Vec<u8> {
+pub(super) fn record(kind: u16, code: u64) -> Vec<u8> {
     let mut record = vec![10, 0];
     record.extend(kind.to_le_bytes());
     record.extend(code.to_le_bytes());
@@ -41,7 +41,7 @@ fn record(kind: u16, code: u64) -> Vec<u8> {
 }
 
 /// A code of this family with a good CRC.
-fn good_code(rng: &mut Rng, family: u8) -> u64 {
+pub(super) fn good_code(rng: &mut Rng, family: u8) -> u64 {
     let mut bytes = rng.bits().to_le_bytes();
     bytes[0] = family;
     bytes[7] = crc8(&bytes[..7]);
@@ -49,7 +49,7 @@ fn good_code(rng: &mut Rng, family: u8) -> u64 {
 }
 
 /// The family that a kind usually has.
-fn family(kind: u16) -> u8 {
+pub(super) fn family(kind: u16) -> u8 {
     if part_of(kind.into()) == Some(DS28EC20) {
         0x43
     } else {
@@ -58,7 +58,7 @@ fn family(kind: u16) -> u8 {
 }
 
 /// A code of any sort, good, bad, all zeros or ones, equal or close to others or to zero.
-fn any_code(rng: &mut Rng, kind: u16, others: &[u64]) -> u64 {
+pub(super) fn any_code(rng: &mut Rng, kind: u16, others: &[u64]) -> u64 {
     match rng.below(14) {
         0 => 0,
         1 => 1 << rng.below(64),
