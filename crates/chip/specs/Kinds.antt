@@ -11,7 +11,7 @@ use Rattle.memory.specs.declared.Part.the-variants.{Ds28ec20}
 unfoldable pub knownKind : ℕ → Bool
 knownKind kind = pick (eqb kind 1) true (eqb kind 2)
 
--- kind 1 by its name
+-- a DS28EC20, which is kind 1
 unfoldable pub isDs28ec20 : ℕ → Bool
 isDs28ec20 kind = eqb kind 1
 

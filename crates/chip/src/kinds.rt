@@ -15,7 +15,7 @@ pub fn is_known(kind: u8) -> bool
     kind == 2
 }
 
-// Kind 1 by its name.
+// A DS28EC20, which is kind 1.
 pub fn is_ds28ec20(kind: u8) -> bool
     ensures { λ r. ⌜ r ≡ isDs28ec20 kind ⌝ }
 {

@@ -18,10 +18,10 @@ use Rattle.line.specs.Refusals.{well-judged, in-range-few}
 use Rattle.line.specs.declared.Verdict.{Verdict}
 use Rattle.line.specs.declared.Verdict.the-variants as verdict
 use Rattle.search.specs.Host.{play, searchHost}
-use Rattle.search.specs.Search.{complete, refused, wire, Search, outcome, fromPlayed, searchOf}
+use Rattle.search.specs.Search.{complete, refused, numberIn, wire, Search, outcome, fromPlayed, searchOf}
 use Rattle.rounds.specs.Borne.{onlyBorne, pageSize, pagesAsked}
 use Rattle.rounds.specs.Host.{readPages, roundHost}
-use Rattle.rounds.specs.Round.{Round, round, borneOn, roundVerdict, fromRound, roundBy, roundOf, isComplete}
+use Rattle.rounds.specs.Round.{Round, round, borneOn, roundVerdict, fromRound, roundBy, roundOf}
 use Rattle.rounds.specs.Rounds.{search-well, round-stops, round-reads-on}
 use Rattle.histories.specs.Below.{Codes}
 use Rattle.histories.specs.Histories.{codesOf}
@@ -107,8 +107,8 @@ module _ (list pages : List ℕ) (l : Attached) (s : Stands l) (size : Sized pag
   q = searchOf list l
 
   -- under 4 the round is its search
-  stops : isComplete (q .answer) ≡ false → roundOf list pages l ≡ round q pages
-  stops f = round-well ∙ sym (round-stops list l (q .answer) (q .number) (q .list) (q .resets) (q .slots) (q .line) searches pages (borneOn l) (isComplete (q .answer)) refl f)
+  stops : q .answer ≡ refused 4 → roundOf list pages l ≡ round q pages
+  stops f = round-well ∙ sym (round-stops list l (q .answer) (q .number) (q .list) (q .resets) (q .slots) (q .line) searches pages (borneOn l) (numberIn (q .answer)) refl (λ z. let k = ap numberIn f in omega arith))
 
   -- the codes whose pages are read
   abbrev toRead : List ℕ
@@ -120,12 +120,12 @@ module _ (list pages : List ℕ) (l : Attached) (s : Stands l) (size : Sized pag
       outcome (q .answer) (q .number) (q .list) (q .resets + length toRead) (q .slots + 352 * length toRead) (play wire (readPages toRead []) (q .line) .line)
 
   -- where the list is complete
-  goes-on : isComplete (q .answer) ≡ true → roundOf list pages l .found ≡ after
+  goes-on : q .answer ≡ complete → roundOf list pages l .found ≡ after
   goes-on f =
       ap (λ (r : Round). r .found) (round-well
       ∙ sym (round-reads-on list l (q .answer) (q .number) (q .list) (q .resets) (q .slots) (q .line) searches pages (borneOn l)
       (sets pages 0 (play wire (readPages toRead []) (q .line) .result)) (play wire (readPages toRead []) (q .line) .line) (length toRead) (refl, refl) refl
-      (isComplete (q .answer)) refl f))
+      (numberIn (q .answer)) refl (ap numberIn f)))
 
   module _ (fits : Codes (codesOf (lineFrom l))) where
     -- as many codes are listed as there are distinct ones
@@ -143,7 +143,7 @@ module _ (list pages : List ℕ) (l : Attached) (s : Stands l) (size : Sized pag
         let first : take (q .number) (q .list) ≡ orderOf l
         = (λ j. take ((found .number ∙ ap length whole) j) (lists j)) ∙ take-append-seam (orderOf l) (drop (codesCount l) list) in
         let m : length toRead ≡ borneCount l = ap (λ (cs : List ℕ). length (onlyBorne (borneOn l) cs)) first ∙ borne-listed l fits in
-        let g = goes-on (ap isComplete answer) in
+        let g = goes-on answer in
         let slots : roundOf list pages l .found .slots ≡ 200 * codesCount l + 352 * borneCount l
         = ap (λ (x : Search). x .slots) g ∙ (λ j. (found .slots ∙ ap (λ (k : ℕ). 200 * k) (ap length whole ∙ n-is)) j + 352 * m j) in
         let codes = codes-few l s in
@@ -166,7 +166,7 @@ module _ (list pages : List ℕ) (l : Attached) (s : Stands l) (size : Sized pag
         let cut : length (take (length list) (orderOf l)) ≡ length list = length-take-le (length list) (orderOf l) (let e = n-is in omega arith) in
         let answer : q .answer ≡ refused 4 = found .answer ∙ pick-false (leb (length (orderOf l)) (length list)) complete (refused 4) (lt-leb (length (orderOf l)) (length list) (let e = n-is in omega arith)) in
         let none : drop (length (take (length list) (orderOf l))) list ≡ [] = drop-of-length-le list {i = length (take (length list) (orderOf l))} (omega arith) in
-        let g = stops (ap isComplete answer) in
+        let g = stops answer in
         record {
           searched = g;
           answer = ap (λ (r : Round). r .found .answer) g ∙ answer;

@@ -1,6 +1,5 @@
 -- The request M-108: the round over a table, its buffers, a lent list and a lent page buffer, for every input.
 use Prim.Native.Nat.{ℕ}
-use mathlib.Core.Bool.{Bool, true, false}
 use mathlib.Core.List.{List, [], _∷_, _++_}
 use lib.Dec.{eqb}
 use lib.ListN.{length, take}
@@ -11,7 +10,7 @@ use Rattle.line.specs.declared.Refusal.the-variants.{WrongSize}
 use Rattle.line.specs.declared.Verdict.{Verdict}
 use Rattle.line.specs.declared.Verdict.the-variants as verdict
 use Rattle.search.specs.Host.{Played, played, play}
-use Rattle.search.specs.Search.{Searched, complete, refused, wire, Search, outcome, fromPlayed}
+use Rattle.search.specs.Search.{refused, wire, Search, outcome, fromPlayed}
 use Rattle.rounds.specs.Borne.{borneIn, pagesAsked}
 use Rattle.rounds.specs.Host.{Rounded, roundHost}
 
@@ -49,8 +48,3 @@ roundBy (verdict.Refused r) list pages l = round (outcome (refused (numberOf r))
 
 unfoldable pub roundOf : List ℕ → List ℕ → Attached → Round
 roundOf list pages l = roundBy (roundVerdict pages l) list pages l
-
--- whether a search says that its list is complete
-abbrev pub isComplete : Searched → Bool
-isComplete complete = true
-isComplete (refused n) = false

@@ -18,10 +18,10 @@ use Rattle.line.specs.declared.Verdict.{Verdict}
 use Rattle.line.specs.declared.Verdict.the-variants as verdict
 use Rattle.search.specs.Host.{Host, done, Played, played, more, play, Listed, searchHost}
 use Rattle.search.specs.Counts.{play-bind}
-use Rattle.search.specs.Search.{Searched, complete, completeOr4, wire, Search, outcome, fromPlayed, searchBy, searchOf}
+use Rattle.search.specs.Search.{Searched, numberIn, completeOr4, wire, Search, outcome, fromPlayed, searchBy, searchOf}
 use Rattle.rounds.specs.Borne.{onlyBorne, pagesAsked}
 use Rattle.rounds.specs.Host.{Rounded, rounded, readPages, thenPages, roundHost}
-use Rattle.rounds.specs.Round.{Round, round, roundVerdict, fromRound, roundBy, roundOf, isComplete}
+use Rattle.rounds.specs.Round.{Round, round, roundVerdict, fromRound, roundBy, roundOf}
 use Rattle.rounds.specs.Reading.{PutAt}
 use Rattle.rounds.specs.Spends.{pages-spend, search-spends}
 
@@ -93,11 +93,16 @@ pub search-well : (list : List ℕ) (l : Attached) (s : Search) → verdict.Well
 unfolding searchOf
 search-well list l s e k = k ∙ ap (λ (v : Verdict). searchBy v list l) (sym e)
 
--- whether its list is complete
-complete-is : (b : Bool) → isComplete (completeOr4 b) ≡ b
+-- its list is complete where its number is 0, and only there
+complete-at : (b : Bool) → numberIn (completeOr4 b) ≡ 0 → b ≡ true
 unfolding pick
-complete-is true = refl
-complete-is false = refl
+complete-at true e = refl
+complete-at false e = let z : ⊥ = omega arith in absurd z
+
+few-at : (b : Bool) → (numberIn (completeOr4 b) ≡ 0 → ⊥) → b ≡ false
+unfolding pick
+few-at true n = absurd (n refl)
+few-at false n = refl
 
 module _ (list : List ℕ) (l : Attached) (answer : Searched) (listed : ℕ) (after : List ℕ) (resets slots : ℕ) (l₁ : Attached)
     (e : outcome answer listed after resets slots l₁ ≡ fromPlayed list (play wire (searchHost (length list)) l)) where
@@ -125,9 +130,9 @@ module _ (list : List ℕ) (l : Attached) (answer : Searched) (listed : ℕ) (af
   pub slots-few : slots ≤ 3200
   slots-few = let k = ap (λ (s : Search). s .slots) e in let m = search-spends (length list) .slots wire l in omega arith
 
-  -- whether the list is complete
-  ended : (t : Bool) → t ≡ isComplete answer → p .result .complete ≡ t
-  ended t f = sym (f ∙ ap (λ (s : Search). isComplete (s .answer)) e ∙ complete-is (p .result .complete))
+  -- the number of what the search answers
+  number-is : (n : ℕ) → n ≡ numberIn answer → numberIn (completeOr4 (p .result .complete)) ≡ n
+  number-is n f = sym (f ∙ ap (λ (s : Search). numberIn (s .answer)) e)
 
   module _ (pages borne : List ℕ) where
     -- the round, by how the search ended
@@ -135,12 +140,12 @@ module _ (list : List ℕ) (l : Attached) (answer : Searched) (listed : ℕ) (af
     went = play-bind wire (searchHost (length list)) (thenPages borne) l
 
     -- 4: no page is read
-    pub round-stops : (t : Bool) → t ≡ isComplete answer → t ≡ false
+    pub round-stops : (n : ℕ) → n ≡ numberIn answer → (n ≡ 0 → ⊥)
         → round (outcome answer listed after resets slots l₁) pages ≡ fromRound list pages (play wire (roundHost (length list) borne) l)
     unfolding play
-    round-stops t f g =
+    round-stops n f g =
         let h : play wire (roundHost (length list) borne) l ≡ played (rounded (p .result) []) (p .line) (p .resets) (p .slots)
-        = went ∙ ap (λ (k : Host Rounded). more (p .resets) (p .slots) (play wire k (p .line))) (pick-false (p .result .complete) _ _ (ended t f ∙ g))
+        = went ∙ ap (λ (k : Host Rounded). more (p .resets) (p .slots) (play wire k (p .line))) (pick-false (p .result .complete) _ _ (few-at (p .result .complete) (λ z. g (sym (number-is n f) ∙ z))))
         ∙ (λ j. played (rounded (p .result) []) (p .line) (add-zero (p .resets) j) (add-zero (p .slots) j)) in
         ap (λ (s : Search). round s pages) e ∙ ap (fromRound list pages) (sym h)
 
@@ -156,13 +161,13 @@ module _ (list : List ℕ) (l : Attached) (answer : Searched) (listed : ℕ) (af
       count-is : count ≡ length (onlyBorne borne codes)
       count-is = counted ∙ ap (λ (cs : List ℕ). length (onlyBorne borne cs)) codes-are
 
-      pub round-reads-on : (t : Bool) → t ≡ isComplete answer → t ≡ true
+      pub round-reads-on : (n : ℕ) → n ≡ numberIn answer → n ≡ 0
           → round (outcome answer listed after (resets + count) (slots + 352 * count) l₂) pages₂ ≡ fromRound list pages (play wire (roundHost (length list) borne) l)
       unfolding play
-      round-reads-on t f g =
+      round-reads-on n f g =
           let s = pages-spend (onlyBorne borne codes) [] in
           let h : play wire (roundHost (length list) borne) l ≡ played (rounded (p .result) (q .result)) (q .line) (p .resets + count) (p .slots + 352 * count)
-          = went ∙ ap (λ (k : Host Rounded). more (p .resets) (p .slots) (play wire k (p .line))) (pick-true (p .result .complete) _ _ (ended t f ∙ g))
+          = went ∙ ap (λ (k : Host Rounded). more (p .resets) (p .slots) (play wire k (p .line))) (pick-true (p .result .complete) _ _ (complete-at (p .result .complete) (number-is n f ∙ g)))
           ∙ ap (more (p .resets) (p .slots)) (play-bind wire (readPages (onlyBorne borne codes) []) (λ (bytes : List ℕ). done (rounded (p .result) bytes)) (p .line))
           ∙ (λ j. played (rounded (p .result) (q .result)) (q .line)
           (p .resets + (add-zero (q .resets) ∙ s .resets wire (p .line) ∙ sym count-is) j)

@@ -19,7 +19,7 @@ ghost use Rattle.line.specs.declared.Verdict.the-variants as verdict;
 ghost use Rattle.search.specs.Host.{play};
 ghost use Rattle.search.specs.Search.{searched, wire, outcome};
 ghost use Rattle.rounds.specs.Host.{roundHost};
-ghost use Rattle.rounds.specs.Round.{round, borneOn, roundVerdict, fromRound, roundOf, isComplete};
+ghost use Rattle.rounds.specs.Round.{round, borneOn, roundVerdict, fromRound, roundOf};
 
 // The bytes of a page.
 pub const PAGE_SIZE: usize = 32;
@@ -29,17 +29,6 @@ pub const PAGE_SLOTS: u64 = 352;
 
 // The most bytes of pages that a table asks for.
 pub const PAGES_MOST: usize = 512;
-
-// Whether a search says that its list is complete.
-fn is_complete(a: SearchAnswer) -> bool
-    ensures { λ r. ⌜ r ≡ isComplete (searched a) ⌝ }
-{
-    match a {
-        SearchAnswer::Complete => true,
-        SearchAnswer::TooFewPlaces => false,
-        SearchAnswer::Refused(_) => false,
-    }
-}
 
 // How a table, its buffers and a page buffer stand: refusal 8, then 5.
 fn how_stands(t: Table, pages: &[u8], ms: &[u8], ss: &[u8]) -> Verdict
@@ -69,7 +58,8 @@ fn go_round(t: Table, list: &mut [u64], pages: &mut [u8], ms: &mut [u8], ss: &mu
     let resets = found.resets;
     let slots = found.slots;
     let table = found.table;
-    if is_complete(answer) {
+    let number = search::number_of(answer);
+    if number == 0 {
         let read = host::read_pages(t, table, list, found.listed, pages, ms, ss);
         let after = read.table;
         return Found {
