@@ -3,7 +3,6 @@
 use std::fs::{self, File};
 use std::io;
 use std::os::unix::ffi::OsStrExt;
-use std::os::unix::fs::symlink;
 use std::process::Stdio;
 
 use super::playback::{broken, says};
@@ -94,25 +93,7 @@ impl Tester {
                 },
             );
         }
-        let folder = self.folder.as_os_str().as_bytes().to_vec();
-        let within = |name: &[u8]| [&folder[..], b"/", name].concat();
-        fs::write(self.folder.join("plain"), b"x").expect("a file in the temporary folder");
-        let round = self.folder.join("round");
-        symlink(&round, &round).expect("a link in the temporary folder");
-        let mut names = vec![
-            (folder.clone(), 21),
-            (b"/".to_vec(), 21),
-            (within(b"missing"), 2),
-            (within(b"missing/missing"), 2),
-            (within(b"two  spaces "), 2),
-            (within(b"\xFF\x80\xC3"), 2),
-            (within("ünë: x".as_bytes()), 2),
-            (within(b"plain/x"), 20),
-            (within(b"round"), 40),
-            (within(&[b'n'; 300]), 36),
-            (within(&b"n/".repeat(1000)), 2),
-            (within(&b"n/".repeat(2500)), 36),
-        ];
+        let mut names = self.unread_names();
         // Names that other programs take for something else, none of which is there.
         let others = [
             "", "-", "--", "-x", "--help", "read", "write", "missing", "~", "*", "$HOME",

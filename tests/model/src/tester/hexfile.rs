@@ -4,7 +4,7 @@ use std::fs::File;
 use std::process::Stdio;
 
 use super::setpoint::shown;
-use super::steps::{word, Step};
+use super::steps::{word, Judge, Start, Step};
 use super::{seed_for, shortest, Tester};
 use crate::gen::hexfaults::{self, damaged};
 use crate::gen::hexfiles::{self, filled, images, other_words, own_text, some, Given, Spot};
@@ -528,28 +528,17 @@ impl Tester {
         steps: &[Step],
         want: &Said,
     ) -> (Said, bool) {
-        if self.is_over() {
-            self.failed += 1;
-            return (Said::default(), false);
+        if !self.is_over() {
+            self.files += 1;
         }
-        self.files += 1;
-        let (got, fault) = self.told_in_steps(command, words, input, steps);
-        let agrees = fits(want, &got) && fault.is_none();
-        self.count(agrees);
-        if !agrees {
-            println!(
-                "\nDIFFERENCE: hexfile, {name:?} of seed {}",
-                self.options.seed
-            );
-            let words: Vec<String> = words.iter().map(|word| shown(word)).collect();
-            println!("words: {}", words.join(" "));
-            println!("input: {}", shown(given));
-            show(want, &got);
-            if let Some(fault) = fault {
-                println!("{fault}");
-            }
-        }
-        (got, agrees)
+        let start = Start {
+            program: "hexfile",
+            command,
+            name,
+            words,
+            given: &|| format!("input: {}", shown(given)),
+        };
+        self.try_start(&start, input, steps, want, &Judge { fits, show })
     }
 
     /// Shows a file of fewer lines that is still answered otherwise.

@@ -4,7 +4,7 @@ use std::fs::File;
 use std::process::Stdio;
 
 use super::setpoint::shown;
-use super::steps::{word, Step};
+use super::steps::{fits_usage, word, Judge, Start, Step};
 use super::{seed_for, shortest, Tester};
 use crate::gen::rng::Rng;
 use crate::gen::rounds::{self, card_of, other_words, shuffle, Opt, Trial, Unit, EXAMPLES};
@@ -273,26 +273,17 @@ impl Tester {
         steps: &[Step],
         want: &Said,
     ) -> (Said, bool) {
-        if self.is_over() {
-            self.failed += 1;
-            return (Said::default(), false);
+        if !self.is_over() {
+            self.rounds += 1;
         }
-        self.rounds += 1;
-        let (got, fault) = self.told_in_steps(command, words, input, steps);
-        let agrees = fits(want, &got) && fault.is_none();
-        self.count(agrees);
-        if !agrees {
-            let seed = self.options.seed;
-            println!("\nDIFFERENCE: round, {name:?} of seed {seed}");
-            let words: Vec<String> = words.iter().map(|word| shown(word)).collect();
-            println!("words: {}", words.join(" "));
-            println!("card: {}", hex(&card[..card.len().min(SHOWN)]));
-            show(want, &got);
-            if let Some(fault) = fault {
-                println!("{fault}");
-            }
-        }
-        (got, agrees)
+        let start = Start {
+            program: "round",
+            command,
+            name,
+            words,
+            given: &|| format!("card: {}", hex(&card[..card.len().min(SHOWN)])),
+        };
+        self.try_start(&start, input, steps, want, &Judge { fits, show })
     }
 
     /// Shows a line of fewer chips that is still answered otherwise.
@@ -337,15 +328,7 @@ impl Tester {
 
 /// Whether a program says what the model says; the words of a usage line are free.
 fn fits(want: &Said, got: &Said) -> bool {
-    let lines = got.errors.iter().filter(|character| **character == b'\n');
-    let usage = got.errors.starts_with(b"usage: round")
-        && got.errors.ends_with(b"\n")
-        && lines.count() == 1;
-    let errors = match want.errors.is_empty() {
-        true => got.errors.is_empty(),
-        false => usage,
-    };
-    got.printed == want.printed && errors
+    fits_usage("round", want, got)
 }
 
 /// What model and program say.

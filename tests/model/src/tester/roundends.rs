@@ -5,7 +5,6 @@ use std::ffi::OsStr;
 use std::fs::{self, File};
 use std::io::{self, Write};
 use std::os::unix::ffi::OsStrExt;
-use std::os::unix::fs::symlink;
 use std::process::{Command, Stdio};
 use std::thread;
 use std::time::Duration;
@@ -77,25 +76,7 @@ impl Tester {
 
     /// Files that cannot be opened or read: nothing else happens, and the card is not waited for.
     fn run_no_file(&mut self, command: &str, linked: &str, book: &mut Book) {
-        let folder = self.folder.as_os_str().as_bytes().to_vec();
-        let within = |name: &[u8]| [&folder[..], b"/", name].concat();
-        fs::write(self.folder.join("plain"), b"x").expect("a file in the temporary folder");
-        let endless = self.folder.join("endless");
-        symlink(&endless, &endless).expect("a link in the temporary folder");
-        let mut names = vec![
-            (folder.clone(), 21),
-            (b"/".to_vec(), 21),
-            (within(b"missing"), 2),
-            (within(b"missing/missing"), 2),
-            (within(b"two  spaces "), 2),
-            (within(b"\xFF\x80\xC3"), 2),
-            (within("ünë: x".as_bytes()), 2),
-            (within(b"plain/x"), 20),
-            (within(b"endless"), 40),
-            (within(&[b'n'; 300]), 36),
-            (within(&b"n/".repeat(1000)), 2),
-            (within(&b"n/".repeat(2500)), 36),
-        ];
+        let mut names = self.unread_names();
         // Names that other programs take for something else, none of which is there.
         let others = [
             "", "-", "--", "-x", "--help", "--images", "--places", "--pages", "2", "missing", "*",
@@ -122,7 +103,7 @@ impl Tester {
             book.saw_if(holds, Rule::RoundUnread);
         }
         // A card that would be refused, and one that cannot be read.
-        let name = within(b"missing");
+        let name = self.folder.join("missing").as_os_str().as_bytes().to_vec();
         let words = [word("--images"), name.clone()];
         let path = self.card_file(&card_of(&[(3, 1)]));
         for input in [path.as_path(), self.folder.clone().as_path()] {

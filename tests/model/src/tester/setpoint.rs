@@ -6,6 +6,7 @@ use std::thread;
 use std::time::Duration;
 
 use super::playback::shown_bytes;
+use super::steps::fits_usage;
 use super::{seed_for, Tester};
 use crate::gen::pages::{self, good, word_for, Trial};
 use crate::gen::rng::Rng;
@@ -259,15 +260,7 @@ impl Tester {
 
 /// Whether a program says what the model says; the words of a usage line are free.
 fn fits(want: &Said, got: &Said) -> bool {
-    let lines = got.errors.iter().filter(|character| **character == b'\n');
-    let usage = got.errors.starts_with(b"usage: setpoint")
-        && got.errors.ends_with(b"\n")
-        && lines.count() == 1;
-    let errors = match want.errors.is_empty() {
-        true => got.errors.is_empty(),
-        false => usage,
-    };
-    got.printed == want.printed && errors
+    fits_usage("setpoint", want, got)
 }
 
 /// Text in quotes, other bytes as hex digits; of a long one, how it begins and ends.

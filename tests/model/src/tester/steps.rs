@@ -3,6 +3,7 @@
 use std::fs;
 use std::io;
 use std::os::unix::ffi::OsStrExt;
+use std::os::unix::fs::symlink;
 use std::process::Stdio;
 use std::thread;
 use std::time::Duration;
@@ -32,6 +33,37 @@ pub(super) enum Step<'a> {
     Silent,
     /// The output must come to its end with the input open.
     Ends,
+}
+
+/// A start of a program: which one and how it is called, the name of the trial, its words, and what it is given, as it is
+/// shown.
+pub(super) struct Start<'a> {
+    pub(super) program: &'a str,
+    pub(super) command: &'a str,
+    pub(super) name: &'a str,
+    pub(super) words: &'a [Vec<u8>],
+    pub(super) given: &'a dyn Fn() -> String,
+}
+
+/// How what a program says is judged, and how a difference is shown.
+pub(super) struct Judge {
+    pub(super) fits: fn(&Said, &Said) -> bool,
+    pub(super) show: fn(&Said, &Said),
+}
+
+/// Whether what is printed is just what is wanted, and standard error has nothing, or one usage line of that program where
+/// one is wanted.
+pub(super) fn fits_usage(program: &str, want: &Said, got: &Said) -> bool {
+    let lines = got.errors.iter().filter(|character| **character == b'\n');
+    let begins = format!("usage: {program}");
+    let usage = got.errors.starts_with(begins.as_bytes())
+        && got.errors.ends_with(b"\n")
+        && lines.count() == 1;
+    let errors = match want.errors.is_empty() {
+        true => got.errors.is_empty(),
+        false => usage,
+    };
+    got.printed == want.printed && errors
 }
 
 /// One word as the program is given it.
@@ -74,6 +106,64 @@ impl Tester {
         }
         let errors = fs::read(&errors).unwrap_or_default();
         (Said { printed, errors }, fault)
+    }
+
+    /// Starts the program and goes through the steps; what it says, and whether that is wanted. A difference is shown.
+    pub(super) fn try_start(
+        &mut self,
+        start: &Start,
+        input: Stdio,
+        steps: &[Step],
+        want: &Said,
+        judge: &Judge,
+    ) -> (Said, bool) {
+        if self.is_over() {
+            self.failed += 1;
+            return (Said::default(), false);
+        }
+        let (got, fault) = self.told_in_steps(start.command, start.words, input, steps);
+        let agrees = (judge.fits)(want, &got) && fault.is_none();
+        self.count(agrees);
+        if !agrees {
+            let seed = self.options.seed;
+            println!(
+                "\nDIFFERENCE: {}, {:?} of seed {seed}",
+                start.program, start.name
+            );
+            let words: Vec<String> = start.words.iter().map(|word| shown(word)).collect();
+            println!("words: {}", words.join(" "));
+            println!("{}", (start.given)());
+            (judge.show)(want, &got);
+            if let Some(fault) = fault {
+                println!("{fault}");
+            }
+        }
+        (got, agrees)
+    }
+
+    /// Names of files that cannot be opened or read, with the number of the system's error.
+    pub(super) fn unread_names(&self) -> Vec<(Vec<u8>, i32)> {
+        let folder = self.folder.as_os_str().as_bytes().to_vec();
+        let within = |name: &[u8]| [&folder[..], b"/", name].concat();
+        fs::write(self.folder.join("plain"), b"x").expect("a file in the temporary folder");
+        let endless = self.folder.join("endless");
+        if fs::symlink_metadata(&endless).is_err() {
+            symlink(&endless, &endless).expect("a link in the temporary folder");
+        }
+        vec![
+            (folder.clone(), 21),
+            (b"/".to_vec(), 21),
+            (within(b"missing"), 2),
+            (within(b"missing/missing"), 2),
+            (within(b"two  spaces "), 2),
+            (within(b"\xFF\x80\xC3"), 2),
+            (within("ünë: x".as_bytes()), 2),
+            (within(b"plain/x"), 20),
+            (within(b"endless"), 40),
+            (within(&[b'n'; 300]), 36),
+            (within(&b"n/".repeat(1000)), 2),
+            (within(&b"n/".repeat(2500)), 36),
+        ]
     }
 
     /// A file in the temporary folder that holds this; its name.
