@@ -1,4 +1,6 @@
 // Bits, registers and bytes of slices: what every other crate uses. Each function answers for every input.
+#![tactic(auto)]
+
 ghost use Rattle.std.specs.Prelude.{◌≡◌, length, get_or, set, replicate};
 ghost use Rattle.base.specs.Bits.{bit_of, same, both, filled};
 ghost use Rattle.base.specs.Parts.{part_byte, put_in_part};

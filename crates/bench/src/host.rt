@@ -3,7 +3,7 @@ use crate::text;
 use line::{Answer, Event, Table};
 
 // One thing that the host does: nothing, an event but for slots, eight slots that write a byte, a byte read, or a slot read.
-#[derive(Drop)]
+#[derive(Clone, Copy)]
 pub enum Action {
     Rest,
     Put(Event),

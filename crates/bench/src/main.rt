@@ -14,6 +14,8 @@
 // The label, what the host wrote and the addresses are words of the script; all else was computed, or read on the line.
 // A card, a reset, a power on or outside levels that are refused write `refused` and the refusal's number where it happened.
 // A slot is never refused where a reset or a power on was not.
+#![tactic(auto)]
+
 mod cards;
 mod host;
 mod listing;

@@ -11,7 +11,7 @@ use crate::{host, text};
 use line::Table;
 
 // How far the typing is: between < and > or not, and the first digit of a byte, 16 where there is none.
-#[derive(Drop)]
+#[derive(Clone, Copy)]
 struct Typed {
     inside: bool,
     first: u8,

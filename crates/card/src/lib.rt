@@ -1,4 +1,6 @@
 // A card: a run of records that says which chips are attached, and set-up of a table from it.
+#![tactic(auto)]
+
 ghost use Rattle.std.specs.Prelude.{◌≡◌};
 ghost use Rattle.chip.specs.Kinds.{known_kind};
 ghost use Rattle.card.specs.Card.{carded, cut_entry, whole_entry, entry_at, set_up, set_up_of};
@@ -10,7 +12,7 @@ use records::Head;
 pub const ENTRY_LENGTH: u16 = 10;
 
 // What set-up answers: the number of chips, or a refusal with the offset of the record's first byte.
-#[derive(Drop)]
+#[derive(Clone, Copy)]
 pub enum CardAnswer {
     Chips(usize),
     // refusal 1
@@ -22,14 +24,14 @@ pub enum CardAnswer {
 }
 
 // What set-up answers, and the table that it leaves.
-#[derive(Drop)]
+#[derive(Clone, Copy)]
 pub struct Carded {
     pub answer: CardAnswer,
     pub table: Table,
 }
 
 // What one record gives.
-#[derive(Drop)]
+#[derive(Clone, Copy)]
 pub enum Entry {
     // the card ends here
     Done,

@@ -1,4 +1,6 @@
 // One chip of any kind: its record, what it sends in a slot, and what each event does to it.
+#![tactic(auto)]
+
 pub mod kinds;
 mod parts;
 pub mod range;
@@ -12,7 +14,7 @@ use rom::RomStep;
 use scratchpad::{Deed, MemoryPhase, Registers};
 
 // The level of a chip, with what it needs to go on.
-#[derive(Drop)]
+#[derive(Clone, Copy)]
 pub enum Level {
     // until the next reset
     Waiting,
@@ -27,7 +29,7 @@ pub enum Level {
 }
 
 // A chip's record. The registers of T and E/S are a DS28EC20's, the latches and outside levels a DS2413's.
-#[derive(Drop)]
+#[derive(Clone, Copy)]
 pub struct Chip {
     pub code: u64,
     pub kind: u8,
@@ -38,7 +40,7 @@ pub struct Chip {
 }
 
 // Where a slot leaves a chip, and what is to be done to its memory and scratchpad.
-#[derive(Drop)]
+#[derive(Clone, Copy)]
 pub struct ChipAfter {
     pub chip: Chip,
     pub deed: Deed,

@@ -4,7 +4,7 @@ ghost use Rattle.io.specs.Counts.{IsPrefixLen};
 ghost use Rattle.console.specs.Input.{nothing_yet, moved_down, holding, taken_of};
 
 // So many bytes, the offset of the first of them in the input, whether more may come, and whether a read failed.
-#[derive(Drop)]
+#[derive(Clone, Copy)]
 pub struct Hand {
     pub bytes: usize,
     pub offset: u64,

@@ -1,5 +1,7 @@
 // What a program uses at a terminal, whatever it is about: the turns of a loop that waits for input, counts that do not wrap, room for an
 // argument, and what is written on standard output.
+#![tactic(auto)]
+
 pub mod input;
 
 ghost use Rattle.std.specs.Prelude.{◌≡◌, ◌-◌, ◌≤◌, length, replicate};

@@ -10,7 +10,7 @@ ghost use Rattle.std.specs.Prelude.{◌≡◌};
 ghost use Rattle.crc.specs.Figure4.{cleared, drawn_bit, drawn_byte, as_byte, stages_of};
 
 // The eight stages.
-#[derive(Drop)]
+#[derive(Clone, Copy)]
 pub struct ShiftRegister {
     pub stage1: bool,
     pub stage2: bool,

@@ -1,4 +1,6 @@
 // The two check sums of document 01, and the check of a code. The CRC-8 runs on the register that figure 4 of the sheet draws.
+#![tactic(auto)]
+
 mod figure4;
 
 ghost use Rattle.std.specs.Prelude.{◌≡◌};
@@ -6,7 +8,7 @@ ghost use Rattle.crc.specs.Crc.{poly8, poly16, crc_bit, crc_byte, crc_of};
 ghost use Rattle.crc.specs.Code.{byte_of, code_crc, check_of};
 
 // What the check of a code finds.
-#[derive(Drop)]
+#[derive(Clone, Copy)]
 pub enum CodeCheck {
     Good,
     Bad,

@@ -1,17 +1,19 @@
 // The DS2413: two latches, two pins, and its function level.
+#![tactic(auto)]
+
 ghost use Rattle.std.specs.Prelude.{◌≡◌, ◌≤◌};
 ghost use Rattle.base.specs.Pick.{pick};
 ghost use Rattle.ds2413.specs.Switch.{switch_after, switch_power_on, switch_set_up, switch_outside, pin_of, status_of, switch_function, switch_begins, status_sent, pair_in, pair_bit, confirmed, shown, switch_takes, switch_sends, phase_in_range, switch_in_range};
 
 // The latches and the outside levels, bit 0 for PIOA and bit 1 for PIOB.
-#[derive(Drop)]
+#[derive(Clone, Copy)]
 pub struct Switch {
     pub latches: u8,
     pub outside: u8,
 }
 
 // A phase of the function level, with what it needs to go on.
-#[derive(Drop)]
+#[derive(Clone, Copy)]
 pub enum SwitchPhase {
     // nothing more to send
     Ones,
@@ -26,7 +28,7 @@ pub enum SwitchPhase {
 }
 
 // Where a slot leaves the part.
-#[derive(Drop)]
+#[derive(Clone, Copy)]
 pub struct SwitchAfter {
     pub switch: Switch,
     pub phase: SwitchPhase,

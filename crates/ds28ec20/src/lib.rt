@@ -1,4 +1,6 @@
 // The DS28EC20: its map, and which of its bytes may change.
+#![tactic(auto)]
+
 ghost use Rattle.std.specs.Prelude.{◌≡◌};
 ghost use Rattle.ds28ec20.specs.Map.{is_data, control_address, lock_address, is_control_or_lock, is_read_only, held, only_falls, closed_to_copying, pad_end};
 

@@ -1,5 +1,7 @@
 // Writes a memory image as an Intel HEX file, or reads such a file: raw bytes on one side, text on the other. The input comes from the file
 // that an argument names, or from standard input.
+#![tactic(auto)]
+
 mod reading;
 mod telling;
 mod words;

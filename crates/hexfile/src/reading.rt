@@ -5,7 +5,7 @@ use console::input::Hand;
 use intelhex::{Ending, Fault};
 
 // Where the reading stands: what is at hand, whether the end record has come, and how many lines were taken.
-#[derive(Drop)]
+#[derive(Clone, Copy)]
 struct Stand {
     hand: Hand,
     over: bool,
@@ -13,7 +13,7 @@ struct Stand {
 }
 
 // Where it stands after a turn, how that ended, and whether there is another.
-#[derive(Drop)]
+#[derive(Clone, Copy)]
 struct Turned {
     stand: Stand,
     ending: Ending,

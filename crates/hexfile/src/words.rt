@@ -1,14 +1,14 @@
 // The words of the command line.
 
 // Which way an image goes.
-#[derive(Drop)]
+#[derive(Clone, Copy)]
 pub enum Way {
     Write,
     Read,
 }
 
 // What the program is asked to do.
-#[derive(Drop)]
+#[derive(Clone, Copy)]
 pub enum Command {
     Go(Way),
     Unknown,

@@ -1,5 +1,7 @@
 // Intel HEX, as the workshop's chip programmer speaks it: a memory image of a DS28EC20 written as a text, in one form, and read back from a text in any form that such
 // files have.
+#![tactic(auto)]
+
 mod digits;
 mod lines;
 mod readers;
@@ -23,7 +25,7 @@ pub const TEXT_SIZE: usize = 7228;
 const LINE_FEED: u8 = 0x0A;
 
 // Why an image or a text is refused.
-#[derive(Drop)]
+#[derive(Clone, Copy)]
 pub enum Fault {
     // refusal 5: an image or a text buffer of another size
     WrongSize,
@@ -56,21 +58,21 @@ pub enum Fault {
 }
 
 // What writing answers.
-#[derive(Drop)]
+#[derive(Clone, Copy)]
 pub enum Writing {
     Written,
     Refused(Fault),
 }
 
 // What reading answers: that all is read, or a refusal and how many lines stand before the one at fault.
-#[derive(Drop)]
+#[derive(Clone, Copy)]
 pub enum Reading {
     Read,
     Refused(Fault, usize),
 }
 
 // How reading what is there of a text ends.
-#[derive(Drop)]
+#[derive(Clone, Copy)]
 pub enum Ending {
     // at the end of the text, after its end record
     End,
@@ -81,7 +83,7 @@ pub enum Ending {
 }
 
 // How reading what is there ended, at what offset and after how many lines, and whether the end record was among what was read so far.
-#[derive(Drop)]
+#[derive(Clone, Copy)]
 pub struct Taken {
     pub ending: Ending,
     pub at: usize,

@@ -12,7 +12,7 @@ const CARRIAGE_RETURN: u8 = 0x0D;
 const LINE_MOST: usize = 523;
 
 // What a text begins with.
-#[derive(Drop)]
+#[derive(Clone, Copy)]
 pub enum Standing {
     // nothing
     Nothing,

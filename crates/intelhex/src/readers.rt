@@ -11,7 +11,7 @@ use crate::record::{Form, Judged};
 use crate::{Ending, Fault, IMAGE_SIZE, Reading, Taken, lines, record, storing};
 
 // What a turn comes to.
-#[derive(Drop)]
+#[derive(Clone, Copy)]
 pub enum Turn {
     // a record was taken: the characters that it takes up, and whether it was the end record
     On { size: usize, over: bool },

@@ -10,7 +10,7 @@ use crate::{Fault, digits};
 const LAST_ADDRESS: u32 = 0x0A3F;
 
 // What the characters of a line are.
-#[derive(Drop)]
+#[derive(Clone, Copy)]
 pub enum Form {
     // digits of so many bytes after a colon
     Bytes(usize),
@@ -18,7 +18,7 @@ pub enum Form {
 }
 
 // What a record is.
-#[derive(Drop)]
+#[derive(Clone, Copy)]
 pub enum Judged {
     // a data record that can be taken
     Data { address: u16, count: u8 },

@@ -1,4 +1,6 @@
 // The line over what a caller lends: a slice of chips with images and scratchpads, and one chip's record by `&mut`.
+#![tactic(auto)]
+
 mod gathered;
 pub mod record;
 
@@ -14,7 +16,7 @@ use line::{Answer, Event, Plan, Survey};
 use search::{Resets, SearchAnswer, Slots};
 
 // What a search answers, how many codes it listed, and what it put on the line.
-#[derive(Drop)]
+#[derive(Clone, Copy)]
 pub struct Told {
     pub answer: SearchAnswer,
     pub listed: usize,

@@ -1,4 +1,6 @@
 // Up to 16 chips on one line: the table by value, and the event with its refusals.
+#![tactic(auto)]
+
 pub mod events;
 mod judged;
 mod packing;
@@ -29,14 +31,14 @@ pub const PADS_MOST: usize = 512;
 pub const SLOTS_MOST: usize = 65535;
 
 // The table: the first n places hold the attached chips.
-#[derive(Drop)]
+#[derive(Clone, Copy)]
 pub struct Table {
     pub n: usize,
     pub chips: [Chip; 16],
 }
 
 // An event by its number, with the chip and the outside levels that event 4 names.
-#[derive(Drop)]
+#[derive(Clone, Copy)]
 pub struct Event {
     pub number: u32,
     pub chip: u32,
@@ -44,7 +46,7 @@ pub struct Event {
 }
 
 // A refusal of an event.
-#[derive(Drop)]
+#[derive(Clone, Copy)]
 pub enum Refusal {
     // refusal 8
     OutOfRange,
@@ -57,49 +59,49 @@ pub enum Refusal {
 }
 
 // What an event answers: the bus bit, or a refusal.
-#[derive(Drop)]
+#[derive(Clone, Copy)]
 pub enum Answer {
     Bit(bool),
     Refused(Refusal),
 }
 
 // What a table and its buffers are judged to: they stand well, or they are refused.
-#[derive(Drop)]
+#[derive(Clone, Copy)]
 pub enum Verdict {
     Well,
     Refused(Refusal),
 }
 
 // What an event answers, and the table that it leaves.
-#[derive(Drop)]
+#[derive(Clone, Copy)]
 pub struct Happened {
     pub answer: Answer,
     pub table: Table,
 }
 
 // What a run of slots answers: how many were put on the line, or a refusal.
-#[derive(Drop)]
+#[derive(Clone, Copy)]
 pub enum SlotsAnswer {
     Put(usize),
     Refused(Refusal),
 }
 
 // What a run of slots answers, and the table that it leaves.
-#[derive(Drop)]
+#[derive(Clone, Copy)]
 pub struct Ran {
     pub answer: SlotsAnswer,
     pub table: Table,
 }
 
 // Up to eight slots of a run: the bits on the bus as a byte, and the table that they leave.
-#[derive(Drop)]
+#[derive(Clone, Copy)]
 pub struct ByteRan {
     pub byte: u8,
     pub table: Table,
 }
 
 // What every chip does at once: take a slot's value, be reset, or be powered on.
-#[derive(Drop)]
+#[derive(Clone, Copy)]
 pub enum Act {
     Take(bool),
     Reset,
@@ -107,7 +109,7 @@ pub enum Act {
 }
 
 // What an event comes to on a table.
-#[derive(Drop)]
+#[derive(Clone, Copy)]
 pub enum Plan {
     // nothing happens
     Refused(Refusal),
@@ -120,7 +122,7 @@ pub enum Plan {
 }
 
 // Where the next chip of a table stands: its number, and where its parts of the buffers begin.
-#[derive(Drop)]
+#[derive(Clone, Copy)]
 pub struct Spot {
     pub place: usize,
     pub image: usize,
@@ -129,7 +131,7 @@ pub struct Spot {
 
 // What is known of the chips so far: whether all are in range, the kind of the chip that an event names, and where the
 // next one stands, which is also the sizes that they ask.
-#[derive(Drop)]
+#[derive(Clone, Copy)]
 pub struct Survey {
     pub within: bool,
     pub kind: u8,
@@ -137,14 +139,14 @@ pub struct Survey {
 }
 
 // The bit on the bus so far.
-#[derive(Drop)]
+#[derive(Clone, Copy)]
 pub struct Bus {
     pub value: bool,
     pub spot: Spot,
 }
 
 // A chip after its turn, and where the next one stands.
-#[derive(Drop)]
+#[derive(Clone, Copy)]
 pub struct Turned {
     pub chip: Chip,
     pub spot: Spot,

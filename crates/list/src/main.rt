@@ -1,5 +1,7 @@
 // Reads a card from standard input, searches the line that it sets up, and writes the codes found with the word for the check of each, as
 // documents 01 and 02 say.
+#![tactic(auto)]
+
 use libc::{STDIN_FILENO, STDOUT_FILENO};
 use line::Table;
 

@@ -1,5 +1,7 @@
 // The memory of a part by its map: what a slot looks at, what it sees by it, and the rule of a byte. Where the bytes stand
 // is a layout's to know; `flat` is one.
+#![tactic(auto)]
+
 pub mod flat;
 
 ghost use Rattle.std.specs.Prelude.{◌≡◌};
@@ -10,13 +12,13 @@ ghost use Rattle.memory.specs.Memory.{look_of, sight, sight_by, span_of};
 use scratchpad::{Hand, Sight};
 
 // A part that has the scratchpad commands.
-#[derive(Drop)]
+#[derive(Clone, Copy)]
 pub enum Part {
     Ds28ec20,
 }
 
 // Which bytes a slot looks at: none, two of the memory, or one of the scratchpad.
-#[derive(Drop)]
+#[derive(Clone, Copy)]
 pub enum Look {
     Nothing,
     Memory { first: usize, second: usize },
@@ -24,7 +26,7 @@ pub enum Look {
 }
 
 // The bytes that were looked at; 0 where there is none.
-#[derive(Drop)]
+#[derive(Clone, Copy)]
 pub struct Seen {
     pub first: u8,
     pub second: u8,

@@ -1,4 +1,6 @@
 // Numbers in digits: whole numbers as a user writes them, which are decimal digits with a minus sign or none; and bytes in hexadecimal digits (`hex`).
+#![tactic(auto)]
+
 pub mod hex;
 
 ghost use Rattle.std.specs.Prelude.{◌≡◌, ◌+◌, ◌*◌, pos, nat_abs, drop};
@@ -7,7 +9,7 @@ ghost use Rattle.numerals.specs.Numerals.{kept, counted_by};
 ghost use Rattle.numerals.specs.Read.{with_sign};
 
 // What a text says.
-#[derive(Drop)]
+#[derive(Clone, Copy)]
 pub enum Numeral {
     // a number; one past 18 digits counts as the least of 19, with its sign
     Number(i64),
@@ -15,7 +17,7 @@ pub enum Numeral {
 }
 
 // What digits come to.
-#[derive(Drop)]
+#[derive(Clone, Copy)]
 pub enum Counted {
     // a number; one past 18 digits counts as the least of 19
     Number(u64),

@@ -1,4 +1,6 @@
 // A chip's record as bytes, and a table as a run of them.
+#![tactic(auto)]
+
 mod counting;
 mod data;
 mod fields;
@@ -22,7 +24,7 @@ pub use taking::takes;
 pub const RECORD_SIZE: usize = 32;
 
 // What a chip is in the middle of: the number of the step, and what it needs to go on.
-#[derive(Drop)]
+#[derive(Clone, Copy)]
 pub struct Step {
     pub number: u8,
     pub w: u16,
@@ -32,7 +34,7 @@ pub struct Step {
 }
 
 // The most that a step's fields hold.
-#[derive(Drop)]
+#[derive(Clone, Copy)]
 pub struct Limits {
     pub w: u16,
     pub a: u8,
@@ -41,7 +43,7 @@ pub struct Limits {
 }
 
 // What a slot does to the bytes of a step.
-#[derive(Drop)]
+#[derive(Clone, Copy)]
 pub enum Shape {
     // nothing
     Still,
@@ -64,7 +66,7 @@ pub enum Shape {
 }
 
 // The table whose first places bytes fill, and whether they are the records of its chips.
-#[derive(Drop)]
+#[derive(Clone, Copy)]
 pub struct Unpacked {
     pub ok: bool,
     pub table: Table,

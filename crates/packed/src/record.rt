@@ -129,7 +129,7 @@ pub fn unpack(s: &[u8]) -> Chip
         return unpack_whole(s);
     }
     let mut whole = [0; RECORD_SIZE];
-    bytes::copy(s, &mut whole);
+    whole[..s.len()].copy_from_slice(s);
     unpack_whole(&whole)
 }
 
@@ -147,6 +147,6 @@ pub fn put_record(s: &mut [u8], c: Chip)
 {
     let r = pack(c);
     if RECORD_SIZE <= s.len() {
-        bytes::copy(&r, s);
+        s[..RECORD_SIZE].copy_from_slice(&r);
     }
 }

@@ -1,5 +1,7 @@
 // Plays a hall's recording from standard input on the line that its card records set up, and writes every event's bus answer as soon as
 // the record is there: one line of `0` and `1`, and after it the line of the first refusal.
+#![tactic(auto)]
+
 ghost use Rattle.std.specs.Prelude.{◌≤◌, length};
 
 use console::input;
@@ -57,21 +59,21 @@ fn write_end(ending: Ending, at: u64) {
 }
 
 // Where the process stands: what is at hand of the recording, and the table.
-#[derive(Drop)]
+#[derive(Clone, Copy)]
 struct Stand {
     hand: Hand,
     table: Table,
 }
 
 // Where it stands after a turn, and whether there is another.
-#[derive(Drop)]
+#[derive(Clone, Copy)]
 struct Turned {
     stand: Stand,
     on: bool,
 }
 
 // Where it stands in the card, how that ended so far, and whether there is another turn.
-#[derive(Drop)]
+#[derive(Clone, Copy)]
 struct Carded {
     stand: Stand,
     ending: CardsEnding,

@@ -8,7 +8,7 @@ use crate::{Found, Record, reading};
 use line::SLOTS_MOST;
 
 // Runs that were gathered: how many slots they have, and the offset after their records.
-#[derive(Drop)]
+#[derive(Clone, Copy)]
 pub struct Gathered {
     pub slots: usize,
     pub next: usize,
@@ -16,7 +16,7 @@ pub struct Gathered {
 
 // What is put on the line for a record, and the offset after all that it stands for. A run's host bits stand in a buffer of
 // their own.
-#[derive(Drop)]
+#[derive(Clone, Copy)]
 pub struct Joined {
     pub record: Record,
     pub next: usize,

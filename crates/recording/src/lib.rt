@@ -1,4 +1,6 @@
 // A hall's recording: what its records are, the chips that it starts with, and its events put on a line.
+#![tactic(auto)]
+
 mod cards;
 mod joining;
 mod playing;
@@ -13,7 +15,7 @@ pub use playing::play;
 pub use reading::record_at;
 
 // Why a recording is refused.
-#[derive(Drop)]
+#[derive(Clone, Copy)]
 pub enum Fault {
     // refusal 1
     TooMany,
@@ -30,7 +32,7 @@ pub enum Fault {
 }
 
 // A record that can be taken.
-#[derive(Drop)]
+#[derive(Clone, Copy)]
 pub enum Record {
     // a chip of the card
     Chip { code: u64, kind: u8 },
@@ -41,7 +43,7 @@ pub enum Record {
 }
 
 // What stands at an offset of a recording.
-#[derive(Drop)]
+#[derive(Clone, Copy)]
 pub enum Found {
     // nothing: the recording ends here
     End,
@@ -53,7 +55,7 @@ pub enum Found {
 }
 
 // How reading or playing ends.
-#[derive(Drop)]
+#[derive(Clone, Copy)]
 pub enum Ending {
     // at the end of the recording
     End,
@@ -64,7 +66,7 @@ pub enum Ending {
 }
 
 // How reading a card ends.
-#[derive(Drop)]
+#[derive(Clone, Copy)]
 pub enum CardsEnding {
     // before a record of one of kinds 16 to 19
     Events,
@@ -72,7 +74,7 @@ pub enum CardsEnding {
 }
 
 // How reading a card ended, at what offset, and the chips so far.
-#[derive(Drop)]
+#[derive(Clone, Copy)]
 pub struct CardsRead {
     pub ending: CardsEnding,
     pub at: usize,
@@ -80,7 +82,7 @@ pub struct CardsRead {
 }
 
 // How playing ended, at what offset, how many answers were written, and the table that is left.
-#[derive(Drop)]
+#[derive(Clone, Copy)]
 pub struct Played {
     pub ending: Ending,
     pub at: usize,

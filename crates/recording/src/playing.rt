@@ -10,14 +10,14 @@ use crate::{Ending, Fault, Found, Played, Record, cards, joining, reading};
 use line::{Answer, Event, Refusal, SlotsAnswer, Table};
 
 // What a record's events answer: how many answers were written, or a refusal.
-#[derive(Drop)]
+#[derive(Clone, Copy)]
 pub enum RecordAnswer {
     Answered(usize),
     Refused(Refusal),
 }
 
 // What a record's events answer, and the table that they leave.
-#[derive(Drop)]
+#[derive(Clone, Copy)]
 pub struct RecordPut {
     pub answer: RecordAnswer,
     pub table: Table,

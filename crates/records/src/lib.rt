@@ -1,10 +1,12 @@
 // Numbers in bytes, low byte first; and records, length first: their heads, whatever their kinds.
+#![tactic(auto)]
+
 ghost use Rattle.std.specs.Prelude.{[], ◌∷◌, ◌≡◌, ◌+◌, get_or};
 ghost use Rattle.records.specs.Numbers.{number_at};
 ghost use Rattle.records.specs.Records.{head_at};
 
 // What starts at an offset of a run of records.
-#[derive(Drop)]
+#[derive(Clone, Copy)]
 pub enum Head {
     // nothing: the run ends here
     End,

@@ -1,9 +1,11 @@
 // The ROM level of a chip, over its code and RC. It knows no part.
+#![tactic(auto)]
+
 ghost use Rattle.std.specs.Prelude.{◌≡◌};
 ghost use Rattle.rom.specs.Rom.{command_of, command_bit, read_bit, match_bit, search_bit, rom_takes, search_sends, rom_sends, rom_in_range};
 
 // A step of the ROM level, with what it needs to go on.
-#[derive(Drop)]
+#[derive(Clone, Copy)]
 pub enum RomStep {
     // the ROM command: bits taken so far, and the register that they fill
     Command { count: u8, bits: u8 },
@@ -16,7 +18,7 @@ pub enum RomStep {
 }
 
 // Where a slot leads from a step.
-#[derive(Drop)]
+#[derive(Clone, Copy)]
 pub enum RomNext {
     Wait,
     Step(RomStep),
@@ -24,14 +26,14 @@ pub enum RomNext {
 }
 
 // Where a slot leads, and RC.
-#[derive(Drop)]
+#[derive(Clone, Copy)]
 pub struct RomResult {
     pub next: RomNext,
     pub rc: bool,
 }
 
 // What a chip knows of the ROM commands that not every chip knows: Resume.
-#[derive(Drop)]
+#[derive(Clone, Copy)]
 pub struct Knows {
     pub resume: bool,
 }

@@ -7,7 +7,7 @@ use line::IMAGES_MOST;
 pub const ROOM: usize = IMAGES_MOST + 1;
 
 // How many bytes of images are given, if a file of them is, and whether it could not be opened or read.
-#[derive(Drop)]
+#[derive(Clone, Copy)]
 pub struct Loaded {
     pub bytes: Choice,
     pub failed: bool,

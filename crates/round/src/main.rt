@@ -1,5 +1,7 @@
 // Makes the controller's morning round on the line that a card on standard input sets up: it searches the line, reads page 0 of each memory
 // that it found, and writes what it read and how many resets and slots that took.
+#![tactic(auto)]
+
 mod answer;
 mod arguments;
 mod images;

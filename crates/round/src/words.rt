@@ -7,7 +7,7 @@ ghost use Rattle.round.specs.Words.{word_of, choice_by, once, with_images, with_
 use numerals::Counted;
 
 // Which option a word is.
-#[derive(Drop)]
+#[derive(Clone, Copy)]
 pub enum Word {
     Images,
     Places,
@@ -16,14 +16,14 @@ pub enum Word {
 }
 
 // What is given of an option: nothing, or a number.
-#[derive(Drop)]
+#[derive(Clone, Copy)]
 pub enum Choice {
     Absent,
     Given(usize),
 }
 
 // What is asked for: which argument names the file of images, how many places there are, and how many bytes of pages.
-#[derive(Drop)]
+#[derive(Clone, Copy)]
 pub struct Request {
     pub images: Choice,
     pub places: Choice,
@@ -31,7 +31,7 @@ pub struct Request {
 }
 
 // What the arguments come to.
-#[derive(Drop)]
+#[derive(Clone, Copy)]
 pub enum Asked {
     Round(Request),
     Usage,

@@ -11,14 +11,14 @@ use crate::{PAGE_SIZE, borne};
 use line::Table;
 
 // A byte that the host read, and the table that its slots leave.
-#[derive(Drop)]
+#[derive(Clone, Copy)]
 pub struct ByteHeard {
     pub table: Table,
     pub byte: u8,
 }
 
 // How many pages were read, and the table that is left.
-#[derive(Drop)]
+#[derive(Clone, Copy)]
 pub struct PagesRead {
     pub table: Table,
     pub pages: u64,

@@ -1,5 +1,7 @@
 // The morning round: the host searches the line and then reads page 0 of each code that a DS28EC20 bears, by Match ROM and Read Memory. It
 // reports the resets and the slots that it put on the line.
+#![tactic(auto)]
+
 mod borne;
 mod host;
 

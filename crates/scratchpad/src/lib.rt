@@ -1,5 +1,7 @@
 // T, E/S and the commands Write Scratchpad, Read Scratchpad, Copy and Read Memory, over any part's map.
 // A slot is given a sight, what it sees of memory and scratchpad, and answers a deed, what is to be done to them.
+#![tactic(auto)]
+
 mod copy;
 mod fields;
 mod read;
@@ -10,14 +12,14 @@ ghost use Rattle.scratchpad.specs.Scratchpad.{memory_after, memory_function, mem
 ghost use Rattle.scratchpad.specs.Registers.{power_on_registers, mark, rule_of_byte};
 
 // The registers: T, and E/S with E in bits 0 to 4, PF bit 5 and AA bit 7.
-#[derive(Drop)]
+#[derive(Clone, Copy)]
 pub struct Registers {
     pub t: u16,
     pub es: u8,
 }
 
 // A phase of the function level, with what it needs to go on.
-#[derive(Drop)]
+#[derive(Clone, Copy)]
 pub enum MemoryPhase {
     // nothing more to send
     Ones,
@@ -78,7 +80,7 @@ pub enum MemoryPhase {
 // What a slot sees: the memory byte at hand and whether it is held or only falls, whether T's page is closed to
 // copying, the scratchpad byte at hand, the last address that Read Memory reads, and the last offset that Read
 // Scratchpad sends.
-#[derive(Drop)]
+#[derive(Clone, Copy)]
 pub struct Sight {
     pub memory: u8,
     pub held: bool,
@@ -91,7 +93,7 @@ pub struct Sight {
 
 // What a slot goes by, beside the registers: nothing for a bit that only counts or fills; the memory byte at an
 // address, with its control byte; a page; a byte of the scratchpad; or a memory byte that is sent.
-#[derive(Drop)]
+#[derive(Clone, Copy)]
 pub enum Hand {
     Nothing,
     Byte { address: usize },
@@ -102,7 +104,7 @@ pub enum Hand {
 
 // What a slot does to memory and scratchpad: nothing, a byte put into the scratchpad, or a copy carried out,
 // in T's page from T mod 32 to E.
-#[derive(Drop)]
+#[derive(Clone, Copy)]
 pub enum Deed {
     Nothing,
     Put { offset: u8, byte: u8 },
@@ -110,7 +112,7 @@ pub enum Deed {
 }
 
 // Where a slot leaves the part, and its deed.
-#[derive(Drop)]
+#[derive(Clone, Copy)]
 pub struct MemoryAfter {
     pub registers: Registers,
     pub phase: MemoryPhase,

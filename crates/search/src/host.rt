@@ -10,14 +10,14 @@ use crate::Slots;
 use line::{Answer, Event, Table};
 
 // What the host hears of an event, and the table that it leaves.
-#[derive(Drop)]
+#[derive(Clone, Copy)]
 pub struct Heard {
     pub table: Table,
     pub value: bool,
 }
 
 // How a pass ended.
-#[derive(Drop)]
+#[derive(Clone, Copy)]
 pub struct Pass {
     pub table: Table,
     pub path: u64,

@@ -1,4 +1,6 @@
 // The host's search: it lists the codes of the line in branch order, by the answers to its events alone.
+#![tactic(auto)]
+
 mod host;
 
 ghost use Rattle.std.specs.Prelude.{◌≡◌, ◌≤◌, length, take, drop, []};
@@ -11,15 +13,15 @@ pub use host::{Heard, reset, slot, write_byte};
 use line::{Refusal, Table, Verdict};
 
 // Resets put on the line. Never added to slots: the two differ in time.
-#[derive(Drop)]
+#[derive(Clone, Copy)]
 pub struct Resets(pub u64);
 
 // Slots put on the line.
-#[derive(Drop)]
+#[derive(Clone, Copy)]
 pub struct Slots(pub u64);
 
 // What a search answers: the list is complete, or a refusal.
-#[derive(Drop)]
+#[derive(Clone, Copy)]
 pub enum SearchAnswer {
     Complete,
     // refusal 4
@@ -29,7 +31,7 @@ pub enum SearchAnswer {
 }
 
 // What a search answers, how many codes it listed, what it put on the line, and the table that it leaves.
-#[derive(Drop)]
+#[derive(Clone, Copy)]
 pub struct Found {
     pub answer: SearchAnswer,
     pub listed: usize,
@@ -39,7 +41,7 @@ pub struct Found {
 }
 
 // The passes of a search: codes listed, whether there are no more, what was put on the line, and the table.
-#[derive(Drop)]
+#[derive(Clone, Copy)]
 pub struct Sought {
     pub complete: bool,
     pub listed: usize,

@@ -1,5 +1,7 @@
 // Reads or writes the setpoint record of the page on standard input: a reader writes the setpoint in tenths, a writer the page with its
 // new record, and either the number of a refusal.
+#![tactic(auto)]
+
 mod words;
 
 use console::input;

@@ -1,7 +1,7 @@
 // The words of the command line.
 
 // Which records are read.
-#[derive(Drop)]
+#[derive(Clone, Copy)]
 pub enum Reader {
     Either,
     Kind101,
@@ -9,14 +9,14 @@ pub enum Reader {
 }
 
 // Which records are written.
-#[derive(Drop)]
+#[derive(Clone, Copy)]
 pub enum Writer {
     Kind101,
     Kind102,
 }
 
 // What the program is asked to do.
-#[derive(Drop)]
+#[derive(Clone, Copy)]
 pub enum Command {
     Read(Reader),
     Write(Writer),

@@ -1,5 +1,7 @@
 // Setpoint records, old and new: page 0 of a unit holds one, of kind 101 in whole degrees or of kind 102 in tenths. A reader of each kind and
 // one of either, and a writer of each.
+#![tactic(auto)]
+
 mod kinds;
 mod readers;
 mod signed;
@@ -16,7 +18,7 @@ pub use writers::{write_101, write_102};
 pub const PAGE_SIZE: usize = 32;
 
 // A kind of setpoint record.
-#[derive(Drop)]
+#[derive(Clone, Copy)]
 pub enum Kind {
     // kind 101, whole degrees Celsius
     Degrees,
@@ -25,7 +27,7 @@ pub enum Kind {
 }
 
 // Why a page or a value is refused.
-#[derive(Drop)]
+#[derive(Clone, Copy)]
 pub enum Fault {
     // refusal 13
     AnotherKind,
@@ -36,14 +38,14 @@ pub enum Fault {
 }
 
 // What a reader answers: the setpoint in tenths, or a refusal.
-#[derive(Drop)]
+#[derive(Clone, Copy)]
 pub enum Reading {
     Setpoint(i64),
     Refused(Fault),
 }
 
 // What a writer answers.
-#[derive(Drop)]
+#[derive(Clone, Copy)]
 pub enum Writing {
     Written,
     Refused(Fault),

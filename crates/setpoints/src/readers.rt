@@ -9,7 +9,7 @@ use crate::{Fault, Kind, PAGE_SIZE, Reading, kinds};
 use records::Head;
 
 // The length and the kind that a record gives.
-#[derive(Drop)]
+#[derive(Clone, Copy)]
 pub struct Said {
     pub length: u16,
     pub kind: u16,

@@ -1,5 +1,7 @@
 // What the programs on a line share: the room that a table needs, the line that says why a card was refused, and the line of a
 // code.
+#![tactic(auto)]
+
 ghost use Rattle.std.specs.Prelude.{◌≡◌, length, replicate};
 ghost use Rattle.line.specs.Layout.{images_most, pads_most};
 ghost use Rattle.card.specs.Card.{carded};
@@ -12,7 +14,7 @@ use line::{IMAGES_MOST, PADS_MOST};
 use numerals::hex;
 
 // A word: as many places as it has letters.
-#[derive(Drop)]
+#[derive(Clone, Copy)]
 pub enum Letters {
     Two(u8, u8),
     Four(u8, u8, u8, u8),

@@ -1,4 +1,6 @@
 // The line as a library for C: include/toemsakun.h has the promises.
+#![tactic(auto)]
+
 mod answers;
 mod event;
 mod loops;
@@ -16,7 +18,7 @@ use line::{Survey, Table};
 use packed::RECORD_SIZE;
 
 // What the records of a table come to: whether they are records, and a survey of them.
-#[derive(Drop)]
+#[derive(Clone, Copy)]
 pub struct Judged {
     pub ok: bool,
     pub survey: Survey,

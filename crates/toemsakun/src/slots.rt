@@ -9,7 +9,7 @@ ghost use Rattle.toemsakun.specs.Slots.{Lined, line_in, Outside};
 use packed::RECORD_SIZE;
 
 // The chips of a table from first on and before past, and where the parts of the chip at first begin in the buffers.
-#[derive(Drop)]
+#[derive(Clone, Copy)]
 pub struct Range {
     pub first: usize,
     pub image: usize,

@@ -1,6 +1,8 @@
 // The line as a process: set up from the card file that its argument names, it answers each event of its standard input at
 // once on its standard output. `0` and `1` are slots, `2` a reset, `3` power on, `4` with a hex digit and a digit the outside
 // levels of a chip; an answer is `0` or `1`, or the letter of the alphabet with the number of a refusal.
+#![tactic(auto)]
+
 mod runs;
 mod text;
 
@@ -11,7 +13,7 @@ use line::Table;
 use text::{Given, Pending};
 
 // Where the process stands: the table, what of event 4 is still to come, and how many answers wait to be written.
-#[derive(Drop)]
+#[derive(Clone, Copy)]
 struct Progress {
     table: Table,
     pending: Pending,
@@ -133,7 +135,7 @@ fn write_answers(out: &[u8], n: usize) {
 }
 
 // Where the process stands after a turn, and whether the input goes on.
-#[derive(Drop)]
+#[derive(Clone, Copy)]
 struct Served {
     progress: Progress,
     on: bool,

@@ -6,7 +6,7 @@ use crate::text::Pending;
 use line::{Answer, SLOTS_MOST, SlotsAnswer};
 
 // A run that was gathered: how many slots it has, and where the text goes on.
-#[derive(Drop)]
+#[derive(Clone, Copy)]
 pub struct Gathered {
     pub slots: usize,
     pub next: usize,

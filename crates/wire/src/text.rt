@@ -2,7 +2,7 @@
 use line::{Answer, Event, Refusal};
 
 // What of event 4 is still to come.
-#[derive(Drop)]
+#[derive(Clone, Copy)]
 pub enum Pending {
     Nothing,
     Chip,
@@ -10,7 +10,7 @@ pub enum Pending {
 }
 
 // What a character gives: nothing yet, or an event; and what is then still to come.
-#[derive(Drop)]
+#[derive(Clone, Copy)]
 pub enum Given {
     Passed,
     Awaited(Pending),
