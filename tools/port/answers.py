@@ -174,9 +174,27 @@ class Function:
                 out.append("c." + ".".join(got[1]))
         return "".join(out)
 
+    def nearest(self, i, tail):
+        """Where the chain has another length today: the step of that name nearest to where it was sought."""
+        depth = 0
+        while depth < len(tail) and tail[depth] == "before":
+            depth += 1
+        tokens = tail[depth:]
+        if not tokens:
+            return "place", i, None
+        if tokens[0] in ("args", "ranges", "requires", "well-formed", "well_formed", "lifetimes"):
+            return self.walk(0, tokens)
+        best, k, j = None, 0, i
+        while j is not None:
+            got = self.walk(j, tokens)
+            if got and (best is None or abs(k - depth) < abs(best[0] - depth)):
+                best = (k, got)
+            j, k = self.parent(j), k + 1
+        return best and best[1]
+
     def resolve(self, value, tail):
         if value[0] == "place":
-            return self.walk(value[1], tail)
+            return self.walk(value[1], tail) or self.nearest(value[1], tail)
         # a variable that names a step, or a part of one
         _, name, prefix, place, old = value
         if not tail:
@@ -246,6 +264,7 @@ def turn(root, names, crate, folder, function):
     needs = {}
     for (old, new), at in zip(f.n["needs"], f.n["asked_at"] if len(f.n["asked_at"]) == len(f.n["needs"]) else [None] * len(f.n["needs"])):
         needs[plain(old)] = (new, at)
+        needs.setdefault(plain(new), (new, at))
     loops = {plain(l[0][0]): (l[0][1], l[1], ch) for l, ch in zip(f.n["loops"], f.n["changed"])}
     uses, invariants, answers, helpers = [], [], [], []
     for block in re.split(r"\n\s*\n", text):

@@ -1,0 +1,6 @@
+use Rattle.chip.specs.Chip.{memory_look}
+use Rattle.chip.proofs.parts.memory_looks.Goals as goal
+
+pub returns : goal.returns
+unfolding memory_look
+returns c = cc

@@ -1,0 +1,15 @@
+use Rattle.base.specs.Rules.{cases}
+use Rattle.intelhex.specs.Reading.{next_after}
+use Rattle.intelhex.proofs.readers.end_after.Goals as goal
+
+pub returns-then-more : goal.returns-then-more
+unfolding next_after
+returns-then-more c = search cases
+
+pub returns-then-text-eq0 : goal.returns-then-text-eq0
+unfolding next_after
+returns-then-text-eq0 c = search cases
+
+pub returns : goal.returns
+unfolding next_after
+returns c = search cases

@@ -1,0 +1,9 @@
+use Rattle.std.proofs.Common.{◌-◌, length, sym, ◌∙◌, rules}
+use Rattle.intelhex.specs.Underway.{Underway, underway_start, underway_next, underway_sums, underway_stopped}
+use Rattle.intelhex.proofs.readers.read_all.Given as goal
+
+abbrev pub invariant-loop-size : goal.invariant-loop-size
+invariant-loop-size l = Underway l.more l.over l.text l.initial.image l.bytes l.image l.at l.lines l.past
+
+abbrev pub decreases-loop-size : goal.decreases-loop-size
+decreases-loop-size l = length l.text - l.at

@@ -1,0 +1,15 @@
+use Rattle.std.proofs.Common.{◌≡◌, ◌-◌, ◌≤◌, length, drop, refl, ◌∙◌, rules}
+use Rattle.intelhex.specs.Ends.{digit_next, no_digit, digits_end}
+use Rattle.intelhex.proofs.record.are_digits.Goals as goal
+
+pub loop-i-init : goal.loop-i-init
+loop-i-init c = (search rules, refl)
+
+pub loop-i-preserved : goal.loop-i-preserved
+loop-i-preserved c = let l = c.loop-i in (search rules, digit_next _ l.i _ (search rules) c.is_digit.ensures c.if-is_digit.true ∙ l.invariant.1)
+
+pub returns-else-is_digit : goal.returns-else-is_digit
+returns-else-is_digit c = let l = c.loop-i in no_digit _ l.i _ (search rules) c.is_digit.ensures c.if-is_digit.false ∙ l.invariant.1
+
+pub returns : goal.returns
+returns c = let l = c.loop-i in digits_end _ l.i (search rules) ∙ l.invariant.1

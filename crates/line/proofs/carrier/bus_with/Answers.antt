@@ -1,0 +1,6 @@
+use Rattle.line.specs.Carrier.{bus_with}
+use Rattle.line.proofs.carrier.bus_with.Goals as goal
+
+pub returns : goal.returns
+unfolding bus_with
+returns c = cc

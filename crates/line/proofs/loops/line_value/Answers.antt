@@ -1,0 +1,18 @@
+use borrow.Author.Rules.{rules}
+use mathlib.Core.Path.{ap}
+use Rattle.line.specs.declared.Bus.{Bus}
+use Rattle.chip.specs.declared.Chip.{Chip}
+use Rattle.line.specs.Carrier.{over, bus_with, over_more, over_done}
+use lib.ListN.{length, length-map}
+use native.Mathlib.Nat.{sub-zero}
+use mathlib.Core.Path.{◌≡◌, ◌∙◌, sym}
+use Rattle.line.proofs.loops.line_value.Goals as goal
+
+pub loop-i-init : goal.loop-i-init
+loop-i-init c = (search rules, c.used_places-n.ensures.most.0, let g = c.well_formed.0.1.1.1.0.1.0 in simp length-map at g.1, simp sub-zero)
+
+pub loop-i-preserved : goal.loop-i-preserved
+loop-i-preserved c = let l = c.loop-i in (search rules, search rules, search rules, sym (over_more _ _ _ _ _ _ c.loop-i-test.true c.bus_with-sum.ensures) ∙ l.invariant.3)
+
+pub returns : goal.returns
+returns c = let a = c.args in ap (λ (s : Bus). s.value) (sym (over_done _ _ _ _ _ c.loop-i-test.false) ∙ c.loop-i.invariant.3 ∙ (λ j. over (λ (x : Chip) (s : Bus). bus_with a.plan x s a.ms.now a.ss.now) (c.used_places-n.ensures.value j) 0 a.t.chips (c.first_bus-sum.ensures j)))

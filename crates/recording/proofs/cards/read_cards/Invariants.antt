@@ -1,0 +1,10 @@
+use Prim.Native.Nat.{ℕ, ◌-◌}
+use lib.ListN.{length}
+use Rattle.recording.specs.CardLoop.{Taking, taking_start, taking_event, taking_stopped, taking_other, taking_next, taking_less}
+use Rattle.recording.proofs.cards.read_cards.Given as goal
+
+abbrev pub invariant-loop-table : goal.invariant-loop-table
+invariant-loop-table l = Taking l.more l.s l.initial.table l.at l.table
+
+abbrev pub decreases-loop-table : goal.decreases-loop-table
+decreases-loop-table l = length l.s - l.at

@@ -1,0 +1,15 @@
+use Rattle.recording.specs.Reading.{cut_off}
+use Rattle.base.specs.Rules.{cases}
+use Rattle.recording.proofs.reading.cut_off.Goals as goal
+
+pub returns-then-more : goal.returns-then-more
+unfolding cut_off
+returns-then-more c = search cases
+
+pub returns-then-right : goal.returns-then-right
+unfolding cut_off
+returns-then-right c = search cases
+
+pub returns : goal.returns
+unfolding cut_off
+returns c = search cases

@@ -1,0 +1,12 @@
+use Rattle.line.specs.Carrier.{bus_with, over}
+use Rattle.line.specs.declared.Bus.{Bus}
+use Rattle.chip.specs.declared.Chip.{Chip}
+use Rattle.toemsakun.specs.Acting.{Walking, walking_start, walking_next, walking_end, sum_with, sum_is}
+use Prim.Native.Nat.{◌-◌}
+use Rattle.toemsakun.proofs.loops.line_value.Given as goal
+
+abbrev pub invariant-loop-i : goal.invariant-loop-i
+invariant-loop-i l = Walking (λ (c : Chip) (s : Bus). bus_with l.plan c s l.ms l.ss) l.table (sum_with l.initial.value l.initial.spot) l.n l.i (sum_with l.value l.spot)
+
+abbrev pub decreases-loop-i : goal.decreases-loop-i
+decreases-loop-i l = l.n - l.i
