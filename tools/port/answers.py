@@ -153,8 +153,10 @@ class Function:
                         env[name] = ("place", got[1])
                         continue
                     if got:
-                        env[name] = ("step", name, got[1], got[2], tail)
-                        out.append(f"let {name} = c.{'.'.join(got[1])} in" + m.group()[m.group().rindex(" in") + 3 :])
+                        behind = env[var][0] == "step"
+                        whole = env[var][2] + got[1] if behind else got[1]
+                        env[name] = ("step", name, whole, got[2], (env[var][4] + tail) if behind else tail)
+                        out.append(f"let {name} = {var if behind else 'c'}.{'.'.join(got[1])} in" + m.group()[m.group().rindex(" in") + 3 :])
                         continue
                 out.append(m.group())
                 if var in env:

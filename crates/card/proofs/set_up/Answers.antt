@@ -5,7 +5,7 @@ use native.Mathlib.Omega.{arith}
 use Rattle.card.proofs.set_up.Goals as goal
 
 pub loop-chips-init : goal.loop-chips-init
-loop-chips-init c = let a = c.args in let g = c.well_formed.1.1.0.1.1.1.0.1.0 in taking_start _ a.s.now a.t.chips c.used_places-most.ensures.most.0 (simp length-map at g.1)
+loop-chips-init c = let a = c.args in taking_start _ a.s.now a.t.chips c.used_places-most.ensures.most.0 (omega arith)
 
 pub overflow_sub-most : goal.overflow_sub-most
 overflow_sub-most c = omega (arith, c.loop-chips.invariant.within)

@@ -3,4 +3,4 @@ use Rattle.chip.proofs.parts.memory_looks.Goals as goal
 
 pub returns : goal.returns
 unfolding memory_look
-returns c = cc
+returns c = rw (c.looks.ensures, c.at_hand-hand.ensures, c.part_of-part.ensures)

@@ -5,7 +5,7 @@ use borrow.Author.Rules.{rules}
 use Rattle.line.proofs.judged.pads_asked.Goals as goal
 
 pub returns-then-n-le16 : goal.returns-then-n-le16
-returns-then-n-le16 c = let g = c.well_formed.0.1.1.1.0.1.0 in table_pads c.args.t.n c.args.t.chips (simp length-map at g.1) c.survey_table-survey.result c.survey_table-survey.ensures (search rules)
+returns-then-n-le16 c = let both = table_pads c.args.t.n c.args.t.chips (omega arith) c.survey_table-survey.result c.survey_table-survey.ensures (search rules) in record { value = both.0; most = both.1 }
 
 pub returns : goal.returns
 returns c = record { value = pads_none c.args.t.n c.args.t.chips (search rules); most = omega arith }

@@ -1,3 +1,4 @@
+use Rattle.std.proofs.Common.{arith}
 use borrow.Author.Rules.{rules}
 use Rattle.line.specs.Carrier.{acts, acts_more, acts_done}
 use lib.ListN.{length, length-map}
@@ -6,7 +7,7 @@ use mathlib.Core.Path.{◌≡◌, ◌∙◌, sym}
 use Rattle.line.proofs.loops.all_turn.Goals as goal
 
 pub loop-i-init : goal.loop-i-init
-loop-i-init c = (search rules, c.used_places-n.ensures.most.0, let g = c.well_formed.0.1.1.1.0.1.0 in simp length-map at g.1, search rules, search rules, simp sub-zero)
+loop-i-init c = (search rules, c.used_places-n.ensures.most.0, omega arith, search rules, search rules, simp sub-zero)
 
 pub loop-i-preserved : goal.loop-i-preserved
 loop-i-preserved c = let p = c.turn-r in let l = c.loop-i in (search rules, search rules, search rules, p.auto.ms ∙ l.invariant.3, p.auto.ss ∙ l.invariant.4, sym (acts_more _ _ _ _ _ _ _ _ _ _ _ _ c.loop-i-test.true p.ensures) ∙ l.invariant.5)

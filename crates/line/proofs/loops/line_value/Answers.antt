@@ -1,3 +1,4 @@
+use Rattle.std.proofs.Common.{arith}
 use borrow.Author.Rules.{rules}
 use mathlib.Core.Path.{ap}
 use Rattle.line.specs.declared.Bus.{Bus}
@@ -9,7 +10,7 @@ use mathlib.Core.Path.{◌≡◌, ◌∙◌, sym}
 use Rattle.line.proofs.loops.line_value.Goals as goal
 
 pub loop-i-init : goal.loop-i-init
-loop-i-init c = (search rules, c.used_places-n.ensures.most.0, let g = c.well_formed.0.1.1.1.0.1.0 in simp length-map at g.1, simp sub-zero)
+loop-i-init c = (search rules, c.used_places-n.ensures.most.0, omega arith, simp sub-zero)
 
 pub loop-i-preserved : goal.loop-i-preserved
 loop-i-preserved c = let l = c.loop-i in (search rules, search rules, search rules, sym (over_more _ _ _ _ _ _ c.loop-i-test.true c.bus_with-sum.ensures) ∙ l.invariant.3)

@@ -6,10 +6,10 @@ pub loop-i-init : goal.loop-i-init
 loop-i-init c = let a = c.args in adding_start a.host.now a.slots a.bits.now a.count c.requires.0 c.requires.1 c.requires.2
 
 pub overflow_add-slots : goal.overflow_add-slots
-overflow_add-slots c = let g = c.loop-i.invariant in let t = c.loop-i-test.true in let f = c.few in omega arith
+overflow_add-slots c = let g = c.loop-i.invariant in let t = c.loop-i-test.true in let f = g.few in omega arith
 
 pub overflow_add-i : goal.overflow_add-i
-overflow_add-i c = let g = c.loop-i.invariant in let t = c.loop-i-test.true in let f = c.few in omega arith
+overflow_add-i c = let g = c.loop-i.invariant in let t = c.loop-i-test.true in let f = g.few in omega arith
 
 pub loop-i-smaller : goal.loop-i-smaller
 loop-i-smaller c = let t = c.loop-i-test.true in omega arith

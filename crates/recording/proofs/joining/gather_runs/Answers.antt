@@ -20,16 +20,16 @@ pub slice_bounds-add_bits-end : goal.slice_bounds-add_bits-end
 slice_bounds-add_bits-end c = let f = (gathered_lies _ _ _ _ _ _ _ _ _ c.loop-taken.invariant _ c.record_at-found.ensures _ _ c.in-Record.is _ _ _ c.in-Slots.is).fits in f.1
 
 pub add_bits-requires : goal.add_bits-requires
-add_bits-requires c = let i = c.loop-taken.invariant in let b = run-bytes c.args.s.now _ _ _ (gathered_lies _ _ _ _ _ _ _ _ _ c.loop-taken.invariant _ c.record_at-found.ensures _ _ c.in-Record.is _ _ _ c.in-Slots.is).fits in let n = c.if-all-n.false in let f = c.few in (omega arith, omega arith, i.long ∙ c.requires.2)
+add_bits-requires c = let i = c.loop-taken.invariant in let b = run-bytes c.args.s.now _ _ _ (gathered_lies _ _ _ _ _ _ _ _ _ c.loop-taken.invariant _ c.record_at-found.ensures _ _ c.in-Record.is _ _ _ c.in-Slots.is).fits in let n = c.if-all-n.false in let f = i.few in (omega arith, omega arith, i.long ∙ c.requires.2)
 
 pub overflow_add-all : goal.overflow_add-all
-overflow_add-all c = let i = c.loop-taken.invariant in let n = c.if-all-n.false in let f = c.few in omega arith
+overflow_add-all c = let i = c.loop-taken.invariant in let n = c.if-all-n.false in let f = i.few in omega arith
 
 pub loop-taken-smaller : goal.loop-taken-smaller
 loop-taken-smaller c = let l = gathered_lies _ _ _ _ _ _ _ _ _ c.loop-taken.invariant _ c.record_at-found.ensures _ _ c.in-Record.is _ _ _ c.in-Slots.is in let a = l.further in let b = l.within in omega arith
 
 pub loop-taken-preserved : goal.loop-taken-preserved
-loop-taken-preserved c = let i = c.loop-taken.invariant in let n = c.if-all-n.false in let f = c.few in gathered_next _ _ _ _ _ _ _ _ _ c.loop-taken.invariant _ c.record_at-found.ensures _ _ c.in-Record.is _ _ _ c.in-Slots.is _ (omega arith) c.add_bits.ensures c.add_bits.auto.host
+loop-taken-preserved c = let i = c.loop-taken.invariant in let n = c.if-all-n.false in let f = i.few in gathered_next _ _ _ _ _ _ _ _ _ c.loop-taken.invariant _ c.record_at-found.ensures _ _ c.in-Record.is _ _ _ c.in-Slots.is _ (omega arith) c.add_bits.ensures c.add_bits.auto.host
 
 pub shape_of-host-in_default : goal.shape_of-host-in_default
 shape_of-host-in_default c = c.loop-taken.invariant.long

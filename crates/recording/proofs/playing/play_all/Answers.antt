@@ -1,3 +1,4 @@
+use Rattle.std.proofs.Common.{arith}
 use borrow.Author.Rules.{rules}
 use mathlib.Core.Path.{◌≡◌, ◌∙◌, ap, sym}
 use lib.ListN.{length, length-map}
@@ -8,7 +9,7 @@ use Rattle.recording.proofs.Absent.{no_record}
 use Rattle.recording.proofs.playing.play_all.Goals as goal
 
 pub loop-taken-init : goal.loop-taken-init
-loop-taken-init c = let a = c.args in let g = c.well_formed.0.1.1.1.0.1.0 in let full : length a.t.chips ≡ 16 = simp length-map at g.1 in underway_start a.more a.s.now a.out.now (attached a.t.n a.t.chips a.ms.now a.ss.now) _ _ c.requires (sym c.run_room-packed.ensures) (sym c.run_room-host.ensures) full
+loop-taken-init c = let a = c.args in let full : length a.t.chips ≡ 16 = omega arith in underway_start a.more a.s.now a.out.now (attached a.t.n a.t.chips a.ms.now a.ss.now) _ _ c.requires (sym c.run_room-packed.ensures) (sym c.run_room-host.ensures) full
 
 pub shape_of-out-in_default : goal.shape_of-out-in_default
 shape_of-out-in_default c = c.loop-taken.invariant.long

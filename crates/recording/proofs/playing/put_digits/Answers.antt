@@ -7,10 +7,10 @@ pub loop-i-init : goal.loop-i-init
 loop-i-init c = let a = c.args in digits_start a.answers.now a.n a.place a.out.now c.requires.0 c.requires.1
 
 pub overflow_add-place : goal.overflow_add-place
-overflow_add-place c = let g = c.loop-i.invariant in let t = c.loop-i-test.true in let r = c.room in search (rules, t, r)
+overflow_add-place c = let g = c.loop-i.invariant in let t = c.loop-i-test.true in let r = g.room in search (rules, t, r)
 
 pub overflow_add-i : goal.overflow_add-i
-overflow_add-i c = let g = c.loop-i.invariant in let t = c.loop-i-test.true in let r = c.room in search (rules, t, r)
+overflow_add-i c = let g = c.loop-i.invariant in let t = c.loop-i-test.true in let r = g.room in search (rules, t, r)
 
 pub loop-i-smaller : goal.loop-i-smaller
 loop-i-smaller c = let t = c.loop-i-test.true in omega arith

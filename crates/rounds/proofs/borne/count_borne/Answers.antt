@@ -5,7 +5,7 @@ use Rattle.rounds.specs.BorneLaw.{counts_one, counts_none, counts_all}
 use Rattle.rounds.proofs.borne.count_borne.Goals as goal
 
 pub loop-i-init : goal.loop-i-init
-loop-i-init c = (c.requires, (let g = c.well_formed.0.1.1.1.0.1.0 in simp length-map at g.1), omega arith, omega arith, omega arith)
+loop-i-init c = (c.requires, (omega arith), omega arith, omega arith, omega arith)
 
 pub loop-i-preserved-then-not-last : goal.loop-i-preserved-then-not-last
 loop-i-preserved-then-not-last c = let l = c.loop-i in (l.invariant.0, l.invariant.1, omega (arith, l.invariant.2), omega (arith, c.loop-i-test.true), counts_none _ _ l.i l.codes c.loop-i-test.true (omega (arith, l.invariant.0, l.invariant.1)) _ _ _ c.is_ds28ec20-kind.ensures c.is_borne_from-later.ensures c.are_both-last.ensures l.invariant.4 (not-true _ c.if-not-last.true-raw))

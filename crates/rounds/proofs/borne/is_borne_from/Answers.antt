@@ -5,7 +5,7 @@ use Rattle.rounds.specs.BorneLaw.{borne_here, borne_later, borne_nowhere}
 use Rattle.rounds.proofs.borne.is_borne_from.Goals as goal
 
 pub loop-i-init : goal.loop-i-init
-loop-i-init c = (c.requires, let g = c.well_formed.0.1.1.1.0.1.0 in simp length-map at g.1, refl)
+loop-i-init c = (c.requires, omega arith, refl)
 
 pub returns-then-bears : goal.returns-then-bears
 returns-then-bears c = let l = c.loop-i in borne_here _ _ c.args.code l.i _ c.loop-i-test.true (omega (arith, l.invariant.0, l.invariant.1)) c.bears.ensures c.if-bears.true ∙ l.invariant.2

@@ -24,22 +24,22 @@ pub loop-i-smaller-then-not-borne : goal.loop-i-smaller-then-not-borne
 loop-i-smaller-then-not-borne c = let s = c.loop-i in omega (arith, c.loop-i-test.true)
 
 pub loop-i-preserved-then-not-borne : goal.loop-i-preserved-then-not-borne
-loop-i-preserved-then-not-borne c = let s = c.loop-i in let i = c.invariant in let f = among_first _ _ i.3 s.i c.loop-i-test.true in (paging_past _ _ _ _ _ _ s.count s.at s.i _ _ i.0 f.0 f.1 c.is_borne-borne.ensures (not-true _ c.if-not-borne.true-raw), i.1, i.2, i.3, omega (arith, c.loop-i-test.true), i.5, i.6, i.7)
+loop-i-preserved-then-not-borne c = let s = c.loop-i in let i = s.invariant in let f = among_first _ _ i.3 s.i c.loop-i-test.true in (paging_past _ _ _ _ _ _ s.count s.at s.i _ _ i.0 f.0 f.1 c.is_borne-borne.ensures (not-true _ c.if-not-borne.true-raw), i.1, i.2, i.3, omega (arith, c.loop-i-test.true), i.5, i.6, i.7)
 
 pub read_page-after-requires : goal.read_page-after-requires
-read_page-after-requires c = let s = c.loop-i in let g = c.invariant.0 in omega (arith, g.place, g.few, c.loop-i-test.true, s.invariant.2)
+read_page-after-requires c = let s = c.loop-i in let g = s.invariant.0 in omega (arith, g.place, g.few, c.loop-i-test.true, s.invariant.2)
 
 pub overflow_add-count : goal.overflow_add-count
-overflow_add-count c = let s = c.loop-i in let g = c.invariant.0 in record { fits = omega (arith, g.few, c.loop-i-test.true, s.invariant.2) }
+overflow_add-count c = let s = c.loop-i in let g = s.invariant.0 in record { fits = omega (arith, g.few, c.loop-i-test.true, s.invariant.2) }
 
 pub overflow_add-at : goal.overflow_add-at
-overflow_add-at c = let s = c.loop-i in let g = c.invariant.0 in record { fits = omega (arith, g.place, g.few, c.loop-i-test.true, s.invariant.2) }
+overflow_add-at c = let s = c.loop-i in let g = s.invariant.0 in record { fits = omega (arith, g.place, g.few, c.loop-i-test.true, s.invariant.2) }
 
 pub loop-i-smaller : goal.loop-i-smaller
 loop-i-smaller c = let s = c.loop-i in omega (arith, c.loop-i-test.true)
 
 pub loop-i-preserved : goal.loop-i-preserved
-loop-i-preserved c = let s = c.loop-i in let i = c.invariant in let f = among_first _ _ i.3 s.i c.loop-i-test.true in let p = c.read_page-after in (paging_next _ _ _ _ _ _ s.count s.at s.i _ _ i.0 f.0 f.1 c.is_borne-borne.ensures _ _ (not-false _ c.if-not-borne.false-raw) p.ensures, i.1, i.2, i.3, omega (arith, c.loop-i-test.true), p.auto.pages ∙ i.5, p.auto.ms ∙ i.6, p.auto.ss ∙ i.7)
+loop-i-preserved c = let s = c.loop-i in let i = s.invariant in let f = among_first _ _ i.3 s.i c.loop-i-test.true in let p = c.read_page-after in (paging_next _ _ _ _ _ _ s.count s.at s.i _ _ i.0 f.0 f.1 c.is_borne-borne.ensures _ _ (not-false _ c.if-not-borne.false-raw) p.ensures, i.1, i.2, i.3, omega (arith, c.loop-i-test.true), p.auto.pages ∙ i.5, p.auto.ms ∙ i.6, p.auto.ss ∙ i.7)
 
 pub shape_of-pages : goal.shape_of-pages
 shape_of-pages c = c.loop-i.invariant.5
@@ -51,4 +51,4 @@ pub shape_of-ss : goal.shape_of-ss
 shape_of-ss c = c.loop-i.invariant.7
 
 pub returns : goal.returns
-returns c = let s = c.loop-i in let i = c.invariant in let e = paging_end _ _ _ _ _ _ s.count s.at s.i i.0 (past_first _ _ i.3 s.i c.loop-i-test.false) in record { pages_after = e.0; pages_value = (e.1, omega (arith, i.0.few, i.2, i.4)) }
+returns c = let s = c.loop-i in let i = s.invariant in let e = paging_end _ _ _ _ _ _ s.count s.at s.i i.0 (past_first _ _ i.3 s.i c.loop-i-test.false) in record { pages_after = e.0; pages_value = (e.1, omega (arith, i.0.few, i.2, i.4)) }

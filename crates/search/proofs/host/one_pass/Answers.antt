@@ -9,7 +9,7 @@ pub bits-init : goal.bits-init
 bits-init c = let a = c.args in let l = attached a.t.n a.t.chips a.ms.now a.ss.now in (going_start a.want l, refl, refl)
 
 pub overflow_add-slots-in-bits : goal.overflow_add-slots-in-bits
-overflow_add-slots-in-bits c = let s = c.bits in let g = c.invariant.0 in record { fits = omega (arith, g.count, g.place) }
+overflow_add-slots-in-bits c = let s = c.bits in let g = s.invariant.0 in record { fits = omega (arith, g.count, g.place) }
 
 pub put_bit-path-requires : goal.put_bit-path-requires
 put_bit-path-requires c = let s = c.bits in (c.bits-test.true, s.invariant.0.low)
@@ -30,4 +30,4 @@ pub returns-after-bits : goal.returns-after-bits
 returns-after-bits c = let s = c.bits in (going_end _ _ _ s.k s.path s.new s.slots s.whole s.invariant.0 c.bits-test.false, search rules)
 
 pub returns-then-none : goal.returns-then-none
-returns-then-none c = let s = c.bits in let x = c.slot-a in let y = c.slot-b in (going_up _ _ _ _ _ s.k s.path s.new s.slots s.whole _ _ _ s.invariant.0 c.bits-test.true x.ensures.0 x.ensures.1 y.ensures.0 y.ensures.1 c.are_both-none.ensures c.if-none.true, (let g = c.invariant.0 in (omega (arith, g.mark_low, g.place), omega (arith, g.count, c.bits-test.true))))
+returns-then-none c = let s = c.bits in let x = c.slot-a in let y = c.slot-b in (going_up _ _ _ _ _ s.k s.path s.new s.slots s.whole _ _ _ s.invariant.0 c.bits-test.true x.ensures.0 x.ensures.1 y.ensures.0 y.ensures.1 c.are_both-none.ensures c.if-none.true, (let g = s.invariant.0 in (omega (arith, g.mark_low, g.place), omega (arith, g.count, c.bits-test.true))))

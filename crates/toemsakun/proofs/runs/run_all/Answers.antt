@@ -26,13 +26,13 @@ pub overflow_sub-left : goal.overflow_sub-left
 overflow_sub-left c = let e = c.next_count-count.ensures in let h = (count_few c.loop-left.left).1 in omega arith
 
 pub overflow_add-at : goal.overflow_add-at
-overflow_add-at c = let i = c.loop-left.invariant in let p = c.requires.slots_bound in let f = c.0 in let g = c.1 in let a = c.running.asked in omega arith
+overflow_add-at c = let i = c.loop-left.invariant in let p = c.requires.slots_bound in let f = p.0 in let g = p.1 in let a = i.running.asked in omega arith
 
 pub loop-left-smaller : goal.loop-left-smaller
 loop-left-smaller c = let e = c.next_count-count.ensures in let k = c.loop-left-test.true in let h = count_some c.loop-left.left k in omega arith
 
 pub loop-left-preserved : goal.loop-left-preserved
-loop-left-preserved c = let l = c.loop-left in let i = c.invariant in let q = c.next_count-count in let r = c.run_byte-byte in let x = get_or c.args.bits.now l.at 0 in record { running = running_next _ _ _ _ _ _ _ _ i.running x _ q.result _ c.loop-left-test.true refl q.ensures r.ensures.value r.ensures.ss_after.0; lined = r.ensures.ss_after.1.0; outside = r.ensures.ss_after.1.1; table = r.auto.table ∙ i.table; images = r.auto.ms ∙ i.images; pads = r.auto.ss ∙ i.pads }
+loop-left-preserved c = let l = c.loop-left in let i = l.invariant in let q = c.next_count-count in let r = c.run_byte-byte in let x = get_or c.args.bits.now l.at 0 in record { running = running_next _ _ _ _ _ _ _ _ i.running x _ q.result _ c.loop-left-test.true refl q.ensures r.ensures.value r.ensures.ss_after.0; lined = r.ensures.ss_after.1.0; outside = r.ensures.ss_after.1.1; table = r.auto.table ∙ i.table; images = r.auto.ms ∙ i.images; pads = r.auto.ss ∙ i.pads }
 
 pub shape_of-table : goal.shape_of-table
 shape_of-table c = c.loop-left.invariant.table
