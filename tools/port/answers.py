@@ -29,6 +29,18 @@ def index_of(tokens):
     return None, 0
 
 
+def clause_of(tokens, n):
+    """Which of n clauses, joined in pairs to the right, a path leads to, and how many steps it has."""
+    k = 0
+    while k < n - 1 and k < len(tokens) and tokens[k] == "1":
+        k += 1
+    if k == n - 1 and n > 1:
+        return k, k
+    if n > 1 and k < len(tokens) and tokens[k] == "0":
+        return k, k + 1
+    return None, 0
+
+
 def requires_of(root, crate, function):
     """The names of the requires clauses of a function of ours, in order."""
     parts = function.split(".")
@@ -53,6 +65,7 @@ class Function:
         self.at = {p[0]: i for i, p in enumerate(names["places"])}
         self.pre = requires_of(root, crate, function)
         self.said = []
+        self.named = []
 
     def parent(self, i):
         return self.at.get(self.n["places"][i][1])
@@ -91,8 +104,10 @@ class Function:
             rest = ["type_inv"] + rest[1:]
         if rest[0] in ("ensures",) and len(rest) > 1 and rest[1].isdigit():
             c = self.n["clauses"][i] or self.clauses_near(i)
-            if c and int(rest[1]) < len(c["fields"]):
-                return ["ensures", c["fields"][int(rest[1])]] + rest[2:]
+            if c:
+                k, used = clause_of(rest[1:], len(c["fields"]))
+                if k is not None:
+                    return ["ensures", c["fields"][k]] + rest[1 + used :]
         if rest[0] in ("new", "auto") and callee:
             params = self.n["params"].get(callee, [])
             k, used = index_of(rest[1:])
@@ -117,9 +132,9 @@ class Function:
             if tokens[0] == "well-formed":
                 tokens[0] = "well_formed"
             if tokens[0] == "requires" and len(tokens) > 1 and tokens[1].isdigit() and self.pre:
-                k = int(tokens[1])
-                if k < len(self.pre):
-                    tokens[1] = self.pre[k]
+                k, used = clause_of(tokens[1:], len(self.pre))
+                if k is not None:
+                    tokens = ["requires", self.pre[k]] + tokens[1 + used :]
             return "text", tokens, None
         got = self.step(i, tokens)
         if got is None:
@@ -202,8 +217,9 @@ class Function:
         if not tail:
             return "text", [], place
         if prefix == ["requires"]:
-            if tail[0].isdigit() and self.pre and int(tail[0]) < len(self.pre):
-                tail = [self.pre[int(tail[0])]] + tail[1:]
+            k, used = clause_of(tail, len(self.pre))
+            if self.pre and k is not None:
+                tail = [self.pre[k]] + tail[used:]
             return "text", tail, place
         if place is None:
             return "text", tail, place
@@ -338,9 +354,12 @@ def turn(root, names, crate, folder, function):
             elif body.strip() not in ("search rules", "search cases"):
                 f.said.append(f"{new}: not a tuple of {fields}: {body.strip()[:120]}")
         mine = [a for a in arguments if not a.startswith("κ")]
+        f.named.append((m.group(2), new))
         sep = " " if "\n" not in body else ""
         answers.append(f"pub {new} : goal.{new}\n" + "".join(u + "\n" for u in unfolding) + f"{new} {' '.join(mine)} ={sep if not body.startswith(chr(10)) else ''}{body}")
     module = f"Rattle.{crate}.proofs.{function}"
+    named = {old: new for old, new in f.named if old != new}
+    answers = [re.sub(r"(?<=[( ])[a-z][\w'-]*(?= c\b)", lambda x: named.get(x.group(), x.group()), a) for a in answers]
     os.remove(path)
     used = lambda parts: [u for u in uses if re.search(r"\{(.*)\}| as (\S+)$|([\w']+)$", u) and any(x and re.search(r"(?<![\w.'-])" + re.escape(x) + r"(?![\w'-])", "\n".join(parts)) for x in names_of(u))]
     if invariants:

@@ -21,7 +21,7 @@ pub shape_of-ss-then-p : goal.shape_of-ss-then-p
 shape_of-ss-then-p c = let s = c.loop-q in let g = s.invariant.0 in let p = c.reset-p in p.auto.ss ∙ s.invariant.2
 
 pub returns-then-p : goal.returns-then-p
-returns-then-p c = let s = c.loop-q in let g = s.invariant.0 in let p = c.reset-p in (seek_absent _ _ _ _ _ s.list s.want s.n s.resets s.slots _ g p.ensures.0 p.ensures.1 c.if-p.true, (g.stays, omega (arith, g.within, g.room)))
+returns-then-p c = let s = c.loop-q in let g = s.invariant.0 in let p = c.reset-p in record { slots_after = seek_absent _ _ _ _ _ s.list s.want s.n s.resets s.slots _ g p.ensures.0 p.ensures.1 c.if-p.true; list_unchanged = g.stays; listed_in_bounds = omega (arith, g.within, g.room) }
 
 pub overflow_add-result-then-places-n : goal.overflow_add-result-then-places-n
 overflow_add-result-then-places-n c = let s = c.loop-q in let g = s.invariant.0 in let p = c.reset-p in record { fits = omega (arith, g.resets_count, g.within, g.few) }
@@ -36,7 +36,7 @@ pub shape_of-ss-then-places-n : goal.shape_of-ss-then-places-n
 shape_of-ss-then-places-n c = let s = c.loop-q in let g = s.invariant.0 in let p = c.reset-p in p.auto.ss ∙ s.invariant.2
 
 pub returns-then-places-n : goal.returns-then-places-n
-returns-then-places-n c = let s = c.loop-q in let g = s.invariant.0 in let p = c.reset-p in (seek_none _ _ _ _ _ s.list s.want s.n s.resets s.slots _ g p.ensures.0 p.ensures.1 c.if-p.false c.if-places-n.true, (g.stays, omega (arith, g.within, g.room)))
+returns-then-places-n c = let s = c.loop-q in let g = s.invariant.0 in let p = c.reset-p in record { slots_after = seek_none _ _ _ _ _ s.list s.want s.n s.resets s.slots _ g p.ensures.0 p.ensures.1 c.if-p.false c.if-places-n.true; list_unchanged = g.stays; listed_in_bounds = omega (arith, g.within, g.room) }
 
 pub overflow_add-resets : goal.overflow_add-resets
 overflow_add-resets c = let s = c.loop-q in let g = s.invariant.0 in let p = c.reset-p in record { fits = omega (arith, g.resets_count, g.within, g.few) }
@@ -66,7 +66,7 @@ pub shape_of-ss-then-e-eq0 : goal.shape_of-ss-then-e-eq0
 shape_of-ss-then-e-eq0 c = let s = c.loop-q in let g = s.invariant.0 in let p = c.reset-p in let u = c.write_byte-u in let e = c.one_pass-e in e.auto.ss ∙ u.auto.ss ∙ p.auto.ss ∙ s.invariant.2
 
 pub returns-then-e-eq0 : goal.returns-then-e-eq0
-returns-then-e-eq0 c = let s = c.loop-q in let g = s.invariant.0 in let p = c.reset-p in let u = c.write_byte-u in let e = c.one_pass-e in (seek_last _ _ _ _ _ _ _ s.list s.want s.n s.resets s.slots p.result.value e.result.path e.result.last e.result.slots.0 e.result.whole g p.ensures.0 p.ensures.1 c.if-p.false c.if-places-n.false u.ensures e.ensures.slots_after c.if-e.true c.if-e-eq0.true, (seek_stays _ _ _ _ _ _ _ s.list s.want s.n s.resets s.slots p.result.value e.result.path e.result.last e.result.slots.0 e.result.whole g p.ensures.0 p.ensures.1 c.if-p.false c.if-places-n.false u.ensures e.ensures.slots_after c.if-e.true, simp length-set (omega (arith, g.room, c.if-places-n.false))))
+returns-then-e-eq0 c = let s = c.loop-q in let g = s.invariant.0 in let p = c.reset-p in let u = c.write_byte-u in let e = c.one_pass-e in record { slots_after = seek_last _ _ _ _ _ _ _ s.list s.want s.n s.resets s.slots p.result.value e.result.path e.result.last e.result.slots.0 e.result.whole g p.ensures.0 p.ensures.1 c.if-p.false c.if-places-n.false u.ensures e.ensures.slots_after c.if-e.true c.if-e-eq0.true; list_unchanged = seek_stays _ _ _ _ _ _ _ s.list s.want s.n s.resets s.slots p.result.value e.result.path e.result.last e.result.slots.0 e.result.whole g p.ensures.0 p.ensures.1 c.if-p.false c.if-places-n.false u.ensures e.ensures.slots_after c.if-e.true; listed_in_bounds = simp length-set (omega (arith, g.room, c.if-places-n.false)) }
 
 pub shape_of-list-then-places-n-2 : goal.shape_of-list-then-places-n-2
 shape_of-list-then-places-n-2 c = let s = c.loop-q in let g = s.invariant.0 in let p = c.reset-p in let u = c.write_byte-u in let e = c.one_pass-e in simp length-set g.long
@@ -78,7 +78,7 @@ pub shape_of-ss-then-places-n-2 : goal.shape_of-ss-then-places-n-2
 shape_of-ss-then-places-n-2 c = let s = c.loop-q in let g = s.invariant.0 in let p = c.reset-p in let u = c.write_byte-u in let e = c.one_pass-e in e.auto.ss ∙ u.auto.ss ∙ p.auto.ss ∙ s.invariant.2
 
 pub returns-then-places-n-2 : goal.returns-then-places-n-2
-returns-then-places-n-2 c = let s = c.loop-q in let g = s.invariant.0 in let p = c.reset-p in let u = c.write_byte-u in let e = c.one_pass-e in (seek_full _ _ _ _ _ _ _ s.list s.want s.n s.resets s.slots p.result.value e.result.path e.result.last e.result.slots.0 e.result.whole g p.ensures.0 p.ensures.1 c.if-p.false c.if-places-n.false u.ensures e.ensures.slots_after c.if-e.true c.if-e-eq0.false c.if-places-n-2.true, (seek_stays _ _ _ _ _ _ _ s.list s.want s.n s.resets s.slots p.result.value e.result.path e.result.last e.result.slots.0 e.result.whole g p.ensures.0 p.ensures.1 c.if-p.false c.if-places-n.false u.ensures e.ensures.slots_after c.if-e.true, simp length-set (omega (arith, g.room, c.if-places-n.false))))
+returns-then-places-n-2 c = let s = c.loop-q in let g = s.invariant.0 in let p = c.reset-p in let u = c.write_byte-u in let e = c.one_pass-e in record { slots_after = seek_full _ _ _ _ _ _ _ s.list s.want s.n s.resets s.slots p.result.value e.result.path e.result.last e.result.slots.0 e.result.whole g p.ensures.0 p.ensures.1 c.if-p.false c.if-places-n.false u.ensures e.ensures.slots_after c.if-e.true c.if-e-eq0.false c.if-places-n-2.true; list_unchanged = seek_stays _ _ _ _ _ _ _ s.list s.want s.n s.resets s.slots p.result.value e.result.path e.result.last e.result.slots.0 e.result.whole g p.ensures.0 p.ensures.1 c.if-p.false c.if-places-n.false u.ensures e.ensures.slots_after c.if-e.true; listed_in_bounds = simp length-set (omega (arith, g.room, c.if-places-n.false)) }
 
 pub loop-q-smaller : goal.loop-q-smaller
 loop-q-smaller c = let s = c.loop-q in let g = s.invariant.0 in let p = c.reset-p in omega (arith, g.few, c.if-places-n.false)
@@ -96,4 +96,4 @@ pub shape_of-ss-else-e : goal.shape_of-ss-else-e
 shape_of-ss-else-e c = let s = c.loop-q in let g = s.invariant.0 in let p = c.reset-p in let u = c.write_byte-u in let e = c.one_pass-e in e.auto.ss ∙ u.auto.ss ∙ p.auto.ss ∙ s.invariant.2
 
 pub returns-else-e : goal.returns-else-e
-returns-else-e c = let s = c.loop-q in let g = s.invariant.0 in let p = c.reset-p in let u = c.write_byte-u in let e = c.one_pass-e in (seek_up _ _ _ _ _ _ _ s.list s.want s.n s.resets s.slots p.result.value e.result.path e.result.last e.result.slots.0 e.result.whole g p.ensures.0 p.ensures.1 c.if-p.false c.if-places-n.false u.ensures e.ensures.slots_after c.if-e.false, (g.stays, omega (arith, g.within, g.room)))
+returns-else-e c = let s = c.loop-q in let g = s.invariant.0 in let p = c.reset-p in let u = c.write_byte-u in let e = c.one_pass-e in record { slots_after = seek_up _ _ _ _ _ _ _ s.list s.want s.n s.resets s.slots p.result.value e.result.path e.result.last e.result.slots.0 e.result.whole g p.ensures.0 p.ensures.1 c.if-p.false c.if-places-n.false u.ensures e.ensures.slots_after c.if-e.false; list_unchanged = g.stays; listed_in_bounds = omega (arith, g.within, g.room) }

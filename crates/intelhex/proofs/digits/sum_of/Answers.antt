@@ -8,7 +8,7 @@ unfolding sum_of
 loop-i-init c = (search rules, search rules, search rules)
 
 pub loop-i-preserved : goal.loop-i-preserved
-loop-i-preserved c = let l = c.loop-i in (search rules, search rules, sum_next _ l.sum l.i _ (search rules) l.invariant.2 c.wrapping_add_u8-sum.ensures)
+loop-i-preserved c = let l = c.loop-i in (search rules, search rules, sum_next _ l.sum l.i _ (search rules) l.invariant.2 c.wrapping_add_u8-sum.ensures.value)
 
 pub returns : goal.returns
 returns c = let l = c.loop-i in sum_end _ l.sum l.i (search rules) l.invariant.2 l.invariant.1

@@ -24,10 +24,10 @@ pub bits-smaller : goal.bits-smaller
 bits-smaller c = omega (arith, c.bits-test.true)
 
 pub bits-preserved : goal.bits-preserved
-bits-preserved c = let s = c.bits in let x = c.slot-a in let y = c.slot-b in let z = c.slot-w in (going_next _ _ _ _ _ _ s.k s.path s.new s.slots s.whole _ _ _ _ _ _ _ s.invariant.0 c.bits-test.true x.ensures.0 x.ensures.1 y.ensures.0 y.ensures.1 c.are_both-none.ensures c.if-none.false c.bit_of-wanted.ensures c.turn_of-d.ensures z.ensures.1 c.put_bit-path.ensures c.mark_of-last.ensures, z.auto.ms ∙ y.auto.ms ∙ x.auto.ms ∙ s.invariant.1, z.auto.ss ∙ y.auto.ss ∙ x.auto.ss ∙ s.invariant.2)
+bits-preserved c = let s = c.bits in let x = c.slot-a in let y = c.slot-b in let z = c.slot-w in (going_next _ _ _ _ _ _ s.k s.path s.last s.slots s.whole _ _ _ _ _ _ _ s.invariant.0 c.bits-test.true x.ensures.0 x.ensures.1 y.ensures.0 y.ensures.1 c.are_both-none.ensures c.if-none.false c.bit_of-wanted.ensures c.turn_of-d.ensures z.ensures.1 c.put_bit-path.ensures c.mark_of-last.ensures, z.auto.ms ∙ y.auto.ms ∙ x.auto.ms ∙ s.invariant.1, z.auto.ss ∙ y.auto.ss ∙ x.auto.ss ∙ s.invariant.2)
 
 pub returns-after-bits : goal.returns-after-bits
-returns-after-bits c = let s = c.bits in (going_end _ _ _ s.k s.path s.new s.slots s.whole s.invariant.0 c.bits-test.false, search rules)
+returns-after-bits c = let s = c.bits in record { slots_after = going_end _ _ _ s.k s.path s.last s.slots s.whole s.invariant.0 c.bits-test.false; last_bound = search rules }
 
 pub returns-then-none : goal.returns-then-none
-returns-then-none c = let s = c.bits in let x = c.slot-a in let y = c.slot-b in (going_up _ _ _ _ _ s.k s.path s.new s.slots s.whole _ _ _ s.invariant.0 c.bits-test.true x.ensures.0 x.ensures.1 y.ensures.0 y.ensures.1 c.are_both-none.ensures c.if-none.true, (let g = s.invariant.0 in (omega (arith, g.mark_low, g.place), omega (arith, g.count, c.bits-test.true))))
+returns-then-none c = let s = c.bits in let x = c.slot-a in let y = c.slot-b in record { slots_after = going_up _ _ _ _ _ s.k s.path s.last s.slots s.whole _ _ _ s.invariant.0 c.bits-test.true x.ensures.0 x.ensures.1 y.ensures.0 y.ensures.1 c.are_both-none.ensures c.if-none.true; last_bound = (let g = s.invariant.0 in (omega (arith, g.mark_low, g.place), omega (arith, g.count, c.bits-test.true))) }

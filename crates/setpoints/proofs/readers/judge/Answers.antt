@@ -6,7 +6,7 @@ overflow_mul-result c = tenfold_fits _ _ _ c.in-Degrees.is c.is_allowed.ensures 
 
 pub returns-in-Degrees : goal.returns-in-Degrees
 returns-in-Degrees c =
-    judged_degrees _ _ _ c.ranges.v c.is_allowed.ensures c.in-Degrees.is c.if-is_allowed.true (mul-t5 c)
+    judged_degrees _ _ _ c.ranges.v c.is_allowed.ensures c.in-Degrees.is c.if-is_allowed.true (overflow_mul-result c)
 
 pub returns-in-Tenths : goal.returns-in-Tenths
 returns-in-Tenths c =

@@ -10,4 +10,4 @@ pub overflow_sub-result : goal.overflow_sub-result
 overflow_sub-result c = word_less_fits c.args.b 255 (search rules) (omega arith)
 
 pub returns : goal.returns
-returns c = from_middle 1 c.args.b (search rules) (search rules) (sub-result c)
+returns c = from_middle 1 c.args.b (search rules) (search rules) (overflow_sub-result c)

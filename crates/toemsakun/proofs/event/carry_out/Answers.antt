@@ -24,7 +24,7 @@ pub returns-in-Refused : goal.returns-in-Refused
 returns-in-Refused c = let a = c.args in let q = c.in-Refused.is in none_done a.table.now a.e a.ms.now a.ss.now a.plan c.requires _ (ap happens_by q) (sym (ap (λ (k : Plan). answer_for k true) q))
 
 pub returns-in-Slot : goal.returns-in-Slot
-returns-in-Slot c = let a = c.args in let r = c.put_slot in ap (λ (x : Answered). event_left (answer_number x) r.new.table r.new.ms r.new.ss) r.ensures.result_value ∙ slot_done a.table.now a.e a.ms.now a.ss.now _ (sym c.in-Slot.is ∙ c.requires) _ _ _ _ refl r.ensures.ss_after.0 r.ensures.ss_after.1
+returns-in-Slot c = let a = c.args in let r = c.put_slot in ap (λ (x : Answered). event_left (answer_number x) r.new.table r.new.ms r.new.ss) r.ensures.result_value ∙ slot_done a.table.now a.e a.ms.now a.ss.now _ (sym c.in-Slot.is ∙ c.requires) _ _ _ _ refl r.ensures.ss_after r.ensures.lined
 
 pub returns-in-Reset : goal.returns-in-Reset
 returns-in-Reset c = let a = c.args in c.play.ensures ∙ any_done a.table.now a.e a.ms.now a.ss.now a.plan c.requires (ap happens_by c.in-Reset.is)

@@ -32,7 +32,7 @@ pub loop-left-smaller : goal.loop-left-smaller
 loop-left-smaller c = let e = c.next_count-count.ensures in let k = c.loop-left-test.true in let h = count_some c.loop-left.left k in omega arith
 
 pub loop-left-preserved : goal.loop-left-preserved
-loop-left-preserved c = let l = c.loop-left in let i = l.invariant in let q = c.next_count-count in let r = c.run_byte-byte in let x = get_or c.args.bits.now l.at 0 in record { running = running_next _ _ _ _ _ _ _ _ i.running x _ q.result _ c.loop-left-test.true refl q.ensures r.ensures.value r.ensures.ss_after.0; lined = r.ensures.ss_after.1.0; outside = r.ensures.ss_after.1.1; table = r.auto.table ∙ i.table; images = r.auto.ms ∙ i.images; pads = r.auto.ss ∙ i.pads }
+loop-left-preserved c = let l = c.loop-left in let i = l.invariant in let q = c.next_count-count in let r = c.run_byte-byte in let x = get_or c.args.bits.now l.at 0 in record { running = running_next _ _ _ _ _ _ _ _ i.running x _ q.result _ c.loop-left-test.true refl q.ensures r.ensures.value r.ensures.ss_after; lined = r.ensures.lined_2.0; outside = r.ensures.lined_2.1; table = r.auto.table ∙ i.table; images = r.auto.ms ∙ i.images; pads = r.auto.ss ∙ i.pads }
 
 pub shape_of-table : goal.shape_of-table
 shape_of-table c = c.loop-left.invariant.table

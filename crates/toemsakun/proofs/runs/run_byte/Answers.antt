@@ -18,7 +18,7 @@ pub overflow_mul-worth : goal.overflow_mul-worth
 overflow_mul-worth c = let i = c.loop-i.invariant in let w = byte_worth _ _ _ _ _ _ _ _ i.byte c.loop-i-test.true in omega arith
 
 pub loop-i-preserved : goal.loop-i-preserved
-loop-i-preserved c = let l = c.loop-i in let i = l.invariant in let s = c.slot-value in record { byte = byte_next _ _ _ _ _ _ _ _ i.byte (eqb (l.host % 2) 1) s.result _ _ c.loop-i-test.true refl s.ensures.value c.with_bit-more.ensures s.ensures.ss_after.0; lined = s.ensures.ss_after.1.0; outside = s.ensures.ss_after.1.1; table = s.auto.table ∙ i.table; images = s.auto.ms ∙ i.images; pads = s.auto.ss ∙ i.pads }
+loop-i-preserved c = let l = c.loop-i in let i = l.invariant in let s = c.slot-value in record { byte = byte_next _ _ _ _ _ _ _ _ i.byte (eqb (l.host % 2) 1) s.result _ _ c.loop-i-test.true refl s.ensures.value c.with_bit-more.ensures s.ensures.ss_after; lined = s.ensures.lined.0; outside = s.ensures.lined.1; table = s.auto.table ∙ i.table; images = s.auto.ms ∙ i.images; pads = s.auto.ss ∙ i.pads }
 
 pub overflow_cast-result : goal.overflow_cast-result
 overflow_cast-result c = let i = c.loop-i.invariant in let h = (byte_end _ _ _ _ _ _ _ _ i.byte c.loop-i-test.false).2 in omega arith
