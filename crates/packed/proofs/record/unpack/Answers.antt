@@ -1,6 +1,7 @@
-use mathlib.Core.Path.{◌∙◌}
+use Rattle.std.proofs.Common.{◌∙◌, length}
+use Rattle.std.proofs.Math.Seq.{take-length}
 use Rattle.packed.specs.Puts.{zeros_unpacked}
 use Rattle.packed.proofs.record.unpack.Goals as goal
 
 pub returns : goal.returns
-returns c = c.unpack_whole-2.ensures ∙ zeros_unpacked _ _ c.before.before.before.copy.ensures.1
+returns c = c.unpack_whole-2.ensures ∙ zeros_unpacked _ _ (cc (take-length c.args.s.now, c.copy_from_slice.ensures.after))

@@ -1,3 +1,4 @@
+use borrow.Enum.Refused.{opened}
 use native.Mathlib.Omega.{arith}
 use Prim.Native.Nat.{ℕ, ◌-◌}
 use mathlib.Core.List.{[], ◌∷◌}
@@ -26,10 +27,10 @@ pub returns-then-starts_event : goal.returns-then-starts_event
 returns-then-starts_event c = taking_event _ _ _ _ _ c.loop-table.invariant _ c.starts_event.ensures c.if-starts_event.true
 
 pub returns-in_default : goal.returns-in_default
-returns-in_default c = taking_stopped _ _ _ _ _ c.loop-table.invariant _ c.starts_event.ensures c.if-starts_event.false _ c.room_for.ensures _ c.record_at-found.ensures _ _ (no_record _ c.in_default.in_default-own.keys2) c.stopped_by.ensures c.table_by.ensures
+returns-in_default c = taking_stopped _ _ _ _ _ c.loop-table.invariant _ c.starts_event.ensures c.if-starts_event.false _ c.room_for.ensures _ c.record_at-found.ensures _ _ (no_record _ (opened c.in_default.in_default-own.keys2)) c.stopped_by.ensures c.table_by.ensures
 
 pub returns-in_default-taken : goal.returns-in_default-taken
-returns-in_default-taken c = taking_other _ _ _ _ _ c.loop-table.invariant _ c.starts_event.ensures c.if-starts_event.false _ c.room_for.ensures _ c.record_at-found.ensures _ _ c.in-Record.is (no-chip _ c.in_default-taken.in_default-taken-own.keys2)
+returns-in_default-taken c = taking_other _ _ _ _ _ c.loop-table.invariant _ c.starts_event.ensures c.if-starts_event.false _ c.room_for.ensures _ c.record_at-found.ensures _ _ c.in-Record.is (no-chip _ (opened c.in_default-taken.in_default-taken-own.keys2))
 
 pub loop-table-smaller : goal.loop-table-smaller
 loop-table-smaller c = taking_less _ _ _ _ _ c.loop-table.invariant _ c.starts_event.ensures c.if-starts_event.false _ c.room_for.ensures _ c.record_at-found.ensures _ _ c.in-Record.is

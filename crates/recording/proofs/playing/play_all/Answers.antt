@@ -1,3 +1,4 @@
+use borrow.Enum.Refused.{opened}
 use Rattle.std.proofs.Common.{arith}
 use borrow.Author.Rules.{rules}
 use mathlib.Core.Path.{◌≡◌, ◌∙◌, ap, sym}
@@ -21,7 +22,7 @@ pub shape_of-ss-in_default : goal.shape_of-ss-in_default
 shape_of-ss-in_default c = c.loop-taken.invariant.pads
 
 pub returns-in_default : goal.returns-in_default
-returns-in_default c = underway_stopped _ _ _ _ _ _ _ _ _ _ c.loop-taken.invariant _ c.room_for-room.ensures _ c.record_at-found.ensures _ (no_record _ c.in_default.in_default-own.keys2) c.stopped_by.ensures
+returns-in_default c = underway_stopped _ _ _ _ _ _ _ _ _ _ c.loop-taken.invariant _ c.room_for-room.ensures _ c.record_at-found.ensures _ (no_record _ (opened c.in_default.in_default-own.keys2)) c.stopped_by.ensures
 
 pub slice_bounds-with_next_runs-end : goal.slice_bounds-with_next_runs-end
 slice_bounds-with_next_runs-end c = sym c.loop-taken.invariant.held
