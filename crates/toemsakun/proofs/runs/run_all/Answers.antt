@@ -17,7 +17,7 @@ pub narrow-g-requires : goal.narrow-g-requires
 narrow-g-requires c = let i = c.loop-left.invariant in (i.lined.table, i.outside)
 
 pub run_byte-byte-requires : goal.run_byte-byte-requires
-run_byte-byte-requires c = let i = c.loop-left.invariant in ((i.lined, c.narrow-g.ensures), let e = c.next_count-count.ensures in let h = (count_few c.loop-left.left).0 in omega arith)
+run_byte-byte-requires c = let i = c.loop-left.invariant in record { lined = (i.lined, c.narrow-g.ensures); count_bound = let e = c.next_count-count.ensures in let h = (count_few c.loop-left.left).0 in omega arith }
 
 pub bounds-answers-at : goal.bounds-answers-at
 bounds-answers-at c = let i = c.loop-left.invariant in (running_at _ _ _ _ _ _ _ _ i.running c.loop-left-test.true).1

@@ -7,7 +7,7 @@ pub run_all-requires : goal.run_all-requires
 run_all-requires c = let a = c.args in let e = sym c.in-Well.is ∙ c.requires in let w = well_fits a.table.now a.bits.now a.answers.now a.slots a.ms.now a.ss.now e in record { lined = well_lined a.table.now a.bits.now a.answers.now a.slots a.ms.now a.ss.now e; slots_bound = (w.few, w.bits_size, w.answers_size) }
 
 pub returns-in-Well : goal.returns-in-Well
-returns-in-Well c = let a = c.args in let e = sym c.in-Well.is ∙ c.requires in let r = c.run_all in (run_put a.table.now a.bits.now a.answers.now a.slots a.ms.now a.ss.now e _ _ _ _ r.ensures.answers_after r.ensures.ss_after r.ensures.lined_2, (well_fits a.table.now a.bits.now a.answers.now a.slots a.ms.now a.ss.now e).few)
+returns-in-Well c = let a = c.args in let e = sym c.in-Well.is ∙ c.requires in let r = c.run_all in record { ss_after = run_put a.table.now a.bits.now a.answers.now a.slots a.ms.now a.ss.now e _ _ _ _ r.ensures.answers_after r.ensures.ss_after r.ensures.lined_2; most = (well_fits a.table.now a.bits.now a.answers.now a.slots a.ms.now a.ss.now e).few }
 
 pub returns-in-Refused : goal.returns-in-Refused
-returns-in-Refused c = let a = c.args in (run_refused a.table.now a.bits.now a.answers.now a.slots a.ms.now a.ss.now _ (sym c.in-Refused.is ∙ c.requires), omega arith)
+returns-in-Refused c = let a = c.args in record { ss_after = run_refused a.table.now a.bits.now a.answers.now a.slots a.ms.now a.ss.now _ (sym c.in-Refused.is ∙ c.requires); most = omega arith }
