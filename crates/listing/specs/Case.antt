@@ -84,9 +84,18 @@ doubled_codes : Codes (codes_of (line_from doubled))
 unfolding set_up_chip both pick
 doubled_codes = all-below _ _ refl
 
+-- the codes of either table, in branch order
+doubled_order : branch_order 64 0 (0xAF ∷ 0x88 ∷ 0x55 ∷ 0xAC ∷ 0x88 ∷ []) ≡ 0x88 ∷ 0xAC ∷ 0x55 ∷ 0xAF ∷ []
+unfolding branch_order branch bit_of same pick
+doubled_order = refl
+
+fresh_order : branch_order 64 0 (0xAC ∷ 0x55 ∷ 0xAF ∷ 0x88 ∷ []) ≡ 0x88 ∷ 0xAC ∷ 0x55 ∷ 0xAF ∷ []
+unfolding branch_order branch bit_of same pick
+fresh_order = refl
+
 same_codes : SameMembers (codes_of (line_from doubled)) (codes_of (line_from fresh))
-unfolding branch_order branch bit_of same pick set_up_chip
-same_codes = same_in_order (codes_of (line_from doubled)) (codes_of (line_from fresh)) doubled_codes fresh_codes refl
+unfolding set_up_chip
+same_codes = same_in_order (codes_of (line_from doubled)) (codes_of (line_from fresh)) doubled_codes fresh_codes (doubled_order ∙ sym fresh_order)
 
 -- both tables stand well
 fresh_stands : Stands fresh

@@ -101,8 +101,18 @@ nothing_sends_1 w n = level_silent w w.chip.level n
 
 level_moves : (w : Whole) (l : Level) → Sending l → level_takes w true l ≡ level_takes w false l
 unfolding rom_slot search_bit memory_slot switch_slot pick
+level_moves w Waiting h = elim h [ ]
+level_moves w (Rom (Command _ _)) h = elim h [ ]
+level_moves w (Rom (Match _)) h = elim h [ ]
 level_moves w (Rom (Read place)) h = refl
 level_moves w (Rom (Search place step)) h = rw h
+level_moves w (FunctionCommand _ _) h = elim h [ ]
+level_moves w (Memory (memory.WriteAddress _ _)) h = elim h [ ]
+level_moves w (Memory (memory.WriteData _ _ _ _)) h = elim h [ ]
+level_moves w (Memory (memory.CopyAddress _ _)) h = elim h [ ]
+level_moves w (Memory (memory.CopyEnd _ _ _)) h = elim h [ ]
+level_moves w (Memory (memory.ReadAddress _ _)) h = elim h [ ]
+level_moves w (Pio (pio.Take _ _)) h = elim h [ ]
 level_moves w (Memory memory.Ones) h = refl
 level_moves w (Memory (memory.SendCrc place crc)) h = refl
 level_moves w (Memory (memory.ReadRegisters place)) h = refl
