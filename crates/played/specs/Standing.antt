@@ -95,7 +95,7 @@ unfolding cards_from
 cards_from_keep zero more s at t g = g
 cards_from_keep (suc k) more s at t g =
     pick_both (λ (r : CardsRead). CardTable r.table) (starts_event s at) _ _ g
-    (on_found _ at t g (λ next u h. cards_from_keep k more s next u h) (found_at s at (room_for t.n) false more) (found_fits s at (room_for t.n) false more))
+    (on_found (λ (next : ℕ) (u : Table). cards_from k more s next u) at t g (λ next u h. cards_from_keep k more s next u h) (found_at s at (room_for t.n) false more) (found_fits s at (room_for t.n) false more))
 
 pub cards_keep : (more : Bool) (s : List ℕ) (t : Table) → CardTable t → CardTable (cards_of more s t).table
 unfolding cards_of

@@ -85,7 +85,7 @@ module _ (more : Bool) (s : List ℕ) (P : Ends → ℕ → Type 0) (stops : (at
     cards-from (suc k) at t h a =
         let room = room_for t.n in
         pick_both (λ (c : CardsRead). P (card_ends c.ending) c.at) (starts_event s at) _ _ (begins at h)
-        (cards-on at t _ h (λ next u p q. cards-from k next u q (omega arith)) (found_at s at room false more) (found_sound s at room false more) (stops at room false h))
+        (cards-on at t (λ (next : ℕ) (u : Table). cards_from k more s next u) h (λ next u p q. cards-from k next u q (omega arith)) (found_at s at room false more) (found_sound s at room false more) (stops at room false h))
 
     pub cards_stop : (t : Table) → P (card_ends (cards_of more s t).ending) (cards_of more s t).at
     unfolding cards_of

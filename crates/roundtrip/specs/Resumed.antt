@@ -58,7 +58,7 @@ module _ (s : List ℕ) where
   standing_awaits Nothing h = subst (λ (e : Ending). Awaits s (stop e)) (sym (pick_true _ _ _ refl)) h
   standing_awaits Unended h = subst (λ (e : Ending). Awaits s (stop e)) (sym (pick_true _ _ _ refl)) h
   standing_awaits Endless h = tt
-  standing_awaits (Line n size) h = form_awaits size _ (form_of _)
+  standing_awaits (Line n size) h = form_awaits size (take n s) (form_of _)
 
   awaits : (over : Bool) → Awaits s (next over true s)
   unfolding next next_after

@@ -22,7 +22,7 @@ unfolding lines_from
 lines_fuel zero j more over text a b = absurd (omega arith)
 lines_fuel (suc k) zero more over text a b = absurd (omega arith)
 lines_fuel (suc k) (suc j) more over text a b =
-    on_alike _ _ over text (next over more text) (next_lies text over more)
+    on_alike (λ (o : Bool) (t : List ℕ). lines_from k more o t) (λ (o : Bool) (t : List ℕ). lines_from j more o t) over text (next over more text) (next_lies text over more)
     (λ o size h l. let d = length-drop size text in lines_fuel k j more o (drop size text) (omega arith) (omega arith))
 
 -- ---- the first line, and all behind it
@@ -30,7 +30,7 @@ module _ (more over : Bool) (text : List ℕ) where
   by_next : (x : Next) → next over more text ≡ x → lines_of more over text ≡ on_next (λ o t. lines_of more o t) over text x
   unfolding lines_of lines_from
   by_next x e =
-      on_alike _ _ over text (next over more text) (next_lies text over more)
+      on_alike (λ (o : Bool) (t : List ℕ). lines_from (length text) more o t) (λ (o : Bool) (t : List ℕ). lines_from (suc (length t)) more o t) over text (next over more text) (next_lies text over more)
       (λ o size h l. let d = length-drop size text in lines_fuel (length text) (suc (length (drop size text))) more o (drop size text) (omega arith) (omega arith))
       ∙ ap (on_next (λ o t. lines_from (suc (length t)) more o t) over text) e
 
