@@ -1,0 +1,18 @@
+use Rattle.std.proofs.Common.{rules, ◌∙◌, sym, ap, length}
+use native.Mathlib.Nat.{sub-zero}
+use Rattle.line.specs.Carrier.{over, survey_chip, over_more, over_done}
+use Rattle.lent.proofs.survey_table.Goals as goal
+
+pub loop-i-init : goal.loop-i-init
+loop-i-init c = (search rules, simp sub-zero)
+
+pub loop-i-preserved : goal.loop-i-preserved
+loop-i-preserved c =
+    let l = c.loop-i in
+    (search rules, sym (over_more _ _ _ _ _ _ c.loop-i-test.true c.survey_chip-survey.ensures) ∙ l.invariant.1)
+
+pub returns : goal.returns
+returns c =
+    let a = c.args in
+    sym (over_done _ _ _ _ _ c.loop-i-test.false) ∙ c.loop-i.invariant.1
+    ∙ (λ j. over (survey_chip a.chip) (length a.table.now) 0 a.table.now (c.first_survey-survey.ensures j))
