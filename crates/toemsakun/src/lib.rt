@@ -1,4 +1,4 @@
-// The line as a library for C: include/toemsakun.h has the promises.
+// The line as C sees it: include/toemsakun.h has the promises, and `toemsakun_c` makes the static library.
 #![tactic(auto)]
 
 mod answers;
@@ -33,8 +33,7 @@ fn unpack(table: &[u8]) -> Table
 }
 
 // The bytes of a table of so many chips, of at most 16.
-#[unsafe(no_mangle)]
-pub extern "C" fn tk_table_size(chips: usize) -> usize
+pub fn tk_table_size(chips: usize) -> usize
     ensures { result ≡ table_size chips }
 {
     let n = line::used_places(chips);
@@ -42,8 +41,7 @@ pub extern "C" fn tk_table_size(chips: usize) -> usize
 }
 
 // The bytes of images to lend with a table.
-#[unsafe(no_mangle)]
-pub extern "C" fn tk_images_size(table: &[u8]) -> usize
+pub fn tk_images_size(table: &[u8]) -> usize
     ensures value { result ≡ images_bytes table.now }
     ensures most { result ≤ images_most }
 {
@@ -52,8 +50,7 @@ pub extern "C" fn tk_images_size(table: &[u8]) -> usize
 }
 
 // The bytes of scratchpads to lend with a table.
-#[unsafe(no_mangle)]
-pub extern "C" fn tk_pads_size(table: &[u8]) -> usize
+pub fn tk_pads_size(table: &[u8]) -> usize
     ensures value { result ≡ pads_bytes table.now }
     ensures most { result ≤ pads_most }
 {
@@ -62,8 +59,7 @@ pub extern "C" fn tk_pads_size(table: &[u8]) -> usize
 }
 
 // Set-up from a card.
-#[unsafe(no_mangle)]
-pub extern "C" fn tk_card(card: &[u8], table: &mut [u8], offset: &mut usize) -> i32
+pub fn tk_card(card: &[u8], table: &mut [u8], offset: &mut usize) -> i32
     ensures { card_left result table.new offset.new ≡ card_bytes card.now table.old }
 {
     let none = line::tables::blank(0);
@@ -76,8 +72,7 @@ pub extern "C" fn tk_card(card: &[u8], table: &mut [u8], offset: &mut usize) -> 
 }
 
 // One event.
-#[unsafe(no_mangle)]
-pub extern "C" fn tk_event(
+pub fn tk_event(
     table: &mut [u8],
     event: u32,
     chip: u32,
@@ -94,8 +89,7 @@ pub extern "C" fn tk_event(
 }
 
 // A run of slots.
-#[unsafe(no_mangle)]
-pub extern "C" fn tk_slots(
+pub fn tk_slots(
     table: &mut [u8],
     bits: &[u8],
     answers: &mut [u8],
@@ -111,8 +105,7 @@ pub extern "C" fn tk_slots(
 }
 
 // Search.
-#[unsafe(no_mangle)]
-pub extern "C" fn tk_search(
+pub fn tk_search(
     table: &mut [u8],
     list: &mut [u64],
     images: &mut [u8],
