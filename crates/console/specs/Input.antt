@@ -1,7 +1,11 @@
 -- The input at hand: bytes that were read and not taken yet, at the start of a buffer.
-use Rattle.std.specs.Prelude.{ℕ, ◌-◌, min, true, false, List, ◌++◌, length, take, drop}
+use Rattle.std.specs.Prelude.{ℕ, ◌-◌, ◌≤◌, ◌≡◌, min, true, false, List, ◌++◌, length, take, drop}
 use Rattle.console.specs.declared.input.Hand.{Hand}
 use Rattle.console.specs.Counting.{counted_on}
+
+-- `&bytes[..n]` is within the bytes, and has n of them
+abbrev pub IsPrefixLen : ℕ → List ℕ → Type 0
+IsPrefixLen n bytes = (n ≤ length bytes) × (n ≡ length (take n bytes))
 
 -- nothing yet: no byte, at the beginning, and more may come
 abbrev pub nothing_yet : Hand

@@ -1,7 +1,8 @@
 // What is at hand of an input: the bytes that were read and not taken yet, at the start of a buffer.
 ghost use Rattle.std.specs.Prelude.{◌≡◌, ◌-◌, ◌≤◌, min, length};
-ghost use Rattle.io.specs.Counts.{IsPrefixLen};
-ghost use Rattle.console.specs.Input.{nothing_yet, moved_down, holding, taken_of};
+ghost use Rattle.console.specs.Input.{IsPrefixLen, nothing_yet, moved_down, holding, taken_of};
+
+use std::io::{Read, Stderr};
 
 // So many bytes, the offset of the first of them in the input, whether more may come, and whether a read failed.
 #[derive(Clone, Copy)]
@@ -32,30 +33,44 @@ pub fn within(n: usize, bytes: &[u8]) -> usize
     if n <= bytes.len() { n } else { bytes.len() }
 }
 
-// What is at hand after one read more of a file that is open. It waits for input where there is none yet; a full buffer takes nothing, as at
-// the end of the file. A read that fails is told by the file's name and the system's words.
-pub fn fetch(h: Hand, fd: i32, name: &[u8], bytes: &mut [u8]) -> Hand {
+// What is at hand after one read more of an input. It waits for input where there is none yet; a full buffer takes nothing, as at the end of
+// the input. A read that fails is told by the input's name and the system's words.
+pub fn fetch<R: Read>(
+    h: Hand,
+    input: &mut R,
+    errors: Stderr,
+    name: &[u8],
+    bytes: &mut [u8],
+) -> Hand {
     let held = within(h.bytes, bytes);
-    let got = libc::read(fd, &mut bytes[held..]);
-    let failed = got < 0;
-    if failed {
-        os::fail(name);
-    }
-    let n = io::count(got, &bytes[held..]);
-    Hand {
-        bytes: held + n,
-        offset: h.offset,
-        more: 0 < n,
-        failed: failed,
+    match input.read(&mut bytes[held..]) {
+        Ok(got) => {
+            let n = within(got, &bytes[held..]);
+            Hand {
+                bytes: held + n,
+                offset: h.offset,
+                more: 0 < n,
+                failed: false,
+            }
+        }
+        Err(why) => {
+            crate::tell_failed(errors, name, why);
+            Hand {
+                bytes: held,
+                offset: h.offset,
+                more: false,
+                failed: true,
+            }
+        }
     }
 }
 
 // What is at hand after reads until the buffer is full, the input ends or a read fails.
-pub fn fill(fd: i32, name: &[u8], bytes: &mut [u8]) -> Hand {
+pub fn fill<R: Read>(input: &mut R, errors: Stderr, name: &[u8], bytes: &mut [u8]) -> Hand {
     let mut h = nothing();
     let mut turns = u64::MAX;
     while 0 < turns {
-        h = fetch(h, fd, name, bytes);
+        h = fetch(h, input, errors, name, bytes);
         turns = crate::turns_left(turns, base::are_both(h.more, h.bytes < bytes.len()));
     }
     h

@@ -1,5 +1,5 @@
-// What a program uses at a terminal, whatever it is about: the turns of a loop that waits for input, counts that do not wrap, room for an
-// argument, and what is written on standard output.
+// What a program uses at a terminal, whatever it is about: the turns of a loop that waits for input, counts that do not wrap, its arguments and
+// room for one, and what is written on standard output and told on standard error.
 #![tactic(auto)]
 
 pub mod input;
@@ -8,8 +8,13 @@ ghost use Rattle.std.specs.Prelude.{◌≡◌, ◌-◌, ◌≤◌, length, repli
 ghost use Rattle.base.specs.Pick.{pick};
 ghost use Rattle.console.specs.Counting.{counted_on};
 ghost use Rattle.console.specs.Room.{argument_most};
+ghost use Rattle.console.specs.Input.{IsPrefixLen};
 
-use libc::STDOUT_FILENO;
+use std::env::FillError;
+use std::fs::File;
+use std::io::{Cursor, Stderr, Stdout, Write};
+use std::rt::{Env, Files};
+use std::{io, str};
 
 // The turns that are left after one: none where it was the last. A proved loop has to end, so a program that serves until its
 // input ends counts its turns down from a number that no run uses up.
@@ -49,32 +54,120 @@ pub fn argument_room() -> [u8; ARGUMENT_MOST]
     [0; ARGUMENT_MOST]
 }
 
-// Whether bytes could be written on standard output; if not, that is told in the system's words.
-pub fn is_written(bytes: &[u8]) -> bool {
-    let done = io::write_all(STDOUT_FILENO, bytes);
-    if !done {
-        os::fail(b"standard output");
+// How many arguments the program was started with, its own name among them.
+pub fn argument_count<E: Env>(env: &E) -> usize {
+    for n in 0..usize::MAX {
+        if !is_argument(env, n) {
+            return n;
+        }
     }
-    done
+    usize::MAX
+}
+
+// Whether there is an argument of that number.
+fn is_argument<E: Env>(env: &E, at: usize) -> bool {
+    let mut none = [0u8; 0];
+    match env.arg(at, &mut none) {
+        Ok(_) => true,
+        Err(FillError::TooLong) => true,
+        Err(FillError::NotPresent) => false,
+    }
+}
+
+// Puts an argument at the start of a buffer; how many bytes it has. One that is missing or longer than the buffer has none.
+pub fn argument<E: Env>(env: &E, at: usize, bytes: &mut [u8]) -> usize
+    ensures { IsPrefixLen result bytes.new }
+{
+    match env.arg(at, bytes) {
+        Ok(n) => input::within(n, bytes),
+        Err(_) => 0,
+    }
+}
+
+// Where a program writes: standard output, and standard error for what it tells.
+#[derive(Clone, Copy)]
+pub struct Outputs {
+    pub out: Stdout,
+    pub errors: Stderr,
+}
+
+// Tells words on standard error. There is no place to tell what cannot be written there.
+pub fn tell(errors: Stderr, words: &[u8]) {
+    let _ = Print::write_all(&errors, words);
+}
+
+// Tells a number, in decimal digits.
+pub fn tell_number(errors: Stderr, n: u64) {
+    let _ = errors.print(n);
+}
+
+// The system's words in a text that ends with the number of an error.
+fn words_in(text: &str) -> &str {
+    match text.split_once(" (os error ") {
+        Some((words, _)) => words,
+        None => text,
+    }
+}
+
+// Tells what failed, by its name and the system's words.
+pub fn tell_failed(errors: Stderr, name: &[u8], why: io::Error) {
+    let mut room = Cursor::new([0u8; 512]);
+    let _ = write!(room, "{why}");
+    let place = room.position() as usize;
+    let text = room.into_inner();
+    let n = input::within(place, &text);
+    tell(errors, name);
+    tell(errors, b": ");
+    match str::from_utf8(&text[..n]) {
+        Ok(words) => tell(errors, words_in(words).as_bytes()),
+        Err(_) => {}
+    }
+    tell(errors, b"\n");
+}
+
+// The system's number for bytes that are no text.
+const NO_TEXT: i32 = 84;
+
+// Opens the file that a path names. A path that is no text in UTF-8 opens none.
+pub fn open<R: Files>(files: &R, path: &[u8]) -> io::Result<R::File> {
+    match str::from_utf8(path) {
+        Ok(text) => File::open(files, text),
+        Err(_) => Err(io::Error::from_raw_os_error(NO_TEXT)),
+    }
+}
+
+// Whether bytes could be written on standard output; if not, that is told in the system's words.
+pub fn is_written(to: Outputs, bytes: &[u8]) -> bool {
+    match Print::write_all(&to.out, bytes) {
+        Ok(()) => true,
+        Err(why) => {
+            tell_failed(to.errors, b"standard output", why);
+            false
+        }
+    }
 }
 
 // Whether a number could be written on standard output, in decimal digits; if not, that is told likewise.
-pub fn is_number_written(n: u64) -> bool {
-    let mut digits = [0u8; 20];
-    let k = io::decimal(n, &mut digits);
-    is_written(&digits[..k])
+pub fn is_number_written(to: Outputs, n: u64) -> bool {
+    match to.out.print(n) {
+        Ok(()) => true,
+        Err(why) => {
+            tell_failed(to.errors, b"standard output", why);
+            false
+        }
+    }
 }
 
 // Writes a line: a text, and a number after it.
-pub fn say_line(before: &[u8], n: u64) {
-    if is_written(before) {
-        if is_number_written(n) {
-            is_written(b"\n");
+pub fn say_line(to: Outputs, before: &[u8], n: u64) {
+    if is_written(to, before) {
+        if is_number_written(to, n) {
+            is_written(to, b"\n");
         }
     }
 }
 
 // Writes `refused R`.
-pub fn say_refused(number: u8) {
-    say_line(b"refused ", number as u64);
+pub fn say_refused(to: Outputs, number: u8) {
+    say_line(to, b"refused ", number as u64);
 }

@@ -7,52 +7,57 @@ mod telling;
 mod words;
 mod writing;
 
-use libc::STDIN_FILENO;
+use console::Outputs;
+use std::io::{Read, Stderr};
+use std::rt::{Env, Files};
 use words::{Command, Way};
 
 // Says how the program is used.
-fn say_usage() {
+fn say_usage(errors: Stderr) {
     telling::tell(
+        errors,
         b"usage: hexfile write [FILE] | hexfile read [FILE] (without a file from standard input)\n",
     );
 }
 
-// Goes one way with an input that is open.
-fn go(way: Way, fd: i32, name: &[u8]) {
+// Goes one way with an input.
+fn go<R: Read>(way: Way, input: &mut R, name: &[u8], to: Outputs) {
     match way {
-        Way::Write => writing::write(fd, name),
-        Way::Read => reading::read(fd, name),
+        Way::Write => writing::write(input, name, to),
+        Way::Read => reading::read(input, name, to),
     }
 }
 
 // Goes one way with the file that an argument names; one that cannot be opened is told by its name and the system's words.
-fn go_with_file(way: Way) {
+fn go_with_file<R: Env + Files>(rt: &R, way: Way, to: Outputs) {
     let mut path = console::argument_room();
-    let n = os::arg(2, &mut path);
-    let fd = os::open_read(&path[..n]);
-    if fd < 0 {
-        os::fail(&path[..n]);
-        return;
+    let n = console::argument(rt, 2, &mut path);
+    match console::open(rt, &path[..n]) {
+        Ok(mut file) => go(way, &mut file, &path[..n], to),
+        Err(why) => console::tell_failed(to.errors, &path[..n], why),
     }
-    go(way, fd, &path[..n]);
-    libc::close(fd);
 }
 
-fn main() {
+fn main(rt: HostRuntime) {
+    let to = Outputs {
+        out: rt.stdout(),
+        errors: rt.stderr(),
+    };
     let mut word = [0u8; words::WORD_MOST];
-    let n = os::arg(1, &mut word);
+    let n = console::argument(&rt, 1, &mut word);
     let command = words::command_of(&word[..n]);
-    let arguments = os::arg_count();
+    let arguments = console::argument_count(&rt);
     match command {
         Command::Go(way) => {
             if arguments == 2 {
-                go(way, STDIN_FILENO, b"standard input");
+                let mut input = rt.stdin();
+                go(way, &mut input, b"standard input", to);
             } else if arguments == 3 {
-                go_with_file(way);
+                go_with_file(&rt, way, to);
             } else {
-                say_usage();
+                say_usage(to.errors);
             }
         }
-        Command::Unknown => say_usage(),
+        Command::Unknown => say_usage(to.errors),
     }
 }

@@ -1,8 +1,12 @@
 // A text as an image, in pieces: a line in form has few characters, so that no more than a buffer is at hand of a file of any length.
 use crate::telling;
-use console::input;
 use console::input::Hand;
+use console::{Outputs, input};
 use intelhex::{Ending, Fault};
+use std::io::{Read, Stderr};
+
+// The most bytes at hand.
+const BYTES_MOST: usize = 65536;
 
 // Where the reading stands: what is at hand, whether the end record has come, and how many lines were taken.
 #[derive(Clone, Copy)]
@@ -30,22 +34,36 @@ fn is_part(ending: Ending) -> bool {
 }
 
 // What is at hand after one read more, where more is awaited.
-fn fetched(hand: Hand, awaited: bool, fd: i32, name: &[u8], bytes: &mut [u8]) -> Hand {
+fn fetched<R: Read>(
+    hand: Hand,
+    awaited: bool,
+    input: &mut R,
+    errors: Stderr,
+    name: &[u8],
+    bytes: &mut [u8],
+) -> Hand {
     if awaited {
-        return input::fetch(hand, fd, name, bytes);
+        return input::fetch(hand, input, errors, name, bytes);
     }
     hand
 }
 
 // A turn: the lines at hand are read into the image, and more is fetched where more is awaited.
-fn turn(stand: Stand, fd: i32, name: &[u8], bytes: &mut [u8], image: &mut [u8]) -> Turned {
+fn turn<R: Read>(
+    stand: Stand,
+    input: &mut R,
+    errors: Stderr,
+    name: &[u8],
+    bytes: &mut [u8],
+    image: &mut [u8],
+) -> Turned {
     let hand = stand.hand;
     let n = input::within(hand.bytes, bytes);
     let taken = intelhex::read_lines(stand.over, &bytes[..n], hand.more, image);
     let ending = taken.ending;
     let rest = input::taken(hand, taken.at, bytes);
     let awaited = is_part(ending);
-    let next = fetched(rest, awaited, fd, name, bytes);
+    let next = fetched(rest, awaited, input, errors, name, bytes);
     let after = Stand {
         hand: next,
         over: taken.over,
@@ -59,7 +77,13 @@ fn turn(stand: Stand, fd: i32, name: &[u8], bytes: &mut [u8], image: &mut [u8]) 
 }
 
 // Reads a text to its end, or to what is wrong with it.
-fn read_all(fd: i32, name: &[u8], bytes: &mut [u8], image: &mut [u8]) -> Turned {
+fn read_all<R: Read>(
+    input: &mut R,
+    errors: Stderr,
+    name: &[u8],
+    bytes: &mut [u8],
+    image: &mut [u8],
+) -> Turned {
     let hand = input::nothing();
     let stand = Stand {
         hand: hand,
@@ -74,36 +98,36 @@ fn read_all(fd: i32, name: &[u8], bytes: &mut [u8], image: &mut [u8]) -> Turned 
     let mut turns = u64::MAX;
     while 0 < turns {
         let stand = t.stand;
-        t = turn(stand, fd, name, bytes, image);
+        t = turn(stand, input, errors, name, bytes, image);
         turns = console::turns_left(turns, t.on);
     }
     t
 }
 
 // Tells the line at fault, of which so many stand before it, and what is wrong with it.
-fn tell_refused(fault: Fault, before: u64) {
-    telling::tell(b"hexfile: line ");
-    telling::tell_number(console::count_on(before, 1));
-    telling::tell(b": ");
-    telling::tell_fault(fault);
-    telling::tell(b"\n");
+fn tell_refused(errors: Stderr, fault: Fault, before: u64) {
+    telling::tell(errors, b"hexfile: line ");
+    telling::tell_number(errors, console::count_on(before, 1));
+    telling::tell(errors, b": ");
+    telling::tell_fault(errors, fault);
+    telling::tell(errors, b"\n");
 }
 
-// Reads a text from a file that is open, and writes the image that it gives, or why it gives none. A read that failed is told already.
-pub fn read(fd: i32, name: &[u8]) {
-    let mut bytes = io::large_buffer();
+// Reads a text, and writes the image that it gives, or why it gives none. A read that failed is told already.
+pub fn read<R: Read>(input: &mut R, name: &[u8], to: Outputs) {
+    let mut bytes = [0u8; BYTES_MOST];
     let mut image = intelhex::blank_image();
-    let t = read_all(fd, name, &mut bytes, &mut image);
+    let t = read_all(input, to.errors, name, &mut bytes, &mut image);
     let stand = t.stand;
     let ending = t.ending;
     match ending {
         Ending::Part => {}
         Ending::End => {
-            console::is_written(&image);
+            console::is_written(to, &image);
         }
         Ending::Refused(fault) => {
-            console::say_refused(intelhex::number_of(fault));
-            tell_refused(fault, stand.lines);
+            console::say_refused(to, intelhex::number_of(fault));
+            tell_refused(to.errors, fault, stand.lines);
         }
     }
 }

@@ -1,28 +1,29 @@
 // An image as text.
 use crate::telling;
-use console::input;
+use console::{Outputs, input};
 use intelhex::{Fault, IMAGE_SIZE, TEXT_SIZE, Writing};
+use std::io::{Read, Stderr};
 
 // The most that is read: one byte more than an image has, so that an image is told from what only begins with one.
 const BYTES_MOST: usize = IMAGE_SIZE + 1;
 
 // Tells why so many bytes are not written as text.
-fn tell_refused(fault: Fault, bytes: usize) {
-    telling::tell(b"hexfile: ");
-    telling::tell_fault(fault);
+fn tell_refused(errors: Stderr, fault: Fault, bytes: usize) {
+    telling::tell(errors, b"hexfile: ");
+    telling::tell_fault(errors, fault);
     if bytes < BYTES_MOST {
-        telling::tell(b", this has ");
-        telling::tell_number(bytes as u64);
-        telling::tell(b"\n");
+        telling::tell(errors, b", this has ");
+        telling::tell_number(errors, bytes as u64);
+        telling::tell(errors, b"\n");
     } else {
-        telling::tell(b", this has more\n");
+        telling::tell(errors, b", this has more\n");
     }
 }
 
-// Reads an image from a file that is open, and writes it as text, or why not.
-pub fn write(fd: i32, name: &[u8]) {
+// Reads an image, and writes it as text, or why not.
+pub fn write<R: Read>(input: &mut R, name: &[u8], to: Outputs) {
     let mut bytes = [0u8; BYTES_MOST];
-    let hand = input::fill(fd, name, &mut bytes);
+    let hand = input::fill(input, to.errors, name, &mut bytes);
     if hand.failed {
         return;
     }
@@ -31,11 +32,11 @@ pub fn write(fd: i32, name: &[u8]) {
     let answer = intelhex::write_text(&bytes[..n], &mut text);
     match answer {
         Writing::Written => {
-            console::is_written(&text);
+            console::is_written(to, &text);
         }
         Writing::Refused(fault) => {
-            console::say_refused(intelhex::number_of(fault));
-            tell_refused(fault, n);
+            console::say_refused(to, intelhex::number_of(fault));
+            tell_refused(to.errors, fault, n);
         }
     }
 }

@@ -4,51 +4,51 @@
 
 mod words;
 
-use console::input;
-use libc::{STDERR_FILENO, STDIN_FILENO};
+use console::{Outputs, input};
 use numerals::Numeral;
 use setpoints::{Reading, Writing};
+use std::io::{Stderr, Stdin};
 use words::{Command, Reader, Writer};
 
 // The most that is read: one byte more than a page has, so that a page is told from what only begins with one.
 const BYTES_MOST: usize = setpoints::PAGE_SIZE + 1;
 
 // Says how the program is used.
-fn say_usage() {
-    io::write_all(
-        STDERR_FILENO,
+fn say_usage(errors: Stderr) {
+    console::tell(
+        errors,
         b"usage: setpoint read | read101 | read102 | write101 DEGREES | write102 TENTHS, with the page on standard input\n",
     );
 }
 
 // Writes what a reader answered.
-fn say_reading(answer: Reading) {
+fn say_reading(to: Outputs, answer: Reading) {
     match answer {
         Reading::Setpoint(tenths) => {
             if tenths < 0 {
-                console::say_line(b"-", numerals::magnitude(tenths));
+                console::say_line(to, b"-", numerals::magnitude(tenths));
             } else {
-                console::say_line(b"", numerals::magnitude(tenths));
+                console::say_line(to, b"", numerals::magnitude(tenths));
             }
         }
-        Reading::Refused(fault) => console::say_refused(setpoints::number_of(fault)),
+        Reading::Refused(fault) => console::say_refused(to, setpoints::number_of(fault)),
     }
 }
 
 // Writes what a writer answered: the page that it left, or the refusal.
-fn say_page(answer: Writing, page: &[u8]) {
+fn say_page(to: Outputs, answer: Writing, page: &[u8]) {
     match answer {
         Writing::Written => {
-            console::is_written(page);
+            console::is_written(to, page);
         }
-        Writing::Refused(fault) => console::say_refused(setpoints::number_of(fault)),
+        Writing::Refused(fault) => console::say_refused(to, setpoints::number_of(fault)),
     }
 }
 
 // Reads the page, and writes what its reader answers.
-fn read(reader: Reader) {
+fn read(mut input: Stdin, to: Outputs, reader: Reader) {
     let mut bytes = [0u8; BYTES_MOST];
-    let hand = input::fill(STDIN_FILENO, b"standard input", &mut bytes);
+    let hand = input::fill(&mut input, to.errors, b"standard input", &mut bytes);
     if hand.failed {
         return;
     }
@@ -59,13 +59,13 @@ fn read(reader: Reader) {
         Reader::Kind101 => setpoints::read_101(page),
         Reader::Kind102 => setpoints::read_102(page),
     };
-    say_reading(answer);
+    say_reading(to, answer);
 }
 
 // Reads the page, and writes what its writer answers.
-fn write(writer: Writer, value: i64) {
+fn write(mut input: Stdin, to: Outputs, writer: Writer, value: i64) {
     let mut bytes = [0u8; BYTES_MOST];
-    let hand = input::fill(STDIN_FILENO, b"standard input", &mut bytes);
+    let hand = input::fill(&mut input, to.errors, b"standard input", &mut bytes);
     if hand.failed {
         return;
     }
@@ -75,34 +75,39 @@ fn write(writer: Writer, value: i64) {
         Writer::Kind101 => setpoints::write_101(page, value),
         Writer::Kind102 => setpoints::write_102(page, value),
     };
-    say_page(answer, page);
+    say_page(to, answer, page);
 }
 
-fn main() {
+fn main(rt: HostRuntime) {
+    let input = rt.stdin();
+    let to = Outputs {
+        out: rt.stdout(),
+        errors: rt.stderr(),
+    };
     let mut word = [0u8; words::WORD_MOST];
-    let n = os::arg(1, &mut word);
+    let n = console::argument(&rt, 1, &mut word);
     let command = words::command_of(&word[..n]);
     match command {
         Command::Read(reader) => {
-            if os::arg_count() == 2 {
-                read(reader);
+            if console::argument_count(&rt) == 2 {
+                read(input, to, reader);
             } else {
-                say_usage();
+                say_usage(to.errors);
             }
         }
         Command::Write(writer) => {
-            if os::arg_count() == 3 {
+            if console::argument_count(&rt) == 3 {
                 let mut text = console::argument_room();
-                let m = os::arg(2, &mut text);
+                let m = console::argument(&rt, 2, &mut text);
                 let said = numerals::read_number(&text[..m]);
                 match said {
-                    Numeral::Number(value) => write(writer, value),
-                    Numeral::NoNumber => say_usage(),
+                    Numeral::Number(value) => write(input, to, writer, value),
+                    Numeral::NoNumber => say_usage(to.errors),
                 }
             } else {
-                say_usage();
+                say_usage(to.errors);
             }
         }
-        Command::Unknown => say_usage(),
+        Command::Unknown => say_usage(to.errors),
     }
 }

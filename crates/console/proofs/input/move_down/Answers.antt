@@ -7,10 +7,10 @@ use Rattle.console.specs.InputLaw.{moved_none, moved_whole, moved_next}
 use Rattle.console.proofs.input.move_down.Goals as goal
 
 pub returns-then-at-eq0 : goal.returns-then-at-eq0
-returns-then-at-eq0 c = (omega arith, moved_whole _ _ _ c.if-at-eq0.true)
+returns-then-at-eq0 c = record { value = omega arith; bytes_after = moved_whole _ _ _ c.if-at-eq0.true }
 
 pub returns-then-held-at : goal.returns-then-held-at
-returns-then-held-at c = (omega arith, moved_none _ _ _ (omega arith))
+returns-then-held-at c = record { value = omega arith; bytes_after = moved_none _ _ _ (omega arith) }
 
 pub loop-i-init : goal.loop-i-init
 loop-i-init c = (omega arith, omega arith, refl, refl, moved_none _ _ _ refl)
