@@ -1,59 +1,66 @@
 // Cases 2 and 3: what the search lists.
 use crate::{cards, host, text};
 use search::{Resets, SearchAnswer, Slots};
+use std::io::Stdout;
 
 // Writes the codes that a search listed.
-fn say_codes(list: &[u64], listed: usize) {
+fn say_codes(out: Stdout, list: &[u64], listed: usize) {
     let mut i: usize = 0;
     while i < list.len() {
         if i < listed {
-            text::say_code(list[i]);
+            text::say_code(out, list[i]);
         }
         i += 1;
     }
 }
 
 // Writes a search's refusal, where it was refused.
-fn say_refusal(answer: SearchAnswer) {
+fn say_refusal(out: Stdout, answer: SearchAnswer) {
     let number = search::number_of(answer);
     if 0 < number {
-        text::refused(number as u64);
+        text::refused(out, number as u64);
     }
 }
 
 // Writes how many codes a search listed, and what it put on the line.
-fn say_counts(listed: usize, resets: Resets, slots: Slots) {
-    text::say_count(listed as u64, b" codes");
-    text::say_count(resets.0, b" resets");
-    text::say_count(slots.0, b" slots");
-    text::say(b"\n");
+fn say_counts(out: Stdout, listed: usize, resets: Resets, slots: Slots) {
+    text::say_count(out, listed as u64, b" codes");
+    text::say_count(out, resets.0, b" resets");
+    text::say_count(out, slots.0, b" slots");
+    text::say(out, b"\n");
 }
 
 // A search of the line of a card, with as many places as the list has, and all that it answers.
-fn show_search(card: &[u8], list: &mut [u64], images: &mut [u8], pads: &mut [u8]) {
-    let line = host::set_up(card, images, pads);
+fn show_search(out: Stdout, card: &[u8], list: &mut [u64], images: &mut [u8], pads: &mut [u8]) {
+    let line = host::set_up(out, card, images, pads);
     let found = search::search_line(line, list, images, pads);
     let answer = found.answer;
     let resets = found.resets;
     let slots = found.slots;
-    say_codes(list, found.listed);
-    say_refusal(answer);
-    say_counts(found.listed, resets, slots);
+    say_codes(out, list, found.listed);
+    say_refusal(out, answer);
+    say_counts(out, found.listed, resets, slots);
 }
 
 // Case 2, the four codes of document 002 with places for all of them, and case 3, a line without chips and then two places
 // for the four codes.
-pub fn cases_2_and_3() {
+pub fn cases_2_and_3(out: Stdout) {
     let mut images = [0u8; 10496];
     let mut pads = [0u8; 128];
     let mut no_images = [0u8; 0];
     let mut no_pads = [0u8; 0];
     let mut list = [0u64; 16];
     let mut two_places = [0u64; 2];
-    text::say(b"case 2: four chips, listed");
-    show_search(&cards::FOUR_CODES, &mut list, &mut images, &mut pads);
-    text::say(b"case 3: no chips, listed");
-    show_search(b"", &mut list, &mut no_images, &mut no_pads);
-    text::say(b"case 3: two places for four chips, listed");
-    show_search(&cards::FOUR_CODES, &mut two_places, &mut images, &mut pads);
+    text::say(out, b"case 2: four chips, listed");
+    show_search(out, &cards::FOUR_CODES, &mut list, &mut images, &mut pads);
+    text::say(out, b"case 3: no chips, listed");
+    show_search(out, b"", &mut list, &mut no_images, &mut no_pads);
+    text::say(out, b"case 3: two places for four chips, listed");
+    show_search(
+        out,
+        &cards::FOUR_CODES,
+        &mut two_places,
+        &mut images,
+        &mut pads,
+    );
 }

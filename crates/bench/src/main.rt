@@ -28,21 +28,22 @@ mod switches;
 mod text;
 
 // Runs each case on a line of its own.
-fn main() {
+fn main(rt: HostRuntime) {
+    let out = rt.stdout();
     let mut image = [0u8; 2624];
     let mut pad = [0u8; 32];
-    sums::case_1(&mut image, &mut pad);
-    listing::cases_2_and_3();
-    memories::case_4(&mut image, &mut pad);
-    memories::case_5(&mut image, &mut pad);
-    memories::case_6(&mut image, &mut pad);
-    memories::case_7(&mut image, &mut pad);
-    switches::case_8();
-    memories::case_9(&mut image, &mut pad);
-    memories::short_address(&mut image, &mut pad);
-    slips::register_page(&mut image, &mut pad);
-    slips::past_e(&mut image, &mut pad);
-    slips::kind_1(&mut image, &mut pad);
-    slips::kind_2();
-    pairs::two_memories();
+    sums::case_1(out, &mut image, &mut pad);
+    listing::cases_2_and_3(out);
+    memories::case_4(out, &mut image, &mut pad);
+    memories::case_5(out, &mut image, &mut pad);
+    memories::case_6(out, &mut image, &mut pad);
+    memories::case_7(out, &mut image, &mut pad);
+    switches::case_8(out);
+    memories::case_9(out, &mut image, &mut pad);
+    memories::short_address(out, &mut image, &mut pad);
+    slips::register_page(out, &mut image, &mut pad);
+    slips::past_e(out, &mut image, &mut pad);
+    slips::kind_1(out, &mut image, &mut pad);
+    slips::kind_2(out);
+    pairs::two_memories(out);
 }

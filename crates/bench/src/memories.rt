@@ -1,9 +1,11 @@
 // Cases 4 to 7 and 9, and that of M-102: one DS28EC20, chosen by Match ROM or Skip ROM.
 use crate::{cards, script};
+use std::io::Stdout;
 
 // Case 4: a Copy with what power on leaves, over a byte that it would change.
-pub fn case_4(images: &mut [u8], pads: &mut [u8]) {
+pub fn case_4(out: Stdout, images: &mut [u8], pads: &mut [u8]) {
     script::run(
+        out,
         &cards::MEMORY,
         b"case 4: before power on, write 0000 12<CC 0F 00 00 12>, \
         copy 00 00 00 answers<CC 55 00 00 00>...., memory 0000<CC F0 00 00>?\n\
@@ -15,8 +17,9 @@ pub fn case_4(images: &mut [u8], pads: &mut [u8]) {
 }
 
 // Case 5: two bytes written and copied, and a Copy whose E/S is another.
-pub fn case_5(images: &mut [u8], pads: &mut [u8]) {
+pub fn case_5(out: Stdout, images: &mut [u8], pads: &mut [u8]) {
     script::run(
+        out,
         &cards::MEMORY,
         b"case 5: two bytes, write 0006 12 34<55 43 01 00 00 00 00 00 B7 0F 06 00 12 34>, \
         E/S<55 43 01 00 00 00 00 00 B7 AA>__?, scratchpad??, \
@@ -27,6 +30,7 @@ pub fn case_5(images: &mut [u8], pads: &mut [u8]) {
         pads,
     );
     script::run(
+        out,
         &cards::MEMORY,
         b"case 5: another E/S, write 0006 12 34<CC 0F 06 00 12 34>, E/S<CC AA>__?, scratchpad??, \
         copy 06 00 06 answers<CC 55 06 00 06>...., memory 0006<CC F0 06 00>??, E/S<CC AA>__?\n",
@@ -36,8 +40,9 @@ pub fn case_5(images: &mut [u8], pads: &mut [u8]) {
 }
 
 // Case 6: case 5 on a held block, and then with the block lock too.
-pub fn case_6(images: &mut [u8], pads: &mut [u8]) {
+pub fn case_6(out: Stdout, images: &mut [u8], pads: &mut [u8]) {
     script::run(
+        out,
         &cards::MEMORY,
         b"case 6: control byte of block 0, write 0A00 55<CC 0F 00 0A 55>, \
         copy 00 0A 00 answers<CC 55 00 0A 00>...., memory 0A00<CC F0 00 0A>?\n\
@@ -53,8 +58,9 @@ pub fn case_6(images: &mut [u8], pads: &mut [u8]) {
 }
 
 // Case 7: a byte of a block in EPROM mode only falls.
-pub fn case_7(images: &mut [u8], pads: &mut [u8]) {
+pub fn case_7(out: Stdout, images: &mut [u8], pads: &mut [u8]) {
     script::run(
+        out,
         &cards::MEMORY,
         b"case 7: a byte of block 0, write 0006 F0<CC 0F 06 00 F0>, \
         copy 06 00 06 answers<CC 55 06 00 06>...., memory 0006<CC F0 06 00>?\n\
@@ -68,8 +74,9 @@ pub fn case_7(images: &mut [u8], pads: &mut [u8]) {
 }
 
 // Case 9: an address alone, and again where the block is held and the scratchpad has another byte.
-pub fn case_9(images: &mut [u8], pads: &mut [u8]) {
+pub fn case_9(out: Stdout, images: &mut [u8], pads: &mut [u8]) {
     script::run(
+        out,
         &cards::MEMORY,
         b"case 9: address only, write 0000 77 66<CC 0F 00 00 77 66>, write 0120<CC 0F 20 01>, \
         E/S<CC AA>__?, scratchpad??, \
@@ -86,8 +93,9 @@ pub fn case_9(images: &mut [u8], pads: &mut [u8]) {
 
 // M-102: case 5's write, then a Write Scratchpad that the next reset cuts after 8 bits of its address; and one that it
 // cuts before the first, after a copy that was carried out.
-pub fn short_address(images: &mut [u8], pads: &mut [u8]) {
+pub fn short_address(out: Stdout, images: &mut [u8], pads: &mut [u8]) {
     script::run(
+        out,
         &cards::MEMORY,
         b"short address: write 0006 12 34<CC 0F 06 00 12 34>, write 20 cut<CC 0F 20>, registers<CC AA>???, \
         copy 06 00 27 answers<CC 55 06 00 27>...., memory 0006<CC F0 06 00>??, E/S<CC AA>__?\n",
@@ -95,6 +103,7 @@ pub fn short_address(images: &mut [u8], pads: &mut [u8]) {
         pads,
     );
     script::run(
+        out,
         &cards::MEMORY,
         b"short address: none of it, after a copy, write 0006 12 34<CC 0F 06 00 12 34>, \
         copy 06 00 07 answers<CC 55 06 00 07>...., write cut<CC 0F>, registers<CC AA>???, \

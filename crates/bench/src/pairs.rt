@@ -1,11 +1,13 @@
 // Two DS28EC20 on one line: Resume, and a chip that takes a byte while the other sends.
 use crate::{cards, host, script};
 use line::Table;
+use std::io::Stdout;
 
 // RC is kept over a reset, so that Resume chooses the chip of the last Match ROM, and no chip after Skip ROM, by which both
 // send together.
-fn resume(images: &mut [u8], pads: &mut [u8]) {
+fn resume(out: Stdout, images: &mut [u8], pads: &mut [u8]) {
     script::run(
+        out,
         &cards::TWO_MEMORIES,
         b"resume: first of two, write 0000 3C<55 43 01 00 00 00 00 00 B7 0F 00 00 3C>, \
         copy 00 00 00 answers<A5 55 00 00 00>...., memory 0000<A5 F0 00 00>?\n\
@@ -30,22 +32,24 @@ fn mixed(first: Table, second: Table) -> Table {
 
 // A table that a caller may lend and that chips reset together never come to: the first chip, with 3C in its memory, as Read
 // Memory leaves it, the second as Write Scratchpad does.
-fn one_sends(images: &mut [u8], pads: &mut [u8]) -> Table {
-    let line = host::set_up(&cards::TWO_MEMORIES, images, pads);
+fn one_sends(out: Stdout, images: &mut [u8], pads: &mut [u8]) -> Table {
+    let line = host::set_up(out, &cards::TWO_MEMORIES, images, pads);
     let sending = script::play(
+        out,
         line,
         b"<55 43 01 00 00 00 00 00 B7 0F 00 00 3C><A5 55 00 00 00><CC F0 00 00>",
         images,
         pads,
     );
-    let taking = script::play(sending, b"<CC 0F 00 00>", images, pads);
+    let taking = script::play(out, sending, b"<CC 0F 00 00>", images, pads);
     mixed(sending, taking)
 }
 
 // The second chip takes what the first sends, not the host's FFh.
-fn slot_value(images: &mut [u8], pads: &mut [u8]) {
-    let line = one_sends(images, pads);
+fn slot_value(out: Stdout, images: &mut [u8], pads: &mut [u8]) {
+    let line = one_sends(out, images, pads);
     script::play(
+        out,
         line,
         b"slot value: first sends, second takes, host FF, line?, \
         second, E/S<55 43 02 00 00 00 00 00 EE AA>__?, scratchpad?\n",
@@ -55,9 +59,9 @@ fn slot_value(images: &mut [u8], pads: &mut [u8]) {
 }
 
 // Resume, and the value of a slot.
-pub fn two_memories() {
+pub fn two_memories(out: Stdout) {
     let mut images = [0u8; 5248];
     let mut pads = [0u8; 64];
-    resume(&mut images, &mut pads);
-    slot_value(&mut images, &mut pads);
+    resume(out, &mut images, &mut pads);
+    slot_value(out, &mut images, &mut pads);
 }

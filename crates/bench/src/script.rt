@@ -9,6 +9,7 @@
 use crate::host::Action;
 use crate::{host, text};
 use line::Table;
+use std::io::Stdout;
 
 // How far the typing is: between < and > or not, and the first digit of a byte, 16 where there is none.
 #[derive(Clone, Copy)]
@@ -73,7 +74,7 @@ fn asked_inside(first: u8, character: u8) -> Action {
 }
 
 // What a character that is not between < and > asks for: what its sign stands for, or to be written out.
-fn asked_outside(character: u8) -> Action {
+fn asked_outside(out: Stdout, character: u8) -> Action {
     if character == b'<' {
         return Action::Put(line::events::reset());
     }
@@ -92,20 +93,20 @@ fn asked_outside(character: u8) -> Action {
     if character == b'~' {
         return Action::Put(line::events::outside(0, 2));
     }
-    text::say(&[character]);
+    text::say(out, &[character]);
     Action::Rest
 }
 
 // What a character of a script asks for.
-fn asked(typed: Typed, character: u8) -> Action {
+fn asked(out: Stdout, typed: Typed, character: u8) -> Action {
     if typed.inside {
         return asked_inside(typed.first, character);
     }
-    asked_outside(character)
+    asked_outside(out, character)
 }
 
 // A script, played on a line.
-pub fn play(table: Table, script: &[u8], images: &mut [u8], pads: &mut [u8]) -> Table {
+pub fn play(out: Stdout, table: Table, script: &[u8], images: &mut [u8], pads: &mut [u8]) -> Table {
     let mut current = table;
     let mut typed = Typed {
         inside: false,
@@ -114,8 +115,8 @@ pub fn play(table: Table, script: &[u8], images: &mut [u8], pads: &mut [u8]) -> 
     let mut i: usize = 0;
     while i < script.len() {
         let character = script[i];
-        let action = asked(typed, character);
-        current = host::act(current, action, images, pads);
+        let action = asked(out, typed, character);
+        current = host::act(out, current, action, images, pads);
         typed = after(typed, character);
         i += 1;
     }
@@ -123,7 +124,7 @@ pub fn play(table: Table, script: &[u8], images: &mut [u8], pads: &mut [u8]) -> 
 }
 
 // A script, played on a line of its own that is set up from a card.
-pub fn run(card: &[u8], script: &[u8], images: &mut [u8], pads: &mut [u8]) {
-    let line = host::set_up(card, images, pads);
-    play(line, script, images, pads);
+pub fn run(out: Stdout, card: &[u8], script: &[u8], images: &mut [u8], pads: &mut [u8]) {
+    let line = host::set_up(out, card, images, pads);
+    play(out, line, script, images, pads);
 }

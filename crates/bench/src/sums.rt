@@ -1,25 +1,27 @@
 // Case 1: the two check sums, computed and as a chip sends them.
 use crate::{cards, script, text};
+use std::io::Stdout;
 
 // The check sums of 01h, computed; a chip sends the CRC-16 inverted, low byte first.
-fn computed() {
+fn computed(out: Stdout) {
     let sum = crc::crc16(b"\x01");
     let inverted = 0xFFFF - sum;
-    text::say(b"case 1: of 01, CRC-8");
-    text::say_byte(crc::crc8(b"\x01"));
-    text::say(b", CRC-16");
-    text::say_byte((sum / 256) as u8);
-    text::say_digits((sum % 256) as u8);
-    text::say(b", sent");
-    text::say_byte((inverted % 256) as u8);
-    text::say_byte((inverted / 256) as u8);
-    text::say(b"\n");
+    text::say(out, b"case 1: of 01, CRC-8");
+    text::say_byte(out, crc::crc8(b"\x01"));
+    text::say(out, b", CRC-16");
+    text::say_byte(out, (sum / 256) as u8);
+    text::say_digits(out, (sum % 256) as u8);
+    text::say(out, b", sent");
+    text::say_byte(out, (inverted % 256) as u8);
+    text::say_byte(out, (inverted / 256) as u8);
+    text::say(out, b"\n");
 }
 
 // Case 1, where a chip sends the CRC-16 of 01h, since 0F 40 04 leaves the check sum 0, and so does each 00 before the 01.
-pub fn case_1(images: &mut [u8], pads: &mut [u8]) {
-    computed();
+pub fn case_1(out: Stdout, images: &mut [u8], pads: &mut [u8]) {
+    computed(out);
     script::run(
+        out,
         &cards::MEMORY,
         b"case 1: by a chip, write 0440 00 31 times 01<CC 0F 40 04 \
         00 00 00 00 00 00 00 00 00 00 00 00 00 00 00 00 00 00 00 00 00 00 00 00 00 00 00 00 00 00 00 01>, \

@@ -76,6 +76,31 @@ pub fn fill<R: Read>(input: &mut R, errors: Stderr, name: &[u8], bytes: &mut [u8
     h
 }
 
+// One read into a buffer; how many bytes of it were read, none where the input has ended or the read failed.
+pub fn read_some<R: Read>(input: &mut R, bytes: &mut [u8]) -> usize
+    ensures { IsPrefixLen result bytes.new }
+{
+    match input.read(bytes) {
+        Ok(n) => within(n, bytes),
+        Err(_) => 0,
+    }
+}
+
+// Reads until a buffer is full, the input ends or a read fails; how many bytes of it were read.
+pub fn read_full<R: Read>(input: &mut R, bytes: &mut [u8]) -> usize
+    ensures { IsPrefixLen result bytes.new }
+{
+    let mut done: usize = 0;
+    while done < bytes.len() {
+        let n = read_some(input, &mut bytes[done..]);
+        if n == 0 {
+            break;
+        }
+        done += n;
+    }
+    done
+}
+
 // The bytes from an offset up to the last of so many, moved to the start of their buffer; how many they are.
 fn move_down(at: usize, held: usize, bytes: &mut [u8]) -> usize
     requires { held ≤ length bytes.old }

@@ -4,11 +4,11 @@
 
 ghost use Rattle.std.specs.Prelude.{◌≤◌, length};
 
-use console::input;
 use console::input::Hand;
-use libc::{STDERR_FILENO, STDIN_FILENO};
+use console::{Outputs, input};
 use line::Table;
 use recording::{CardsEnding, Ending};
+use std::io::{Read, Stderr};
 
 // The most bytes at hand: more than the longest record that can be taken has, which is 8,198.
 const BYTES_MOST: usize = 16384;
@@ -38,21 +38,21 @@ fn text_size(bytes: usize) -> usize
 }
 
 // Whether the first n characters of the text could be written; if not, that is told in the system's words.
-fn are_answers_written(text: &[u8], n: usize) -> bool {
+fn are_answers_written(to: Outputs, text: &[u8], n: usize) -> bool {
     let m = input::within(n, text);
-    console::is_written(&text[..m])
+    console::is_written(to, &text[..m])
 }
 
 // Ends the line of answers, unless more is awaited, and writes the line of a refusal at an offset.
-fn write_end(ending: Ending, at: u64) {
+fn write_end(to: Outputs, ending: Ending, at: u64) {
     match ending {
         Ending::Part => {}
         Ending::End => {
-            console::is_written(b"\n");
+            console::is_written(to, b"\n");
         }
         Ending::Refused(f) => {
-            if console::is_written(b"\n") {
-                terminal::say_refused(recording::number_of(f), at);
+            if console::is_written(to, b"\n") {
+                terminal::say_refused(to.out, recording::number_of(f), at);
             }
         }
     }
@@ -98,14 +98,20 @@ fn is_card_part(ending: CardsEnding) -> bool {
 }
 
 // Goes on by one read where more is awaited; a read that fails is not taken for the end.
-fn fetched(stand: Stand, awaited: bool, bytes: &mut [u8]) -> Turned {
+fn fetched<R: Read>(
+    input: &mut R,
+    errors: Stderr,
+    stand: Stand,
+    awaited: bool,
+    bytes: &mut [u8],
+) -> Turned {
     if !awaited {
         return Turned {
             stand: stand,
             on: false,
         };
     }
-    let hand = input::fetch(stand.hand, STDIN_FILENO, b"standard input", bytes);
+    let hand = input::fetch(stand.hand, input, errors, b"standard input", bytes);
     let table = stand.table;
     let after = Stand {
         hand: hand,
@@ -124,7 +130,7 @@ fn fetched(stand: Stand, awaited: bool, bytes: &mut [u8]) -> Turned {
 }
 
 // A turn of the card: what is at hand of it is read, and more is fetched where more is awaited.
-fn card_turn(stand: Stand, bytes: &mut [u8]) -> Carded {
+fn card_turn<R: Read>(input: &mut R, errors: Stderr, stand: Stand, bytes: &mut [u8]) -> Carded {
     let hand = stand.hand;
     let table = stand.table;
     let n = input::within(hand.bytes, bytes);
@@ -136,7 +142,7 @@ fn card_turn(stand: Stand, bytes: &mut [u8]) -> Carded {
         hand: rest,
         table: after,
     };
-    let t = fetched(now, is_card_part(ending), bytes);
+    let t = fetched(input, errors, now, is_card_part(ending), bytes);
     let next = t.stand;
     Carded {
         stand: next,
@@ -146,7 +152,7 @@ fn card_turn(stand: Stand, bytes: &mut [u8]) -> Carded {
 }
 
 // Reads the card.
-fn read_card(bytes: &mut [u8]) -> Carded {
+fn read_card<R: Read>(input: &mut R, errors: Stderr, bytes: &mut [u8]) -> Carded {
     let hand = input::nothing();
     let table = line::tables::blank(0);
     let stand = Stand {
@@ -161,14 +167,16 @@ fn read_card(bytes: &mut [u8]) -> Carded {
     let mut turns = u64::MAX;
     while 0 < turns {
         let stand = c.stand;
-        c = card_turn(stand, bytes);
+        c = card_turn(input, errors, stand, bytes);
         turns = console::turns_left(turns, c.on);
     }
     c
 }
 
 // A turn of the events: what is at hand of them is played and its answers are written, and more is fetched where more is awaited.
-fn event_turn(
+fn event_turn<R: Read>(
+    input: &mut R,
+    to: Outputs,
     stand: Stand,
     bytes: &mut [u8],
     text: &mut [u8],
@@ -185,32 +193,46 @@ fn event_turn(
     let ending = played.ending;
     let after = played.table;
     let rest = input::taken(hand, played.at, bytes);
-    let written = are_answers_written(text, played.answers);
+    let written = are_answers_written(to, text, played.answers);
     if written {
-        write_end(ending, rest.offset);
+        write_end(to, ending, rest.offset);
     }
     let now = Stand {
         hand: rest,
         table: after,
     };
-    fetched(now, base::are_both(written, is_part(ending)), bytes)
+    fetched(
+        input,
+        to.errors,
+        now,
+        base::are_both(written, is_part(ending)),
+        bytes,
+    )
 }
 
 // Plays the events, on a table and its buffers: first those that came with the card, then those that come.
-fn play_events(s: Stand, bytes: &mut [u8], text: &mut [u8], images: &mut [u8], pads: &mut [u8])
+fn play_events<R: Read>(
+    input: &mut R,
+    to: Outputs,
+    s: Stand,
+    bytes: &mut [u8],
+    text: &mut [u8],
+    images: &mut [u8],
+    pads: &mut [u8],
+)
     requires { 131072 ≤ length text.old }
 {
-    let mut t = event_turn(s, bytes, text, images, pads);
+    let mut t = event_turn(input, to, s, bytes, text, images, pads);
     let mut turns = console::turns_left(u64::MAX, t.on);
     while 0 < turns {
         let stand = t.stand;
-        t = event_turn(stand, bytes, text, images, pads);
+        t = event_turn(input, to, stand, bytes, text, images, pads);
         turns = console::turns_left(turns, t.on);
     }
 }
 
 // Sets up the line, and plays the events.
-fn start(stand: Stand, bytes: &mut [u8]) {
+fn start<R: Read>(input: &mut R, to: Outputs, stand: Stand, bytes: &mut [u8]) {
     let table = stand.table;
     let mut text = text_room();
     let mut images = terminal::image_room();
@@ -218,6 +240,8 @@ fn start(stand: Stand, bytes: &mut [u8]) {
     let image_bytes = line::images_asked(table);
     let pad_bytes = line::pads_asked(table);
     play_events(
+        input,
+        to,
         stand,
         bytes,
         &mut text,
@@ -226,21 +250,26 @@ fn start(stand: Stand, bytes: &mut [u8]) {
     );
 }
 
-fn main() {
-    if os::arg_count() != 1 {
-        io::write_all(
-            STDERR_FILENO,
+fn main(rt: HostRuntime) {
+    let to = Outputs {
+        out: rt.stdout(),
+        errors: rt.stderr(),
+    };
+    let mut input = rt.stdin();
+    if console::argument_count(&rt) != 1 {
+        console::tell(
+            to.errors,
             b"usage: playback < RECORDING (no argument: the recording comes from standard input)\n",
         );
         return;
     }
     let mut bytes = byte_room();
-    let c = read_card(&mut bytes);
+    let c = read_card(&mut input, to.errors, &mut bytes);
     let stand = c.stand;
     let ending = c.ending;
     let hand = stand.hand;
     match ending {
-        CardsEnding::Events => start(stand, &mut bytes),
-        CardsEnding::Stopped(e) => write_end(e, hand.offset),
+        CardsEnding::Events => start(&mut input, to, stand, &mut bytes),
+        CardsEnding::Stopped(e) => write_end(to, e, hand.offset),
     }
 }

@@ -3,6 +3,7 @@ ghost use Rattle.std.specs.Prelude.{◌≡◌, length};
 ghost use Rattle.rounds.specs.Borne.{page_size};
 ghost use Rattle.round.specs.Pages.{page_line};
 
+use console::Outputs;
 use numerals::hex;
 use rounds::PAGE_SIZE;
 use search::{Resets, SearchAnswer, Slots};
@@ -21,12 +22,12 @@ fn page_line(page: &[u8]) -> [u8; LINE_SIZE]
 }
 
 // Whether the lines of all pages could be written.
-fn are_pages_written(pages: &[u8]) -> bool {
+fn are_pages_written(outputs: Outputs, pages: &[u8]) -> bool {
     let mut at: usize = 0;
     while PAGE_SIZE <= pages.len() - at {
         let to = at + PAGE_SIZE;
         let text = page_line(&pages[at..to]);
-        if !console::is_written(&text) {
+        if !console::is_written(outputs, &text) {
             return false;
         }
         at = to;
@@ -35,18 +36,18 @@ fn are_pages_written(pages: &[u8]) -> bool {
 }
 
 // Whether a count could be written, and what it counts.
-fn is_count_written(n: u64, what: &[u8]) -> bool {
-    if console::is_number_written(n) {
-        return console::is_written(what);
+fn is_count_written(to: Outputs, n: u64, what: &[u8]) -> bool {
+    if console::is_number_written(to, n) {
+        return console::is_written(to, what);
     }
     false
 }
 
 // Whether the line of the counts could be written.
-fn are_counts_written(codes: usize, resets: Resets, slots: Slots) -> bool {
-    if is_count_written(codes as u64, b" codes ") {
-        if is_count_written(resets.0, b" resets ") {
-            return is_count_written(slots.0, b" slots\n");
+fn are_counts_written(to: Outputs, codes: usize, resets: Resets, slots: Slots) -> bool {
+    if is_count_written(to, codes as u64, b" codes ") {
+        if is_count_written(to, resets.0, b" resets ") {
+            return is_count_written(to, slots.0, b" slots\n");
         }
         return false;
     }
@@ -54,15 +55,16 @@ fn are_counts_written(codes: usize, resets: Resets, slots: Slots) -> bool {
 }
 
 // Whether the lines of the pages that are due could be written; a round that was refused has none.
-fn are_due_pages_written(number: u8, pages: &[u8]) -> bool {
+fn are_due_pages_written(to: Outputs, number: u8, pages: &[u8]) -> bool {
     if number == 0 {
-        return are_pages_written(pages);
+        return are_pages_written(to, pages);
     }
     true
 }
 
 // Writes the codes listed, the pages, the counts, and why the round was refused, if it was. What cannot be written is told once.
 pub fn write(
+    to: Outputs,
     answer: SearchAnswer,
     listed: usize,
     resets: Resets,
@@ -71,11 +73,11 @@ pub fn write(
     pages: &[u8],
 ) {
     let number = search::number_of(answer);
-    terminal::write_codes(list, listed);
-    if are_due_pages_written(number, pages) {
-        if are_counts_written(listed, resets, slots) {
+    terminal::write_codes(to.out, list, listed);
+    if are_due_pages_written(to, number, pages) {
+        if are_counts_written(to, listed, resets, slots) {
             if 0 < number {
-                console::say_refused(number);
+                console::say_refused(to, number);
             }
         }
     }

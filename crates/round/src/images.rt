@@ -2,6 +2,8 @@
 use crate::words::Choice;
 use console::input;
 use line::IMAGES_MOST;
+use std::io::{Read, Stderr};
+use std::rt::{Env, Files};
 
 // Room for the images of 16 chips and a byte more, so that all of them are told from what only begins with them.
 pub const ROOM: usize = IMAGES_MOST + 1;
@@ -14,9 +16,8 @@ pub struct Loaded {
 }
 
 // Reads a file that is open.
-fn read_open(fd: i32, name: &[u8], room: &mut [u8]) -> Loaded {
-    let hand = input::fill(fd, name, room);
-    libc::close(fd);
+fn read_open<R: Read>(file: &mut R, errors: Stderr, name: &[u8], room: &mut [u8]) -> Loaded {
+    let hand = input::fill(file, errors, name, room);
     Loaded {
         bytes: Choice::Given(hand.bytes),
         failed: hand.failed,
@@ -24,24 +25,25 @@ fn read_open(fd: i32, name: &[u8], room: &mut [u8]) -> Loaded {
 }
 
 // Reads the file that an argument names. One that cannot be opened or read is told by its name and the system's words.
-fn read_file(at: usize, room: &mut [u8]) -> Loaded {
+fn read_file<R: Env + Files>(rt: &R, errors: Stderr, at: usize, room: &mut [u8]) -> Loaded {
     let mut path = console::argument_room();
-    let n = os::arg(at, &mut path);
-    let fd = os::open_read(&path[..n]);
-    if fd < 0 {
-        os::fail(&path[..n]);
-        return Loaded {
-            bytes: Choice::Absent,
-            failed: true,
-        };
+    let n = console::argument(rt, at, &mut path);
+    match console::open(rt, &path[..n]) {
+        Ok(mut file) => read_open(&mut file, errors, &path[..n], room),
+        Err(why) => {
+            console::tell_failed(errors, &path[..n], why);
+            Loaded {
+                bytes: Choice::Absent,
+                failed: true,
+            }
+        }
     }
-    read_open(fd, &path[..n], room)
 }
 
 // Reads the file of images into the room, where an argument names one.
-pub fn load(file: Choice, room: &mut [u8]) -> Loaded {
+pub fn load<R: Env + Files>(rt: &R, errors: Stderr, file: Choice, room: &mut [u8]) -> Loaded {
     match file {
-        Choice::Given(at) => read_file(at, room),
+        Choice::Given(at) => read_file(rt, errors, at, room),
         Choice::Absent => Loaded {
             bytes: Choice::Absent,
             failed: false,

@@ -7,32 +7,47 @@ mod arguments;
 mod images;
 mod words;
 
-use console::input;
-use libc::{STDERR_FILENO, STDIN_FILENO};
+use console::{Outputs, input};
 use line::Table;
+use std::io::{Stderr, Stdin};
+use std::rt::{Env, Files};
 use words::{Asked, Choice, Request};
 
 // Says how the program is used.
-fn say_usage() {
-    io::write_all(
-        STDERR_FILENO,
+fn say_usage(errors: Stderr) {
+    console::tell(
+        errors,
         b"usage: round [--images FILE] [--places N] [--pages BYTES], with the card on standard input (BYTES from 0 to 1024)\n",
     );
 }
 
 // Powers the line on, makes the round, and writes what it came to.
-fn make_round(t: Table, list: &mut [u64], pages: &mut [u8], images: &mut [u8], pads: &mut [u8]) {
+fn make_round(
+    to: Outputs,
+    t: Table,
+    list: &mut [u64],
+    pages: &mut [u8],
+    images: &mut [u8],
+    pads: &mut [u8],
+) {
     let powered = line::take_event(t, line::events::power_on(), images, pads);
     let table = powered.table;
     let found = rounds::make_round(table, list, pages, images, pads);
     let answer = found.answer;
     let resets = found.resets;
     let slots = found.slots;
-    answer::write(answer, found.listed, resets, slots, list, pages);
+    answer::write(to, answer, found.listed, resets, slots, list, pages);
 }
 
 // Makes the round with the places, pages and images that are asked for, or else those that the line needs.
-fn with_table(t: Table, places: Choice, pages: Choice, bytes: Choice, images: &mut [u8]) {
+fn with_table(
+    to: Outputs,
+    t: Table,
+    places: Choice,
+    pages: Choice,
+    bytes: Choice,
+    images: &mut [u8],
+) {
     let mut list = [0u64; 16];
     let mut room = [0u8; words::PAGES_GIVEN_MOST];
     let mut pads = terminal::pad_room();
@@ -41,6 +56,7 @@ fn with_table(t: Table, places: Choice, pages: Choice, bytes: Choice, images: &m
     let m = input::within(words::given_or(bytes, line::images_asked(t)), images);
     let s = line::pads_asked(t);
     make_round(
+        to,
         t,
         &mut list[..n],
         &mut room[..p],
@@ -49,18 +65,21 @@ fn with_table(t: Table, places: Choice, pages: Choice, bytes: Choice, images: &m
     );
 }
 
+// The most bytes of a card that are read.
+const CARD_MOST: usize = 4096;
+
 // Reads the images, if a file of them is named, then the card, and makes the round on the line that it sets up. What cannot be read is told already.
-fn go(r: Request) {
+fn go<R: Env + Files>(rt: &R, mut stdin: Stdin, to: Outputs, r: Request) {
     let file = r.images;
     let places = r.places;
     let pages = r.pages;
     let mut images = [0xFFu8; images::ROOM];
-    let loaded = images::load(file, &mut images);
+    let loaded = images::load(rt, to.errors, file, &mut images);
     if loaded.failed {
         return;
     }
-    let mut card = io::buffer();
-    let hand = input::fill(STDIN_FILENO, b"standard input", &mut card);
+    let mut card = [0u8; CARD_MOST];
+    let hand = input::fill(&mut stdin, to.errors, b"standard input", &mut card);
     if hand.failed {
         return;
     }
@@ -68,17 +87,21 @@ fn go(r: Request) {
     let set_up = card::set_up(&card[..n], 16, line::tables::blank(0));
     let answer = set_up.answer;
     let table = set_up.table;
-    if terminal::refused_card(answer) {
+    if terminal::refused_card(to.out, answer) {
         return;
     }
     let bytes = loaded.bytes;
-    with_table(table, places, pages, bytes, &mut images);
+    with_table(to, table, places, pages, bytes, &mut images);
 }
 
-fn main() {
-    let asked = arguments::read();
+fn main(rt: HostRuntime) {
+    let to = Outputs {
+        out: rt.stdout(),
+        errors: rt.stderr(),
+    };
+    let asked = arguments::read(&rt);
     match asked {
-        Asked::Round(r) => go(r),
-        Asked::Usage => say_usage(),
+        Asked::Round(r) => go(&rt, rt.stdin(), to, r),
+        Asked::Usage => say_usage(to.errors),
     }
 }

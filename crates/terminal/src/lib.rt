@@ -9,9 +9,9 @@ ghost use Rattle.terminal.specs.Words.{is_refused, word_of, eighth_first, code_d
 
 use card::CardAnswer;
 use crc::CodeCheck;
-use libc::STDOUT_FILENO;
 use line::{IMAGES_MOST, PADS_MOST};
 use numerals::hex;
+use std::io::Stdout;
 
 // A word: as many places as it has letters.
 #[derive(Clone, Copy)]
@@ -20,31 +20,41 @@ pub enum Letters {
     Four(u8, u8, u8, u8),
 }
 
+// Writes words as they are. What cannot be written is left.
+pub fn say(out: Stdout, words: &[u8]) {
+    let _ = out.write_all(words);
+}
+
+// Writes a number, in decimal digits.
+pub fn say_number(out: Stdout, n: u64) {
+    let _ = out.print(n);
+}
+
 // Writes `refused R at P`.
-pub fn say_refused(number: u8, at: u64) {
-    io::write_all(STDOUT_FILENO, b"refused ");
-    io::print_decimal(STDOUT_FILENO, number as u64);
-    io::write_all(STDOUT_FILENO, b" at ");
-    io::print_decimal(STDOUT_FILENO, at);
-    io::write_all(STDOUT_FILENO, b"\n");
+pub fn say_refused(out: Stdout, number: u8, at: u64) {
+    say(out, b"refused ");
+    say_number(out, number as u64);
+    say(out, b" at ");
+    say_number(out, at);
+    say(out, b"\n");
 }
 
 // Whether a card was refused; if so, the line that says so is written.
-pub fn refused_card(answer: CardAnswer) -> bool
+pub fn refused_card(out: Stdout, answer: CardAnswer) -> bool
     ensures { result ≡ is_refused (carded answer) }
 {
     match answer {
         CardAnswer::Chips(_) => false,
         CardAnswer::TooMany(at) => {
-            say_refused(1, at as u64);
+            say_refused(out, 1, at as u64);
             true
         }
         CardAnswer::UnknownKind(at) => {
-            say_refused(2, at as u64);
+            say_refused(out, 2, at as u64);
             true
         }
         CardAnswer::WrongLength(at) => {
-            say_refused(3, at as u64);
+            say_refused(out, 3, at as u64);
             true
         }
     }
@@ -62,13 +72,13 @@ pub fn word(check: CodeCheck) -> Letters
 }
 
 // Writes a word.
-pub fn say_word(word: Letters) {
+pub fn say_word(out: Stdout, word: Letters) {
     match word {
         Letters::Two(a, b) => {
-            io::write_all(STDOUT_FILENO, &[a, b]);
+            say(out, &[a, b]);
         }
         Letters::Four(a, b, c, d) => {
-            io::write_all(STDOUT_FILENO, &[a, b, c, d]);
+            say(out, &[a, b, c, d]);
         }
     }
 }
@@ -100,21 +110,21 @@ pub fn code_digits(code: u64) -> [u8; 16]
 }
 
 // Writes the line of a code.
-pub fn write_code(code: u64) {
+pub fn write_code(out: Stdout, code: u64) {
     let text = code_digits(code);
     let word = word(crc::check_code(code));
-    io::write_all(STDOUT_FILENO, &text);
-    io::write_all(STDOUT_FILENO, b" ");
-    say_word(word);
-    io::write_all(STDOUT_FILENO, b"\n");
+    say(out, &text);
+    say(out, b" ");
+    say_word(out, word);
+    say(out, b"\n");
 }
 
 // Writes the lines of the first n codes of a list.
-pub fn write_codes(list: &[u64], n: usize) {
+pub fn write_codes(out: Stdout, list: &[u64], n: usize) {
     let mut i: usize = 0;
     while i < list.len() {
         if i < n {
-            write_code(list[i]);
+            write_code(out, list[i]);
         }
         i += 1;
     }

@@ -6,10 +6,13 @@
 mod runs;
 mod text;
 
-ghost use Rattle.std.specs.Prelude.{◌<◌, ◌≤◌, length};
+ghost use Rattle.std.specs.Prelude.{◌<◌, ◌≤◌, length, IfSome};
+ghost use Rattle.console.specs.Input.{IsPrefixLen};
 
-use libc::{STDERR_FILENO, STDIN_FILENO, STDOUT_FILENO};
+use console::{Outputs, input};
 use line::Table;
+use std::io::{Read, Stderr};
+use std::rt::{Env, Files};
 use text::{Given, Pending};
 
 // Where the process stands: the table, what of event 4 is still to come, and how many answers wait to be written.
@@ -127,11 +130,12 @@ fn take_all(
     s
 }
 
-// The part of out that holds answers.
-fn write_answers(out: &[u8], n: usize) {
+// Whether the part of out that holds answers could be written; if not, that is told in the system's words.
+fn are_answers_written(to: Outputs, out: &[u8], n: usize) -> bool {
     if n <= out.len() {
-        io::write_all(STDOUT_FILENO, &out[..n]);
+        return console::is_written(to, &out[..n]);
     }
+    true
 }
 
 // Where the process stands after a turn, and whether the input goes on.
@@ -141,24 +145,25 @@ struct Served {
     on: bool,
 }
 
-// Reads what has come and answers it, so that nothing is held back while the process waits for input.
-fn one_turn(
+// Reads what has come and answers it, so that nothing is held back while the process waits for input. Where nobody takes the answers it stops.
+fn one_turn<R: Read>(
+    stdin: &mut R,
+    to: Outputs,
     t: Progress,
     input: &mut [u8],
     out: &mut [u8],
     images: &mut [u8],
     pads: &mut [u8],
 ) -> Served {
-    let got = libc::read(STDIN_FILENO, input);
-    if got <= 0 {
+    let n = input::read_some(stdin, input);
+    if n == 0 {
         return Served {
             progress: t,
             on: false,
         };
     }
-    let n = io::count(got, input);
     let s = take_all(t, &input[..n], out, images, pads);
-    write_answers(out, s.answers);
+    let written = are_answers_written(to, out, s.answers);
     let table = s.table;
     let pending = s.pending;
     let next = Progress {
@@ -168,12 +173,20 @@ fn one_turn(
     };
     Served {
         progress: next,
-        on: true,
+        on: written,
     }
 }
 
 // Answers events until the input ends.
-fn serve(t: Table, input: &mut [u8], out: &mut [u8], images: &mut [u8], pads: &mut [u8]) {
+fn serve<R: Read>(
+    stdin: &mut R,
+    to: Outputs,
+    t: Table,
+    input: &mut [u8],
+    out: &mut [u8],
+    images: &mut [u8],
+    pads: &mut [u8],
+) {
     let mut s = Progress {
         table: t,
         pending: Pending::Nothing,
@@ -181,53 +194,80 @@ fn serve(t: Table, input: &mut [u8], out: &mut [u8], images: &mut [u8], pads: &m
     };
     let mut turns = u64::MAX;
     while 0 < turns {
-        let r = one_turn(s, input, out, images, pads);
+        let r = one_turn(stdin, to, s, input, out, images, pads);
         s = r.progress;
         turns = console::turns_left(turns, r.on);
     }
 }
 
+// The most characters that are read in one turn, and the most answers that are written.
+const CHARACTERS_MOST: usize = 65536;
+
 // Powers the line on, and answers events.
-fn start(t: Table, images: &mut [u8], pads: &mut [u8]) {
+fn start<R: Read>(stdin: &mut R, to: Outputs, t: Table, images: &mut [u8], pads: &mut [u8]) {
     let powered = line::take_event(t, line::events::power_on(), images, pads);
     let table = powered.table;
-    let mut input = io::large_buffer();
-    let mut out = io::large_buffer();
-    serve(table, &mut input, &mut out, images, pads);
+    let mut input = [0u8; CHARACTERS_MOST];
+    let mut out = [0u8; CHARACTERS_MOST];
+    serve(stdin, to, table, &mut input, &mut out, images, pads);
 }
 
 // Sets the line up from the bytes of a card, or says why it is refused.
-fn run(card: &[u8]) {
+fn run<R: Read>(stdin: &mut R, to: Outputs, card: &[u8]) {
     let set_up = card::set_up(card, 16, line::tables::blank(0));
     let answer = set_up.answer;
     let table = set_up.table;
-    if terminal::refused_card(answer) {
+    if terminal::refused_card(to.out, answer) {
         return;
     }
     let mut images = terminal::image_room();
     let mut pads = terminal::pad_room();
     let image_bytes = line::images_asked(table);
     let pad_bytes = line::pads_asked(table);
-    start(table, &mut images[..image_bytes], &mut pads[..pad_bytes]);
+    start(
+        stdin,
+        to,
+        table,
+        &mut images[..image_bytes],
+        &mut pads[..pad_bytes],
+    );
 }
 
-fn main() {
-    if os::arg_count() != 2 {
-        io::write_all(
-            STDERR_FILENO,
+// The most bytes of a card that are read, and of its file's name.
+const CARD_MOST: usize = 4096;
+
+// Puts the card that an argument names at the start of a buffer; how many bytes it has. A file that cannot be opened is told by its name and the
+// system's words.
+fn read_card<R: Env + Files>(rt: &R, errors: Stderr, card: &mut [u8]) -> Option<usize>
+    ensures { IfSome result (λ n. IsPrefixLen n card.new) }
+{
+    let mut path = [0u8; CARD_MOST];
+    let length = console::argument(rt, 1, &mut path);
+    match console::open(rt, &path[..length]) {
+        Ok(mut file) => Some(input::read_full(&mut file, card)),
+        Err(why) => {
+            console::tell_failed(errors, &path[..length], why);
+            None
+        }
+    }
+}
+
+fn main(rt: HostRuntime) {
+    let to = Outputs {
+        out: rt.stdout(),
+        errors: rt.stderr(),
+    };
+    if console::argument_count(&rt) != 2 {
+        console::tell(
+            to.errors,
             b"usage: wire CARDFILE (one argument: a file with the card that sets up the line)\n",
         );
         return;
     }
-    let mut path = io::buffer();
-    let length = os::arg(1, &mut path);
-    let fd = os::open_read(&path[..length]);
-    if fd < 0 {
-        os::fail(&path[..length]);
-        return;
+    let mut card = [0u8; CARD_MOST];
+    let mut stdin = rt.stdin();
+    match read_card(&rt, to.errors, &mut card) {
+        Some(n) => run(&mut stdin, to, &card[..n]),
+        None => {}
     }
-    let mut card = io::buffer();
-    let n = io::read_full(fd, &mut card);
-    libc::close(fd);
-    run(&card[..n]);
 }
