@@ -4,4 +4,4 @@ use borrow.Author.Rules.{rules}
 use Rattle.playback.proofs.event_turn.Goals as goal
 
 pub slice_bounds-play-end-4 : goal.slice_bounds-play-end-4
-slice_bounds-play-end-4 c = sym (length-take-le _ _ (search rules))
+slice_bounds-play-end-4 g c = sym (length-take-le _ _ (search rules))

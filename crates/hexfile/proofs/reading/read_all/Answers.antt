@@ -2,4 +2,4 @@ use mathlib.Core.Path.{◌≡◌, refl}
 use Rattle.hexfile.proofs.reading.read_all.Goals as goal
 
 pub loop-turns-init : goal.loop-turns-init
-loop-turns-init c = (refl, refl)
+loop-turns-init g c = (refl, refl)
