@@ -1,6 +1,6 @@
 use Rattle.wire.specs.Places.{place_fits, less_left}
 use borrow.Author.Rules.{rules}
-use mathlib.Core.Path.{◌≡◌, ◌∙◌, refl, sym}
+use mathlib.Core.Path.{◌∙◌, refl, sym}
 use Rattle.wire.proofs.take_all.Goals as goal
 
 pub loop-i-init : goal.loop-i-init

@@ -1,6 +1,6 @@
-use Prim.Native.Nat.{ℕ, ◌+◌, ◌-◌, ◌≤◌}
+use Prim.Native.Nat.{ℕ}
 use native.Mathlib.Omega.{arith}
-use mathlib.Core.Path.{◌≡◌, refl, ◌∙◌, ap}
+use mathlib.Core.Path.{refl, ◌∙◌, ap}
 use borrow.Author.Rules.{rules}
 use Rattle.console.specs.Input.{moved_down}
 use Rattle.console.specs.InputLaw.{moved_none, moved_whole, moved_next}

@@ -1,5 +1,5 @@
 use borrow.Author.Rules.{rules}
-use mathlib.Core.Path.{◌≡◌, ◌∙◌, refl}
+use mathlib.Core.Path.{refl}
 use Rattle.wire.proofs.runs.gather_slots.Goals as goal
 
 pub loop-next-init : goal.loop-next-init
