@@ -1,4 +1,4 @@
-use mathlib.Core.Path.{◌≡◌, refl}
+use mathlib.Core.Path.{refl}
 use Rattle.playback.proofs.play_events.Goals as goal
 
 pub loop-turns-init : goal.loop-turns-init

@@ -1,5 +1,5 @@
 use lib.ListN.{length}
-use mathlib.Core.Path.{◌≡◌, refl}
+use mathlib.Core.Path.{◌≡◌}
 use Rattle.playback.proofs.read_card.Given as goal
 
 abbrev pub invariant-loop-turns : goal.invariant-loop-turns
