@@ -21,7 +21,7 @@ Settled T L =
     (κs : Lfts T.signature.lifetimes) (a : Args T.signature κs) (x y : Res T.signature κs) (v w : Lasts T κs a)
     → L κs a x (at_exit T κs a v) → L κs a y (at_exit T κs a w) → (x ≡ y) × (v ≡ w)
 
--- a contract as it is written, in the program logic: of a function to which a struct is lent there is no other
+-- a contract as it is written, in the program logic: it is taken of a function to which a struct is lent
 abbrev pub Written : Ended → Type 2
 Written T = (M : Type 1) (𝓤 : Ura M) (𝓛 : Logic 𝓤) → (Memory → SProp 𝓤) → (Routine → Fun 𝓤) → Clauses 𝓤 T
 
