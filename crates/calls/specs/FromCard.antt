@@ -4,7 +4,7 @@
 use Rattle.std.specs.Prelude.{ℕ, zero, suc, ◌*◌, ◌/◌, ◌<◌, List, [], ◌++◌, ◌≡◌, refl, ℤ, pos, length, take, drop}
 use Rattle.std.proofs.Common.{arith, append-nil, ◌∙◌, ap, sym, take_at}
 use contract.Lifetimes.{Lfts}
-use Rattle.std.specs.Borrow.{Bor}
+use Rattle.std.specs.Borrow.{Bor, MutBor}
 use denote.Triple.Clauses.{at_exit}
 use base.Logic.{id⊢}
 use Rattle.chip.specs.declared.Chip.{Chip}
@@ -93,13 +93,13 @@ pub record PermitsCardLent (card : List ℕ) (cs : List Chip) (a : Carded) (ds :
   pub world : World
   pub κs : Lfts 2
   pub bytes : Bor (List ℕ)
-  pub places : Bor (List Chip)
+  pub places : MutBor (List Chip)
   pub from_bytes : bytes.now ≡ card
   pub from_places : places.now ≡ cs
-  pub ghost : (lent_set_up.clauses world.𝓤 world.alloc world.atoms world.memory world.routines κs (bytes, (places, tt))).ghost
+  pub ghost : (lent_set_up.clauses world.𝓛 world.memory world.routines κs (bytes, (places, tt))).ghost
   pub answer : CardAnswer
   pub permits : Learnt world
-      ((lent_set_up.clauses world.𝓤 world.alloc world.atoms world.memory world.routines κs (bytes, (places, tt))).ensures ghost answer
+      ((lent_set_up.clauses world.𝓛 world.memory world.routines κs (bytes, (places, tt))).ensures ghost answer
       (at_exit lent_set_up.ended κs (bytes, (places, tt)) (tt, (ds, tt))))
   pub tells : a ≡ carded answer
 
@@ -127,8 +127,8 @@ from_card_lent card cs ds k ms ss p z =
 pub record PermitsCardInC (card bs : List ℕ) (a : ℤ) (ds : List ℕ) (at : ℕ) : Type 2 where
   pub κs : Lfts 3
   pub bytes : Bor (List ℕ)
-  pub table : Bor (List ℕ)
-  pub offset : Bor ℕ
+  pub table : MutBor (List ℕ)
+  pub offset : MutBor ℕ
   pub from_bytes : bytes.now ≡ card
   pub from_table : table.now ≡ bs
   pub permits : tk-card-reads.Learnt κs (bytes, (table, (offset, tt))) a (at_exit tk-card.ended κs (bytes, (table, (offset, tt))) (tt, (ds, (at, tt))))

@@ -2,7 +2,7 @@
 use Rattle.std.specs.Prelude.{ℕ, true, List, [], ◌≡◌, refl, ℤ}
 use Rattle.std.proofs.Common.{◌∙◌, ap}
 use contract.Lifetimes.{Lfts}
-use Rattle.std.specs.Borrow.{Bor}
+use Rattle.std.specs.Borrow.{Bor, MutBor}
 use denote.Triple.Clauses.{at_exit}
 use Rattle.base.specs.Lent.{lent_as}
 use Rattle.base.specs.Pick.{pick_true}
@@ -18,6 +18,7 @@ use Rattle.toemsakun.specs.contracts.tk_search as tk-search
 use Rattle.toemsakun.proofs.tk_search.Reads as tk-search-reads
 use Rattle.toemsakun.specs.contracts.tk_slots as tk-slots
 use Rattle.toemsakun.proofs.tk_slots.Reads as tk-slots-reads
+use Rattle.histories.specs.Lent.{lent_to_change}
 use Rattle.histories.specs.Slots.{slots_on, left_by_run}
 use Rattle.histories.specs.Calls.{event_call, search_call, slots_call}
 use Rattle.histories.specs.Below.{Codes}
@@ -40,9 +41,9 @@ told s = record { answer = search_number s.number s.answer; list = s.list; reset
 -- `tk_event`: table and buffers lie anywhere, and the contract permits what is handed back and what they hold then
 pub record PermitsEvent (e : Event) (x : LentBytes) (a : ℤ) (y : LentBytes) : Type 2 where
   pub κs : Lfts 3
-  pub table : Bor (List ℕ)
-  pub images : Bor (List ℕ)
-  pub pads : Bor (List ℕ)
+  pub table : MutBor (List ℕ)
+  pub images : MutBor (List ℕ)
+  pub pads : MutBor (List ℕ)
   pub from_table : table.now ≡ x.table
   pub from_images : images.now ≡ x.images
   pub from_pads : pads.now ≡ x.pads
@@ -69,12 +70,12 @@ event_is e x a y q p =
 -- `tk_search`, likewise; what stood in the counts does not matter
 pub record PermitsSearch (list : List ℕ) (x : LentBytes) (a : ToldInC) (y : LentBytes) : Type 2 where
   pub κs : Lfts 6
-  pub table : Bor (List ℕ)
-  pub places : Bor (List ℕ)
-  pub images : Bor (List ℕ)
-  pub pads : Bor (List ℕ)
-  pub resets : Bor ℕ
-  pub slots : Bor ℕ
+  pub table : MutBor (List ℕ)
+  pub places : MutBor (List ℕ)
+  pub images : MutBor (List ℕ)
+  pub pads : MutBor (List ℕ)
+  pub resets : MutBor ℕ
+  pub slots : MutBor ℕ
   pub from_table : table.now ≡ x.table
   pub from_places : places.now ≡ list
   pub from_images : images.now ≡ x.images
@@ -109,11 +110,11 @@ told_slots o = record { answer = slots_number o.answer; answers = o.answers }
 -- `tk_slots`, likewise
 pub record PermitsSlots (n : ℕ) (bits out : List ℕ) (x : LentBytes) (a : ToldSlotsInC) (y : LentBytes) : Type 2 where
   pub κs : Lfts 5
-  pub table : Bor (List ℕ)
+  pub table : MutBor (List ℕ)
   pub host : Bor (List ℕ)
-  pub answers : Bor (List ℕ)
-  pub images : Bor (List ℕ)
-  pub pads : Bor (List ℕ)
+  pub answers : MutBor (List ℕ)
+  pub images : MutBor (List ℕ)
+  pub pads : MutBor (List ℕ)
   pub from_table : table.now ≡ x.table
   pub from_host : host.now ≡ bits
   pub from_answers : answers.now ≡ out
@@ -169,19 +170,19 @@ bytes_codes x s = rw (codes_lent (unpacked_lent x)) (bytes_fit x s)
 -- THEOREM: every call has an outcome that its contract permits, whatever is lent and however long it lives
 pub some_event : Lfts 3 → (e : Event) (x : LentBytes) → PermitsEvent e x (event_bytes x.table e x.images x.pads).answer (leaves_bytes (event_call e) x)
 some_event κs e x =
-    record { κs = κs; table = lent_as x.table; images = lent_as x.images; pads = lent_as x.pads; from_table = refl; from_images = refl; from_pads = refl; permits = refl }
+    record { κs = κs; table = lent_to_change x.table; images = lent_to_change x.images; pads = lent_to_change x.pads; from_table = refl; from_images = refl; from_pads = refl; permits = refl }
 
 pub some_search : Lfts 6 → (list : List ℕ) (x : LentBytes) → let o = search_in list x in
     PermitsSearch list x (record { answer = o.answer; list = o.list; resets = o.resets; slots = o.slots }) (leaves_bytes (search_call list) x)
 some_search κs list x =
     record {
       κs = κs;
-      table = lent_as x.table;
-      places = lent_as list;
-      images = lent_as x.images;
-      pads = lent_as x.pads;
-      resets = lent_as 0;
-      slots = lent_as 0;
+      table = lent_to_change x.table;
+      places = lent_to_change list;
+      images = lent_to_change x.images;
+      pads = lent_to_change x.pads;
+      resets = lent_to_change 0;
+      slots = lent_to_change 0;
       from_table = refl;
       from_places = refl;
       from_images = refl;
@@ -194,11 +195,11 @@ pub some_slots : Lfts 5 → (n : ℕ) (bits out : List ℕ) (x : LentBytes) → 
 some_slots κs n bits out x =
     record {
       κs = κs;
-      table = lent_as x.table;
+      table = lent_to_change x.table;
       host = lent_as bits;
-      answers = lent_as out;
-      images = lent_as x.images;
-      pads = lent_as x.pads;
+      answers = lent_to_change out;
+      images = lent_to_change x.images;
+      pads = lent_to_change x.pads;
       from_table = refl;
       from_host = refl;
       from_answers = refl;

@@ -3,7 +3,7 @@
 use Rattle.std.specs.Prelude.{ℕ, Bool, true, false, List, ◌≡◌, refl}
 use Rattle.std.proofs.Common.{◌∙◌, ap, sym}
 use contract.Lifetimes.{Lfts}
-use Rattle.std.specs.Borrow.{Bor}
+use Rattle.std.specs.Borrow.{Bor, MutBor}
 use denote.Triple.Clauses.{at_exit}
 use Rattle.base.specs.Lent.{lent_as}
 use Rattle.base.specs.Pick.{pick}
@@ -31,6 +31,7 @@ use Rattle.search.specs.Search.{searched, Search, outcome as found, complete_or4
 use Rattle.search.specs.declared.SearchAnswer.{SearchAnswer}
 use Rattle.search.specs.declared.SearchAnswer.TheVariants as search
 use Rattle.search.specs.declared.Found.{Found}
+use Rattle.histories.specs.Lent.{lent_to_change}
 use Rattle.histories.specs.Slots.{slots_on, left_by_run}
 use Rattle.calls.specs.Told.{Told, told, ToldSlots, told_slots}
 use Rattle.calls.specs.Form.{Meets, Form}
@@ -42,8 +43,8 @@ table_of l = record { n = l.count; chips = l.lent.chips }
 -- `line::take_event`: the buffers lie anywhere, and the contract permits what is handed back and what the buffers hold then
 pub record PermitsEvent (e : Event) (l : Attached) (a : Answered) (k : Attached) : Type 2 where
   pub κs : Lfts 2
-  pub images : Bor (List ℕ)
-  pub pads : Bor (List ℕ)
+  pub images : MutBor (List ℕ)
+  pub pads : MutBor (List ℕ)
   pub from_images : images.now ≡ l.lent.images
   pub from_pads : pads.now ≡ l.lent.pads
   pub answer : Answer
@@ -61,9 +62,9 @@ event_is e l a k p =
 -- `search::search_line`, likewise
 pub record PermitsSearch (list : List ℕ) (l : Attached) (a : Told) (k : Attached) : Type 2 where
   pub κs : Lfts 3
-  pub places : Bor (List ℕ)
-  pub images : Bor (List ℕ)
-  pub pads : Bor (List ℕ)
+  pub places : MutBor (List ℕ)
+  pub images : MutBor (List ℕ)
+  pub pads : MutBor (List ℕ)
   pub from_places : places.now ≡ list
   pub from_images : images.now ≡ l.lent.images
   pub from_pads : pads.now ≡ l.lent.pads
@@ -88,9 +89,9 @@ search_is list l a k p =
 pub record PermitsSlots (n : ℕ) (bits out : List ℕ) (l : Attached) (a : ToldSlots) (k : Attached) : Type 2 where
   pub κs : Lfts 4
   pub host : Bor (List ℕ)
-  pub answers : Bor (List ℕ)
-  pub images : Bor (List ℕ)
-  pub pads : Bor (List ℕ)
+  pub answers : MutBor (List ℕ)
+  pub images : MutBor (List ℕ)
+  pub pads : MutBor (List ℕ)
   pub from_host : host.now ≡ bits
   pub from_answers : answers.now ≡ out
   pub from_images : images.now ≡ l.lent.images
@@ -156,8 +157,8 @@ some_event κs e l =
     let q = answer-for (plan_of l.count l.lent.chips e l.lent.images l.lent.pads) l.count l.lent.chips l.lent.images l.lent.pads in
     record {
       κs = κs;
-      images = lent_as l.lent.images;
-      pads = lent_as l.lent.pads;
+      images = lent_to_change l.lent.images;
+      pads = lent_to_change l.lent.pads;
       from_images = refl;
       from_pads = refl;
       answer = q.0;
@@ -172,9 +173,9 @@ some_search κs list l =
     let q = search_for (verdict_at l) list l in
     record {
       κs = κs;
-      places = lent_as list;
-      images = lent_as l.lent.images;
-      pads = lent_as l.lent.pads;
+      places = lent_to_change list;
+      images = lent_to_change l.lent.images;
+      pads = lent_to_change l.lent.pads;
       from_places = refl;
       from_images = refl;
       from_pads = refl;
@@ -195,9 +196,9 @@ some_slots κs n bits out l =
     record {
       κs = κs;
       host = lent_as bits;
-      answers = lent_as out;
-      images = lent_as l.lent.images;
-      pads = lent_as l.lent.pads;
+      answers = lent_to_change out;
+      images = lent_to_change l.lent.images;
+      pads = lent_to_change l.lent.pads;
       from_host = refl;
       from_answers = refl;
       from_images = refl;

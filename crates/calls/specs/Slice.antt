@@ -6,7 +6,7 @@ use seplogic.Ra.Ura.{Ura}
 use base.Logic.{SProp, ent, id⊢}
 use contract.Monad.{Fun, fact}
 use contract.Lifetimes.{Lfts}
-use Rattle.std.specs.Borrow.{Bor}
+use Rattle.std.specs.Borrow.{MutBor}
 use denote.Triple.Clauses.{at_exit}
 use types.Logic.{Logic}
 use prog.Memory.{Memory}
@@ -41,16 +41,16 @@ Learnt W promise = (φ : Type 0) → ent W.𝓤 promise (fact W.𝓤 φ) → φ
 pub record PermitsEvent (e : Event) (x : Lent) (a : Answered) (y : Lent) : Type 2 where
   pub world : World
   pub κs : Lfts 3
-  pub chips : Bor (List Chip)
-  pub images : Bor (List ℕ)
-  pub pads : Bor (List ℕ)
+  pub chips : MutBor (List Chip)
+  pub images : MutBor (List ℕ)
+  pub pads : MutBor (List ℕ)
   pub from_chips : chips.now ≡ x.chips
   pub from_images : images.now ≡ x.images
   pub from_pads : pads.now ≡ x.pads
-  pub ghost : (take-event.clauses world.𝓤 world.alloc world.atoms world.memory world.routines κs (chips, (e, (images, (pads, tt))))).ghost
+  pub ghost : (take-event.clauses world.𝓛 world.memory world.routines κs (chips, (e, (images, (pads, tt))))).ghost
   pub answer : Answer
   pub permits : Learnt world
-      ((take-event.clauses world.𝓤 world.alloc world.atoms world.memory world.routines κs (chips, (e, (images, (pads, tt))))).ensures ghost answer
+      ((take-event.clauses world.𝓛 world.memory world.routines κs (chips, (e, (images, (pads, tt))))).ensures ghost answer
       (at_exit take-event.ended κs (chips, (e, (images, (pads, tt)))) (y.chips, (tt, (y.images, (y.pads, tt))))))
   pub tells : a ≡ answered answer
 
@@ -65,18 +65,18 @@ event_is e x a y p =
 pub record PermitsSearch (list : List ℕ) (x : Lent) (a : Told) (y : Lent) : Type 2 where
   pub world : World
   pub κs : Lfts 4
-  pub chips : Bor (List Chip)
-  pub places : Bor (List ℕ)
-  pub images : Bor (List ℕ)
-  pub pads : Bor (List ℕ)
+  pub chips : MutBor (List Chip)
+  pub places : MutBor (List ℕ)
+  pub images : MutBor (List ℕ)
+  pub pads : MutBor (List ℕ)
   pub from_chips : chips.now ≡ x.chips
   pub from_places : places.now ≡ list
   pub from_images : images.now ≡ x.images
   pub from_pads : pads.now ≡ x.pads
-  pub ghost : (search-line.clauses world.𝓤 world.alloc world.atoms world.memory world.routines κs (chips, (places, (images, (pads, tt))))).ghost
+  pub ghost : (search-line.clauses world.𝓛 world.memory world.routines κs (chips, (places, (images, (pads, tt))))).ghost
   pub returned : Returned
   pub permits : Learnt world
-      ((search-line.clauses world.𝓤 world.alloc world.atoms world.memory world.routines κs (chips, (places, (images, (pads, tt))))).ensures ghost returned
+      ((search-line.clauses world.𝓛 world.memory world.routines κs (chips, (places, (images, (pads, tt))))).ensures ghost returned
       (at_exit search-line.ended κs (chips, (places, (images, (pads, tt)))) (y.chips, (a.list, (y.images, (y.pads, tt))))))
   pub answer : a.answer ≡ searched returned.answer
   pub number : a.number ≡ returned.listed

@@ -2,9 +2,8 @@
 use Rattle.std.specs.Prelude.{ℕ, ◌≤◌, Bool, true, false, List, [], ◌∷◌, ◌≡◌, refl, length, take}
 use Rattle.std.proofs.Common.{sym, ◌∙◌, subst}
 use contract.Lifetimes.{Lfts}
-use Rattle.std.specs.Borrow.{Bor}
+use Rattle.std.specs.Borrow.{MutBor}
 use denote.Triple.Clauses.{at_exit}
-use Rattle.base.specs.Lent.{lent_as}
 use Rattle.base.specs.Pick.{pick}
 use Rattle.line.specs.Attached.{Attached, attached, Stands, line_from}
 use Rattle.line.specs.declared.Table.{Table}
@@ -17,7 +16,9 @@ use Rattle.search.specs.declared.Found.{Found}
 use Rattle.rounds.specs.Borne.{only_borne, page_size, pages_most, pages_asked}
 use Rattle.rounds.specs.Host.{round_host}
 use Rattle.rounds.specs.Round.{Round, round, borne_on, round_verdict, round_by, round_of}
-use Rattle.rounds.proofs as rounds
+use Rattle.rounds.specs.contracts as rounds
+use Rattle.rounds.proofs as rounds_proofs
+use Rattle.histories.specs.Lent.{lent_to_change}
 use Rattle.histories.specs.Below.{Codes, Bytes}
 use Rattle.histories.specs.Histories.{codes_of, stores_of}
 use Rattle.histories.specs.Calls.{events_of}
@@ -36,17 +37,17 @@ table_of l = record { n = l.count; chips = l.lent.chips }
 -- and what they hold then
 pub record MakeRound (list pages : List ℕ) (l : Attached) (r : Round) : Type 2 where
   pub κs : Lfts 4
-  pub places : Bor (List ℕ)
-  pub buffer : Bor (List ℕ)
-  pub images : Bor (List ℕ)
-  pub pads : Bor (List ℕ)
+  pub places : MutBor (List ℕ)
+  pub buffer : MutBor (List ℕ)
+  pub images : MutBor (List ℕ)
+  pub pads : MutBor (List ℕ)
   pub from_places : places.now ≡ list
   pub from_buffer : buffer.now ≡ pages
   pub from_images : images.now ≡ l.lent.images
   pub from_pads : pads.now ≡ l.lent.pads
   pub back : Found
   pub permits : let k = r.found.line.lent in
-      rounds.make_round.Reads.Learnt κs (table_of l, (places, (buffer, (images, (pads, tt))))) back
+      rounds_proofs.make_round.Reads.Learnt κs (table_of l, (places, (buffer, (images, (pads, tt))))) back
       (at_exit rounds.make_round.ended κs (table_of l, (places, (buffer, (images, (pads, tt))))) (tt, (r.found.list, (r.pages, (k.images, (k.pads, tt))))))
   pub answer : r.found.answer ≡ searched back.answer
   pub number : r.found.number ≡ back.listed
@@ -101,10 +102,10 @@ some_round κs list pages l =
     let q = answer-for (round_verdict pages l) list pages l in
     record {
       κs = κs;
-      places = lent_as list;
-      buffer = lent_as pages;
-      images = lent_as l.lent.images;
-      pads = lent_as l.lent.pads;
+      places = lent_to_change list;
+      buffer = lent_to_change pages;
+      images = lent_to_change l.lent.images;
+      pads = lent_to_change l.lent.pads;
       from_places = refl;
       from_buffer = refl;
       from_images = refl;
@@ -119,6 +120,6 @@ some_round κs list pages l =
     }
 
 -- a call of `rounds::pages_asked`: "A function answers the size of page buffer that a table asks, at most 512."
-pub pages_told : (κs : Lfts 0) (t : Table) (size : ℕ) → rounds.pages_asked.Reads.Learnt κs (t, tt) size (at_exit rounds.pages_asked.ended κs (t, tt) (tt, tt))
+pub pages_told : (κs : Lfts 0) (t : Table) (size : ℕ) → rounds_proofs.pages_asked.Reads.Learnt κs (t, tt) size (at_exit rounds.pages_asked.ended κs (t, tt) (tt, tt))
     → (size ≡ pages_asked t.n t.chips) × (size ≤ pages_most)
 pages_told κs t size p = p

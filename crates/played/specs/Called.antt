@@ -4,7 +4,7 @@ use Rattle.std.specs.Prelude.{ℕ, ◌+◌, ◌*◌, ◌≤◌, Bool, true, fals
 use Rattle.std.proofs.Common.{arith, ◌∙◌, ap, sym, eq-eqb}
 use mathlib.Core.List.{List, [], ◌∷◌, ◌++◌, map, flatten, append-nil}
 use contract.Lifetimes.{Lfts}
-use Rattle.std.specs.Borrow.{Bor}
+use Rattle.std.specs.Borrow.{Bor, MutBor}
 use denote.Triple.Clauses.{at_exit}
 use Rattle.base.specs.Pick.{pick_true}
 use Rattle.line.specs.Attached.{Attached, attached}
@@ -56,9 +56,9 @@ table_of l = record { n = l.count; chips = l.lent.chips }
 pub record PlayCall (more : Bool) (s out : List ℕ) (l : Attached) (b : Back) : Type 2 where
   pub κs : Lfts 4
   pub bytes : Bor (List ℕ)
-  pub text : Bor (List ℕ)
-  pub images : Bor (List ℕ)
-  pub pads : Bor (List ℕ)
+  pub text : MutBor (List ℕ)
+  pub images : MutBor (List ℕ)
+  pub pads : MutBor (List ℕ)
   pub from_bytes : bytes.now ≡ s
   pub from_text : text.now ≡ out
   pub from_images : images.now ≡ l.lent.images

@@ -21,6 +21,7 @@ use Rattle.recording.specs.declared.Fault.TheVariants as fault
 use Rattle.recording.specs.declared.Found.{Found}
 use Rattle.recording.specs.declared.Found.TheVariants as found
 use Rattle.recording.specs.declared.Record.{Record}
+use Rattle.histories.specs.Lent.{lent_to_change}
 use Rattle.played.specs.Handed.{Stage, carding, playing, over, Hand, hand}
 use Rattle.played.specs.LineRefusals.{RefusalFor, record_refusal}
 use Rattle.played.specs.Stops.{StopsBy, Stops, play_stops}
@@ -69,9 +70,9 @@ some_play κs more s out l =
       record {
         κs = κs;
         bytes = lent_as s;
-        text = lent_as out;
-        images = lent_as l.lent.images;
-        pads = lent_as l.lent.pads;
+        text = lent_to_change out;
+        images = lent_to_change l.lent.images;
+        pads = lent_to_change l.lent.pads;
         from_bytes = refl;
         from_text = refl;
         from_images = refl;

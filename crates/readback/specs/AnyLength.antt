@@ -11,7 +11,8 @@ use Rattle.base.specs.Pick.{pick, pick_false, pick_same}
 use Rattle.numerals.specs.Numerals.{number, said, minus, most, capped, numeral_by, numeral_of}
 use Rattle.numerals.specs.declared.Numeral.{Numeral}
 use Rattle.numerals.specs.declared.Numeral.TheVariants.{Number, NoNumber}
-use Rattle.numerals.proofs as numerals
+use Rattle.numerals.specs.contracts as numerals
+use Rattle.numerals.proofs as numerals_proofs
 use Rattle.setpoints.specs.Kinds.{Form, form_of, between, allowed}
 use Rattle.setpoints.specs.Pages.{page_size, Wrote, wrote, write_page, write101, write102}
 use Rattle.setpoints.specs.declared.Fault.TheVariants.{WrongLength}
@@ -59,7 +60,7 @@ pub record NumberCall (text : List ℕ) (answer : Numeral) : Type 2 where
   pub κs : Lfts 1
   pub bytes : Bor (List ℕ)
   pub from_bytes : bytes.now ≡ text
-  pub permits : numerals.read_number.Reads.Learnt κs (bytes, tt) answer (at_exit numerals.read_number.ended κs (bytes, tt) (tt, tt))
+  pub permits : numerals_proofs.read_number.Reads.Learnt κs (bytes, tt) answer (at_exit numerals.read_number.ended κs (bytes, tt) (tt, tt))
 
 -- what is told of a text that says a number
 told_number : (text : List ℕ) (z v : ℤ) → said text ≡ number z → NumberCall text (Number v) → v ≡ capped z

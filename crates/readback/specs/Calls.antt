@@ -2,13 +2,14 @@
 use Rattle.std.specs.Prelude.{ℕ, List, ◌≡◌, refl, ℤ}
 use Rattle.std.proofs.Common.{◌∙◌, ap}
 use contract.Lifetimes.{Lfts}
-use Rattle.std.specs.Borrow.{Bor}
+use Rattle.std.specs.Borrow.{Bor, MutBor}
 use denote.Triple.Clauses.{at_exit}
 use Rattle.base.specs.Lent.{lent_as}
 use Rattle.setpoints.specs.Pages.{read101, read102, read_either, wrote, write101, write102}
 use Rattle.setpoints.specs.declared.Reading.{Reading}
 use Rattle.setpoints.specs.declared.Writing.{Writing}
-use Rattle.setpoints.proofs as setpoints
+use Rattle.setpoints.specs.contracts as setpoints
+use Rattle.setpoints.proofs as setpoints_proofs
 
 -- ---- readers
 
@@ -21,13 +22,13 @@ pub record ReadCall (Permits : Lfts 1 → Bor (List ℕ) → Reading → Type 0)
 
 -- `setpoints::read_101`, `setpoints::read_102` and `setpoints::read_either`
 abbrev pub Read101 : List ℕ → Reading → Type 2
-Read101 = ReadCall (λ κs bytes r. setpoints.read_101.Reads.Learnt κs (bytes, tt) r (at_exit setpoints.read_101.ended κs (bytes, tt) (tt, tt)))
+Read101 = ReadCall (λ κs bytes r. setpoints_proofs.read_101.Reads.Learnt κs (bytes, tt) r (at_exit setpoints.read_101.ended κs (bytes, tt) (tt, tt)))
 
 abbrev pub Read102 : List ℕ → Reading → Type 2
-Read102 = ReadCall (λ κs bytes r. setpoints.read_102.Reads.Learnt κs (bytes, tt) r (at_exit setpoints.read_102.ended κs (bytes, tt) (tt, tt)))
+Read102 = ReadCall (λ κs bytes r. setpoints_proofs.read_102.Reads.Learnt κs (bytes, tt) r (at_exit setpoints.read_102.ended κs (bytes, tt) (tt, tt)))
 
 abbrev pub ReadEither : List ℕ → Reading → Type 2
-ReadEither = ReadCall (λ κs bytes r. setpoints.read_either.Reads.Learnt κs (bytes, tt) r (at_exit setpoints.read_either.ended κs (bytes, tt) (tt, tt)))
+ReadEither = ReadCall (λ κs bytes r. setpoints_proofs.read_either.Reads.Learnt κs (bytes, tt) r (at_exit setpoints.read_either.ended κs (bytes, tt) (tt, tt)))
 
 pub told_101 : (page : List ℕ) (r : Reading) → Read101 page r → r ≡ read101 page
 told_101 page r c = c.permits ∙ ap read101 c.from_bytes
@@ -41,18 +42,18 @@ told_either page r c = c.permits ∙ ap read_either c.from_bytes
 -- ---- writers
 
 -- a call of a writer: the page lies anywhere, and the writer's contract permits the answer and what the page holds then
-pub record WriteCall (Permits : Lfts 1 → Bor (List ℕ) → ℤ → Writing → List ℕ → Type 0) (v : ℤ) (page : List ℕ) (answer : Writing) (after : List ℕ) : Type 2 where
+pub record WriteCall (Permits : Lfts 1 → MutBor (List ℕ) → ℤ → Writing → List ℕ → Type 0) (v : ℤ) (page : List ℕ) (answer : Writing) (after : List ℕ) : Type 2 where
   pub κs : Lfts 1
-  pub bytes : Bor (List ℕ)
+  pub bytes : MutBor (List ℕ)
   pub from_bytes : bytes.now ≡ page
   pub permits : Permits κs bytes v answer after
 
 -- `setpoints::write_101` and `setpoints::write_102`
 abbrev pub Write101 : ℤ → List ℕ → Writing → List ℕ → Type 2
-Write101 = WriteCall (λ κs bytes v r after. setpoints.write_101.Reads.Learnt κs (bytes, (v, tt)) r (at_exit setpoints.write_101.ended κs (bytes, (v, tt)) (after, (tt, tt))))
+Write101 = WriteCall (λ κs bytes v r after. setpoints_proofs.write_101.Reads.Learnt κs (bytes, (v, tt)) r (at_exit setpoints.write_101.ended κs (bytes, (v, tt)) (after, (tt, tt))))
 
 abbrev pub Write102 : ℤ → List ℕ → Writing → List ℕ → Type 2
-Write102 = WriteCall (λ κs bytes v r after. setpoints.write_102.Reads.Learnt κs (bytes, (v, tt)) r (at_exit setpoints.write_102.ended κs (bytes, (v, tt)) (after, (tt, tt))))
+Write102 = WriteCall (λ κs bytes v r after. setpoints_proofs.write_102.Reads.Learnt κs (bytes, (v, tt)) r (at_exit setpoints.write_102.ended κs (bytes, (v, tt)) (after, (tt, tt))))
 
 pub wrote_by_101 : (v : ℤ) (page : List ℕ) (a : Writing) (after : List ℕ) → Write101 v page a after → wrote a after ≡ write101 v page
 wrote_by_101 v page a after c = c.permits ∙ ap (write101 v) c.from_bytes
@@ -61,6 +62,10 @@ pub wrote_by_102 : (v : ℤ) (page : List ℕ) (a : Writing) (after : List ℕ) 
 wrote_by_102 v page a after c = c.permits ∙ ap (write102 v) c.from_bytes
 
 -- ---- there are such calls
+
+-- what is lent to be changed: something behind a `&mut`, wherever it lies
+abbrev pub lent_to_change : {X : Type 0} → X → MutBor X
+lent_to_change x = record { ref_ptr = (0, 0); ghost_name = 0; now = x }
 
 -- THEOREM: every call has an outcome that its contract permits, whatever is lent and however long it lives
 pub some_read_101 : Lfts 1 → (page : List ℕ) → Read101 page (read101 page)
@@ -73,7 +78,7 @@ pub some_read_either : Lfts 1 → (page : List ℕ) → ReadEither page (read_ei
 some_read_either κs page = record { κs = κs; bytes = lent_as page; from_bytes = refl; permits = refl }
 
 pub some_write_101 : Lfts 1 → (d : ℤ) (page : List ℕ) → Write101 d page (write101 d page).answer (write101 d page).page
-some_write_101 κs d page = record { κs = κs; bytes = lent_as page; from_bytes = refl; permits = refl }
+some_write_101 κs d page = record { κs = κs; bytes = lent_to_change page; from_bytes = refl; permits = refl }
 
 pub some_write_102 : Lfts 1 → (z : ℤ) (page : List ℕ) → Write102 z page (write102 z page).answer (write102 z page).page
-some_write_102 κs z page = record { κs = κs; bytes = lent_as page; from_bytes = refl; permits = refl }
+some_write_102 κs z page = record { κs = κs; bytes = lent_to_change page; from_bytes = refl; permits = refl }

@@ -6,7 +6,8 @@ use denote.Triple.Clauses.{at_exit}
 use Rattle.std.proofs.Math.IntN.{sub_ℕ}
 use Rattle.base.specs.Pick.{pick, pick_if}
 use Rattle.setpoints.specs.Signed.{signed, unsigned}
-use Rattle.setpoints.proofs as setpoints
+use Rattle.setpoints.specs.contracts as setpoints
+use Rattle.setpoints.proofs as setpoints_proofs
 
 -- n, below two halves, stands for z: z is from −half to half − 1, and is n, or n less both halves
 abbrev pub Stands : ℕ → ℕ → ℤ → Type 0
@@ -39,11 +40,11 @@ signed_pair_is n h = by_middle 0x8000 n h
 
 -- and whoever calls `setpoints::signed_byte` or `setpoints::signed_pair` is told it
 pub signed_byte : (κs : Lfts 0) (b : ℕ) (r : ℤ) → b < 0x100
-    → setpoints.signed_byte.Reads.Learnt κs (b, tt) r (at_exit setpoints.signed_byte.ended κs (b, tt) (tt, tt)) → Stands 0x80 b r
+    → setpoints_proofs.signed_byte.Reads.Learnt κs (b, tt) r (at_exit setpoints.signed_byte.ended κs (b, tt) (tt, tt)) → Stands 0x80 b r
 signed_byte κs b r h c = subst (Stands 0x80 b) (sym c) (signed_byte_is b h)
 
 pub signed_pair : (κs : Lfts 0) (n : ℕ) (r : ℤ) → n < 0x10000
-    → setpoints.signed_pair.Reads.Learnt κs (n, tt) r (at_exit setpoints.signed_pair.ended κs (n, tt) (tt, tt)) → Stands 0x8000 n r
+    → setpoints_proofs.signed_pair.Reads.Learnt κs (n, tt) r (at_exit setpoints.signed_pair.ended κs (n, tt) (tt, tt)) → Stands 0x8000 n r
 signed_pair κs n r h c = subst (Stands 0x8000 n) (sym c) (signed_pair_is n h)
 
 -- THEOREM: and the number that stands for it is the byte, or the pair, again
