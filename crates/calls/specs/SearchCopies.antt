@@ -95,7 +95,7 @@ module _ (i : ℕ) where
     asks : {e : Event} {f : Answered → Host A} {L : List Whole} → AtSlot (λ (b : Bool). carries_out (value_of b L) (at i L) ≡ false) (plan_on e L) → Idles Q (f (answer_of e L)) (after_of e L) → Idles Q (ask e f) L
 
   -- one host, then another
-  idles_bind : {A B : Type 0} {h : Host A} {g : A → Host B} {L : List Whole} {Q : B → List Whole → Type 0} → Idles (λ a M. Idles Q (g a) M) h L → Idles Q (bind h g) L
+  idles_bind : {A B : Type 0} {Q : B → List Whole → Type 0} {g : A → Host B} {h : Host A} {L : List Whole} → Idles (λ a M. Idles Q (g a) M) h L → Idles Q (bind h g) L
   unfolding bind
   idles_bind (ends p) = p
   idles_bind (asks p r) = asks p (idles_bind r)

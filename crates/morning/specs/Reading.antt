@@ -107,11 +107,11 @@ module _ (code : ℕ) where
     page_goes : (L : List Whole) → Sound (stores_of L) → play line_wire (read_page code) L ≡ more 1 96 (play line_wire (read_bytes page_size []) (ready L))
     unfolding read_page
     page_goes L s =
-        let h₁ = hear_both (bits_from 8 0 0x55) _ (after_reset L) (all_hear L s) in
-        let h₂ = hear_both (bits_from 64 0 code) _ (after_command L) h₁.1 in
-        let h₃ = hear_both (bits_from 8 0 0xF0) _ (after_code L) h₂.1 in
-        let h₄ = hear_both (bits_from 8 0 0x00) _ (after_function L) h₃.1 in
-        let h₅ = hear_both (bits_from 8 0 0x00) _ (after_low L) h₄.1 in
+        let h₁ = hear_both (bits_from 8 0 0x55) (bits_from 64 0 code ++ (bits_from 8 0 0xF0 ++ (bits_from 8 0 0x00 ++ (bits_from 8 0 0x00 ++ [])))) (after_reset L) (all_hear L s) in
+        let h₂ = hear_both (bits_from 64 0 code) (bits_from 8 0 0xF0 ++ (bits_from 8 0 0x00 ++ (bits_from 8 0 0x00 ++ []))) (after_command L) h₁.1 in
+        let h₃ = hear_both (bits_from 8 0 0xF0) (bits_from 8 0 0x00 ++ (bits_from 8 0 0x00 ++ [])) (after_code L) h₂.1 in
+        let h₄ = hear_both (bits_from 8 0 0x00) (bits_from 8 0 0x00 ++ []) (after_function L) h₃.1 in
+        let h₅ = hear_both (bits_from 8 0 0x00) [] (after_low L) h₄.1 in
         reset_played _ L
         ∙ ap (more 1 0) (heard_write 8 0 0x55 _ (after_reset L) h₁.0
         ∙ ap (more 0 8) (heard_write 64 0 code _ (after_command L) h₂.0
