@@ -155,6 +155,15 @@ console_count_on κs a x y v w p q = (p ∙ sym q, refl)
 pub console_argument_room : Settled console.argument_room.ended console_proofs.argument_room.Reads.Learnt
 console_argument_room κs a x y v w p q = (p.0 ∙ sym q.0, refl)
 
+pub console_tell : Settled console.tell.ended console_proofs.tell.Reads.Learnt
+console_tell κs a x y v w p q = (refl, refl)
+
+pub console_tell_number : Settled console.tell_number.ended console_proofs.tell_number.Reads.Learnt
+console_tell_number κs a x y v w p q = (refl, refl)
+
+pub console_tell_failed : Settled console.tell_failed.ended console_proofs.tell_failed.Reads.Learnt
+console_tell_failed κs a x y v w p q = (refl, refl)
+
 pub console_say_line : Settled console.say_line.ended console_proofs.say_line.Reads.Learnt
 console_say_line κs a x y v w p q = (refl, refl)
 

@@ -105,6 +105,12 @@ toemsakun_tk_pads_size κs a x y v w p q = (p.0 ∙ sym q.0, refl)
 
 -- terminal
 
+pub terminal_say : Settled terminal.say.ended terminal_proofs.say.Reads.Learnt
+terminal_say κs a x y v w p q = (refl, refl)
+
+pub terminal_say_number : Settled terminal.say_number.ended terminal_proofs.say_number.Reads.Learnt
+terminal_say_number κs a x y v w p q = (refl, refl)
+
 pub terminal_say_refused : Settled terminal.say_refused.ended terminal_proofs.say_refused.Reads.Learnt
 terminal_say_refused κs a x y v w p q = (refl, refl)
 
