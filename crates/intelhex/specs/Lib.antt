@@ -11,4 +11,3 @@ pub mod Putting
 pub mod Sound
 pub mod Decoding
 pub mod Turning
-pub mod Underway

@@ -7,7 +7,8 @@ use Rattle.chip.specs.With.{no_chip}
 use Rattle.line.specs.Event.{answered, refused, number_of, Outcome, outcome, verdict_of, event_of}
 use Rattle.line.specs.Layout.{Lent, lent}
 use Rattle.line.specs.Carrier.{over, first_spot, first_survey, survey_chip, surveyed, verdict_by, plan_seen, bus_over, Turn, turned, turn_of, acts, answer_for}
-use Rattle.line.specs.Carried.{Surveyed, over_line, plan_is, stands_is, walked, refused_walked, plan_walked}
+use Rattle.line.specs.Carried.{Surveyed, over_line, plan_is, stands_is, walked, refused_walked}
+use Rattle.line.proofs.Walked.{plan_walked}
 use Rattle.line.specs.declared.Answer.{Answer}
 use Rattle.line.specs.declared.Event.{Event}
 use Rattle.line.specs.declared.Refusal.{Refusal}

@@ -252,7 +252,7 @@ abbrev pub all_done : (ℕ → Whole → Whole) → ℕ → List Whole → List 
 all_done f i [] = []
 all_done f i (w ∷ L) = f i w ∷ all_done f (i + 1) L
 
-done_map : (f : Whole → Whole) (i : ℕ) (L : List Whole) → all_done (λ j. f) i L ≡ map f L
+pub done_map : (f : Whole → Whole) (i : ℕ) (L : List Whole) → all_done (λ j. f) i L ≡ map f L
 done_map f i [] = refl
 done_map f i (w ∷ L) = ap (λ (K : List Whole). f w ∷ K) (done_map f (i + 1) L)
 
@@ -261,7 +261,7 @@ done_past place l i v [] h = refl
 done_past place l i v (w ∷ L) h =
     λ j. whole (pick_false (eqb i place) (outside_chip l w.chip) w.chip (ne_eqb i place (λ (q : i ≡ place). omega arith)) j) w.memory w.pad ∷ done_past place l (i + 1) v L (omega arith) j
 
-done_outside : (k place l i : ℕ) (v : Bool) (L : List Whole) → i + k ≡ place → all_done (done_by (plan.Outside place l) v) i L ≡ outside_at k l L
+pub done_outside : (k place l i : ℕ) (v : Bool) (L : List Whole) → i + k ≡ place → all_done (done_by (plan.Outside place l) v) i L ≡ outside_at k l L
 unfolding outside_of
 done_outside k place l i v [] e = refl
 done_outside zero place l i v (w ∷ L) e =
@@ -328,14 +328,14 @@ acts_refused r v (suc k) i p cs ms ss =
     ∙ acts_refused r v k (i + 1) (spot_after (get_or cs i no_chip).kind p) cs ms ss
 
 -- who puts 1 on the bus leaves it
-bus_one : (L : List Whole) → bus_from (λ (w : Whole). true) true L ≡ true
+pub bus_one : (L : List Whole) → bus_from (λ (w : Whole). true) true L ≡ true
 unfolding both pick
 bus_one [] = refl
 bus_one (w ∷ L) = bus_one L
 
 -- what the walks of a plan come to, where k places of a table of n chips are walked
 module _ (n k : ℕ) (cs : List Chip) (ms ss : List ℕ) where
-  abbrev valued : Plan → Bool
+  abbrev pub valued : Plan → Bool
   valued d = (bus_over d k cs ms ss).value
 
   abbrev pub walked : Plan → Outcome
@@ -345,13 +345,13 @@ module _ (n k : ℕ) (cs : List Chip) (ms ss : List ℕ) where
   refused_walked r = ap (λ (g : Lent). outcome (refused (number_of r)) n g) (acts_refused r _ k 0 first_spot cs ms ss)
 
   module _ (l : n ≤ length cs) (ok : Fits n cs ms ss) (few : k ≡ n) where
-    abbrev L : List Whole
+    abbrev pub L : List Whole
     L = line_of n cs ms ss
 
     places : length (take n cs) ≡ n
     places = length-take-le n cs l
 
-    valued_is : (d : Plan) → valued d ≡ bus_of d L
+    pub valued_is : (d : Plan) → valued d ≡ bus_of d L
     valued_is d =
         let f = ok.few in
         let p = places in
@@ -366,40 +366,8 @@ module _ (n k : ℕ) (cs : List Chip) (ms ss : List ℕ) where
         (λ j. acts d v ((few ∙ sym places) j) 0 first_spot (sym (take-append-drop n cs) j) ms ss)
         ∙ acts_are d v (take n cs) [] (drop n cs) 0 0 0 [] ms [] ss refl refl refl ok.images ok.pads near_first (omega arith)
 
-    both_are : (d : Plan) (M : List Whole) → all_done (done_by d (bus_of d L)) 0 L ≡ M → (v : Bool) → valued d ≡ v → acts d (valued d) k 0 first_spot cs ms ss ≡ lent_from n cs M
+    pub both_are : (d : Plan) (M : List Whole) → all_done (done_by d (bus_of d L)) 0 L ≡ M → (v : Bool) → valued d ≡ v → acts d (valued d) k 0 first_spot cs ms ss ≡ lent_from n cs M
     both_are d M h v e = acted_is d (valued d) ∙ ap (λ (b : Bool). lent_from n cs (all_done (done_by d b) 0 L)) (valued_is d) ∙ ap (λ (K : List Whole). lent_from n cs K) h
-
-    -- a slot: the bit on the bus, and the line that it leaves
-    pub slot_walked : (b : Bool) → (valued (plan.Slot b) ≡ value_of b L) × (acts (plan.Slot b) (valued (plan.Slot b)) k 0 first_spot cs ms ss ≡ lent_from n cs (after_by (plan.Slot b) L))
-    slot_walked b = (valued_is (plan.Slot b), both_are (plan.Slot b) _ (done_map (act_of (act.Take (bus_of (plan.Slot b) L))) 0 L) _ refl)
-
-    fine_walked : (d : Plan) → walked d ≡ done_of d n cs ms ss
-    fine_walked (plan.Refused r) = refused_walked r
-    fine_walked (plan.Slot b) = λ j. outcome (bit ((slot_walked b).0 j)) n ((slot_walked b).1 j)
-    fine_walked plan.Reset = λ j. outcome (bit (valued_is plan.Reset j)) n (both_are plan.Reset _ (done_map (act_of act.Reset) 0 L) _ refl j)
-    fine_walked plan.PowerOn = λ j. outcome (bit ((valued_is plan.PowerOn ∙ bus_one L) j)) n (both_are plan.PowerOn _ (done_map (act_of act.PowerOn) 0 L) _ refl j)
-    fine_walked (plan.Outside i x) =
-        λ j. outcome (bit ((valued_is (plan.Outside i x) ∙ bus_one L) j)) n (both_are (plan.Outside i x) _ (done_outside i i x 0 (bus_of (plan.Outside i x) L) L (zero-add i)) _ refl j)
-
-  module _ (h : n ≤ 16 → (n ≤ length cs) × (k ≡ n)) where
-    judged_walked : (d : Plan) (q : Verdict) → q ≡ verdict_of n cs ms ss → walked (plan_by q d) ≡ done_of (plan_by q d) n cs ms ss
-    judged_walked d (verdict.Refused r) e = refused_walked r
-    judged_walked d verdict.Well e =
-        let ok = judged_fit n cs ms ss e in
-        fine_walked (h ok.few).0 ok (h ok.few).1 d
-
-    pub plan_walked : (e : Event) → walked (plan_of n cs e ms ss) ≡ event_of n cs e ms ss
-    unfolding plan_of event_of
-    plan_walked e = judged_walked (plan_in (take n cs) e) (verdict_of n cs ms ss) refl
-
-    -- the event, from what the walks leave
-    pub event_walked : (e : Event) (l : Survey) (d : Plan) (v : Bool) (a : Answer) (m : ℕ) (g : Lent) → Surveyed e.chip n cs l → d ≡ plan_seen l n e (length ms) (length ss)
-        → v ≡ (bus_over d k cs ms ss).value → g ≡ acts d v k 0 first_spot cs ms ss → a ≡ answer_for d v → m ≡ n → outcome (answered a) m g ≡ event_of n cs e ms ss
-    event_walked e l d v a m g hl hd hv hg ha hm =
-        (λ j. outcome (answered (ha j)) (hm j) (hg j))
-        ∙ ap (λ (b : Bool). outcome (answered (answer_for d b)) n (acts d b k 0 first_spot cs ms ss)) hv
-        ∙ ap walked (hd ∙ plan_is n cs e ms ss l hl)
-        ∙ plan_walked e
 
 -- a plan by which nothing happens, and one by which something does
 pub refused_done : (p : Plan) (v : Bool) (n : ℕ) (cs : List Chip) (ms ss : List ℕ) → happens_by p ≡ false → outcome (answered (answer_for p v)) n (lent cs ms ss) ≡ done_of p n cs ms ss

@@ -15,7 +15,6 @@ use Rattle.line.specs.Fitted.{AllFitted, split_fitted, map_fitted, length_chips,
 use Rattle.line.specs.Prefix.{capped_is, length_split}
 use Rattle.line.specs.Refusals.{chips_split, images_split, pads_split, fit, held}
 use Rattle.line.specs.Carrier.{first_spot, bus_over, acts}
-use Rattle.line.specs.Carried.{slot_walked}
 use Rattle.line.specs.Slots.{bits_of, bytes_from, host_bits, run_on, bytes_asked, run_fits, run_verdict, put, RunOutcome, run_outcome, run_by}
 use Rattle.line.specs.Runs.{run_length, run_keeps, run_full, host_many, InByte, Running}
 use Rattle.line.specs.declared.Act.TheVariants as act
@@ -75,28 +74,6 @@ module _ (n : ℕ) (cs₀ : List Chip) (L : List Whole) (m : ℕ) (cs : List Chi
       let b : length (chips_of L ++ drop n cs₀) ≡ length L + length (drop n cs₀) = simp (length-append, length-map) in
       let c = g.full in
       omega arith
-
-  -- a slot, by the walks of the code
-  pub carrying_slot : (b v : Bool) (p : ℕ) (ds : List Chip) (xs ys : List ℕ) → v ≡ (bus_over (plan.Slot b) (capped m) cs ms ss).value
-      → lent ds xs ys ≡ acts (plan.Slot b) v (capped m) 0 first_spot cs ms ss → p ≡ m → (v ≡ value_of b L) × Carrying n cs₀ (after_by (plan.Slot b) L) p ds xs ys
-  carrying_slot b v p ds xs ys e h q =
-      let f = carrying_fits in
-      let k = slot_walked m (capped m) cs ms ss carrying_places f (capped_is m f.few) b in
-      let K = after_by (plan.Slot b) L in
-      let line = carrying_line in (
-        e ∙ k.0 ∙ ap (λ (M : List Whole). value_of b M) line,
-        record {
-          number = q ∙ g.number;
-          held = h ∙ ap (λ (w : Bool). acts (plan.Slot b) w (capped m) 0 first_spot cs ms ss) e ∙ k.1
-              ∙ ap (λ (M : List Whole). lent_from m cs (after_by (plan.Slot b) M)) line
-              ∙ (λ j. lent (chips_of K ++ drop (g.number j) (g.held j).chips) (images_of K) (pads_of K))
-              ∙ ap (λ (z : List Chip). lent (chips_of K ++ z) (images_of K) (pads_of K)) (drop_at (chips_of L) (drop n cs₀) n (length_chips L ∙ g.full));
-          fitted = map_fitted (act.Take (value_of b L)) L g.fitted;
-          full = length-map L _ ∙ g.full;
-          few = g.few;
-          places = g.places;
-        },
-      )
 
 -- where the loop over the slots of a byte stands: the line that the table holds, and how far the byte has come
 pub record ByteTable (n : ℕ) (cs₀ : List Chip) (L₀ : List Whole) (bits count i host sum worth m : ℕ) (cs : List Chip) (ms₀ ss₀ ms ss : List ℕ) : Type 0 where

@@ -8,7 +8,7 @@ use Rattle.intelhex.specs.Faults.{number_of_fault}
 use Rattle.intelhex.specs.Lines.{address_in, data_in, judged}
 use Rattle.intelhex.specs.Reading.{Given, given, Next, data-record, end-record, stop, next_by, next_of, next, Found, found, following, lines_of}
 use Rattle.intelhex.specs.Sound.{stands_nothing}
-use Rattle.intelhex.specs.Underway.{NextLies, next_lies}
+use Rattle.intelhex.proofs.Underway.{NextLies, next_lies}
 use Rattle.intelhex.specs.declared.Ending.{Ending}
 use Rattle.intelhex.specs.declared.Ending.TheVariants.{End, Part, Refused}
 use Rattle.intelhex.specs.declared.Fault.{Fault}

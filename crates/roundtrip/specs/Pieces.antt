@@ -8,7 +8,7 @@ use Rattle.base.specs.Pick.{pick_true}
 use Rattle.intelhex.specs.Faults.{image_size, line_most}
 use Rattle.intelhex.specs.Lines.{before}
 use Rattle.intelhex.specs.Reading.{Found, found, lines_of, put_all, blank, Went, went, went_by, read_lines, Read, read, read_by}
-use Rattle.intelhex.specs.Underway.{put_append, put_length}
+use Rattle.intelhex.proofs.Underway.{put_append, put_length}
 use Rattle.intelhex.specs.declared.Ending.{Ending}
 use Rattle.intelhex.specs.declared.Ending.TheVariants.{End, Part, Refused}
 use Rattle.intelhex.specs.declared.Fault.{Fault}

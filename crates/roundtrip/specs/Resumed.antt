@@ -12,7 +12,7 @@ use Rattle.intelhex.specs.Faults.{line_most}
 use Rattle.intelhex.specs.Bytes.{bytes_of}
 use Rattle.intelhex.specs.Lines.{standing, before, form_of, judged}
 use Rattle.intelhex.specs.Reading.{Given, Next, data-record, end-record, stop, next_by, next_in, next_of, next_after, next, Found, found, following, lines_of, read}
-use Rattle.intelhex.specs.Underway.{NextLies, next_lies, following_following}
+use Rattle.intelhex.proofs.Underway.{NextLies, next_lies, following_following}
 use Rattle.intelhex.specs.declared.Ending.{Ending}
 use Rattle.intelhex.specs.declared.Ending.TheVariants.{End, Part, Refused}
 use Rattle.intelhex.specs.declared.lines.Standing.{Standing}

@@ -5,7 +5,7 @@ use Rattle.std.proofs.Math.Path.{ap}
 use Rattle.std.proofs.Math.ListN.{length-drop}
 use Rattle.base.specs.Pick.{pick_true, pick_false}
 use Rattle.intelhex.specs.Reading.{Given, Next, data-record, end-record, stop, next_after, next, Found, found, following, on_next, lines_from, lines_of}
-use Rattle.intelhex.specs.Underway.{NextLies, next_lies}
+use Rattle.intelhex.proofs.Underway.{NextLies, next_lies}
 use Rattle.intelhex.specs.declared.Ending.{Ending}
 use Rattle.intelhex.specs.declared.Ending.TheVariants.{End, Refused}
 use Rattle.intelhex.specs.declared.Fault.TheVariants.{AfterEnd}

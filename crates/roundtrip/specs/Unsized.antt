@@ -8,7 +8,7 @@ use Rattle.intelhex.specs.Answers.{done, awaited, refused, ended_as}
 use Rattle.intelhex.specs.Bytes.{bytes_of}
 use Rattle.intelhex.specs.Lines.{standing, form_of, judged}
 use Rattle.intelhex.specs.Reading.{Next, data-record, end-record, stop, next_by, next_in, next_of, next_after, next, ends_at, on_next, lines_from, lines_of, Went}
-use Rattle.intelhex.specs.Underway.{lines_unsized}
+use Rattle.intelhex.proofs.Underway.{lines_unsized}
 use Rattle.intelhex.specs.declared.Ending.{Ending}
 use Rattle.intelhex.specs.declared.Ending.TheVariants.{End, Part, Refused}
 use Rattle.intelhex.specs.declared.Fault.{Fault}

@@ -10,7 +10,7 @@ use Rattle.intelhex.specs.Faults.{image_size}
 use Rattle.intelhex.specs.Answers.{read_as}
 use Rattle.intelhex.specs.Lines.{count_in, address_in, data_in}
 use Rattle.intelhex.specs.Reading.{Given, given, Found, lines_of, put_all, blank, Read, read, read_by, read_text}
-use Rattle.intelhex.specs.Underway.{put_append, put_length}
+use Rattle.intelhex.proofs.Underway.{put_append, put_length}
 use Rattle.intelhex.specs.declared.Ending.{Ending}
 use Rattle.intelhex.specs.declared.Ending.TheVariants.{End, Part, Refused}
 use Rattle.intelhex.specs.declared.Reading.TheVariants as reading

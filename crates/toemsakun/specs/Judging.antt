@@ -14,7 +14,8 @@ use Rattle.chip.specs.declared.Chip.{Chip}
 use Rattle.line.specs.Event.{answered, outcome, judge, table_tests, verdict_of, all_in_range, table_in_range, sizes_fit, Outcome, plan_in, plan_by, plan_of, done_of, event_of}
 use Rattle.line.specs.Layout.{lent, images_size, pads_size}
 use Rattle.line.specs.Carrier.{verdict_with, verdict_by, plan_seen, happens_by, answer_for}
-use Rattle.line.specs.Carried.{walked, plan_walked, refused_done, happens_few}
+use Rattle.line.specs.Carried.{walked, refused_done, happens_few}
+use Rattle.line.proofs.Walked.{plan_walked}
 use Rattle.line.specs.declared.Answer.{Answer}
 use Rattle.line.specs.declared.Refusal.TheVariants.{OutOfRange}
 use Rattle.line.specs.declared.Event.{Event}

@@ -1,5 +1,6 @@
 use Rattle.std.proofs.Common.{arith}
-use Rattle.line.specs.Carried.{event_walked, table_few, table_surveyed}
+use Rattle.line.specs.Carried.{table_few, table_surveyed}
+use Rattle.line.proofs.Walked.{event_walked}
 use Rattle.line.specs.Layout.{capped}
 use mathlib.Core.Path.{◌≡◌}
 use lib.ListN.{length, length-map}

@@ -2,7 +2,7 @@ use Rattle.std.proofs.Common.{sym, refl, ap, ◌∙◌, rules}
 use Rattle.intelhex.specs.Reading.{read}
 use Rattle.intelhex.specs.declared.Reading.TheVariants as reading
 use Rattle.base.specs.Stores.{sets_all}
-use Rattle.intelhex.specs.Underway.{handed}
+use Rattle.intelhex.proofs.Underway.{handed}
 use Rattle.intelhex.proofs.readers.hand_over.Goals as goal
 
 pub returns-in-End : goal.returns-in-End

@@ -1,4 +1,4 @@
-use Rattle.intelhex.specs.Underway.{lines_unsized, lines_sized}
+use Rattle.intelhex.proofs.Underway.{lines_unsized, lines_sized}
 use Rattle.std.proofs.Common.{rules}
 use Rattle.intelhex.proofs.readers.read_lines.Goals as goal
 

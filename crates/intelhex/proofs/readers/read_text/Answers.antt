@@ -1,4 +1,4 @@
-use Rattle.intelhex.specs.Underway.{text_unsized, text_sized}
+use Rattle.intelhex.proofs.Underway.{text_unsized, text_sized}
 use Rattle.std.proofs.Common.{rules}
 use Rattle.intelhex.proofs.readers.read_text.Goals as goal
 
