@@ -20,9 +20,9 @@ use Rattle.line.specs.Attached.{Stands}
 use Rattle.histories.specs.Calls.{Call, search_call}
 use Rattle.refusals.specs.Search.{given_neither}
 use Rattle.listing.specs.Order.{SameMembers}
-use Rattle.listing.specs.Public.{order_of, search_finds}
-use Rattle.listing.specs.AfterTrouble.{ListedAlike}
-use Rattle.listing.specs.Case.{one_stands}
+use Rattle.listing.proofs.Public.{order_of, search_finds}
+use Rattle.listing.proofs.AfterTrouble.{ListedAlike}
+use Rattle.listing.proofs.Case.{one_stands}
 use Rattle.agreement.specs.Slice.{of_lent, codes_in, run_lent, codes_lent}
 use Rattle.agreement.specs.InC.{LentBytes, unpacked_lent, packed_lent, search_in, run_bytes, searched_after}
 use Rattle.agreement.specs.AfterTroubleLent.{list_after_trouble_lent, same_codes_same_list_lent, second_list_lent}

@@ -7,7 +7,8 @@ use Rattle.histories.specs.Below.{Codes}
 use Rattle.line.specs.Attached.{Stands}
 use Rattle.histories.specs.Calls.{Call, search_call}
 use Rattle.listing.specs.Order.{SameMembers}
-use Rattle.listing.specs.AfterTrouble.{ListedAlike, SameSearch, same_codes_same_list, list_after_calls, second_list}
+use Rattle.listing.proofs.AfterTrouble.{ListedAlike, SameSearch, same_codes_same_list}
+use Rattle.listing.proofs.AfterCalls.{list_after_calls, second_list}
 use Rattle.agreement.specs.Slice.{of_lent, codes_in, run_lent, run-lent, codes_lent}
 
 -- M-111 of `lent::search_line`: after any calls of it and of `lent::take_event`, as before them

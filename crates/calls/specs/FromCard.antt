@@ -24,9 +24,9 @@ use Rattle.toemsakun.proofs.tk_card.Reads as tk-card-reads
 use Rattle.histories.specs.Below.{Bytes}
 use Rattle.histories.specs.SetUp.{kind_in, codes_from, chips_from, length_chips_from, sets_up, table_from, SizesAsked, set_up_stands}
 use Rattle.refusals.specs.Reading.{card_refused}
-use Rattle.recovery.specs.Installed.{Differ}
-use Rattle.recovery.specs.Public.{TableInstalled}
-use Rattle.recovery.specs.FromCard.{card_installed}
+use Rattle.recovery.proofs.Installed.{Differ}
+use Rattle.recovery.proofs.Public.{TableInstalled}
+use Rattle.recovery.proofs.FromCard.{card_installed}
 use Rattle.agreement.specs.Slice.{of_lent}
 use Rattle.agreement.specs.InC.{LentBytes, unpacked_lent, not_below}
 use Rattle.calls.specs.Form.{Form, Well}

@@ -10,7 +10,7 @@ use Rattle.histories.specs.Calls.{events_of}
 use Rattle.histories.specs.SearchEvents.{RunOfEvents, search_is_run}
 use Rattle.histories.specs.Kept.{calls_codes}
 use Rattle.listing.specs.Order.{branch_order}
-use Rattle.listing.specs.Public.{order_of, Found, search_finds}
+use Rattle.listing.proofs.Public.{order_of, Found, search_finds}
 use Rattle.calls.specs.Form.{Form, CallTold, calls_of, Ran, Well, ran_leaves, stands_on}
 
 -- a search that told a and left z of y found what the codes of a table l and the places give, by a run of resets and slots on y

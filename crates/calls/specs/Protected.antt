@@ -1,8 +1,8 @@
 -- Demand 3, "Protected blocks never change, and in EPROM mode no bit rises.": over any calls.
 use Rattle.std.specs.Prelude.{ℕ, ◌<◌, List, ◌≡◌}
 use Rattle.std.specs.Int.Bits.{bit_and}
-use Rattle.protection.specs.Blocks.{control, block_byte}
-use Rattle.protection.specs.Public.{memory_of, protected_calls, only_falls_calls}
+use Rattle.protection.proofs.Blocks.{control, block_byte}
+use Rattle.protection.proofs.Public.{memory_of, protected_calls, only_falls_calls}
 use Rattle.calls.specs.Form.{Form, CallTold, calls_of, Ran, Well, ran_leaves}
 
 -- once the control byte of block j of chip i is 55h, no calls change it or any of the block's bytes

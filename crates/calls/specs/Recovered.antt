@@ -11,8 +11,8 @@ use Rattle.histories.specs.Joined.{run_on, answers_on}
 use Rattle.histories.specs.Calls.{calls_on, events_of_calls, stands_calls}
 use Rattle.recovery.specs.CarriedOut.{NoCopy}
 use Rattle.recovery.specs.Sessions.{Addressed, write, Page}
-use Rattle.recovery.specs.Public.{chip_of, TableInstalled, TableRecovered}
-use Rattle.recovery.specs.OverCalls.{demand_3_calls}
+use Rattle.recovery.proofs.Public.{chip_of, TableInstalled, TableRecovered}
+use Rattle.recovery.proofs.OverCalls.{demand_3_calls}
 use Rattle.calls.specs.Form.{Form, CallTold, calls_of, Ran, ran_leaves}
 use Rattle.calls.specs.SearchCopies.{NoCopyIn, no_copy_in}
 use Rattle.calls.specs.Events.{Put, put_is}

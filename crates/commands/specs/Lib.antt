@@ -1,6 +1,5 @@
 pub mod Reset
 pub mod ShortAddress
-pub mod NotCopied
 pub mod Asked
 pub mod Copy
 pub mod Streams
@@ -11,6 +10,3 @@ pub mod ReadScratchpad
 pub mod ReadMemory
 pub mod ReadStays
 pub mod WriteScratchpad
-pub mod Public
-pub mod PublicReads
-pub mod ReadCase

@@ -19,7 +19,7 @@ use Rattle.histories.specs.Histories.{at, run, answers}
 use Rattle.histories.specs.Sent.{bits_from, bits_of}
 use Rattle.recovery.specs.Filled.{filled_by, address_taken}
 use Rattle.recovery.specs.Goes.{Goes, ec20, goes_to, goes_append, goes_command}
-use Rattle.recovery.specs.Installed.{Installed}
+use Rattle.recovery.proofs.Installed.{Installed}
 use Rattle.commands.specs.ShortAddress.{matched}
 use Rattle.commands.specs.Streams.{then_ones, but_level, Streams}
 use Rattle.commands.specs.Sending.{in_phase, streams_bytes, streams_end}

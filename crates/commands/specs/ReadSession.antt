@@ -13,11 +13,11 @@ use Rattle.histories.specs.Histories.{at, answer_of, after_of, run, answers, cam
 use Rattle.histories.specs.Sent.{slots}
 use Rattle.recovery.specs.Sessions.{opening, Addressed, slotted, match_session}
 use Rattle.recovery.specs.Stays.{run_stays}
-use Rattle.recovery.specs.Among.{Own, Among, among_at, own_run, own_answers, alone, alone_answers}
+use Rattle.recovery.proofs.Among.{Own, Among, among_at, own_run, own_answers, alone, alone_answers}
 use Rattle.recovery.specs.Goes.{Goes, goes_from, goes_append, of_kind, ec20, goes_opening}
-use Rattle.recovery.specs.Installed.{Installed, codes_at}
-use Rattle.recovery.specs.Matched.{came_slots, addressed_slots, reset_is, session_among, session_answers}
-use Rattle.recovery.specs.Recovery.{run_append}
+use Rattle.recovery.proofs.Installed.{Installed, codes_at}
+use Rattle.recovery.proofs.Matched.{came_slots, addressed_slots, reset_is, session_among, session_answers}
+use Rattle.recovery.proofs.Recovery.{run_append}
 use Rattle.histories.specs.Fed.{fed}
 use Rattle.commands.specs.Streams.{sent_in, then_ones, but_level, Streams}
 use Rattle.commands.specs.ShortAddress.{matched}

@@ -15,12 +15,12 @@ use Rattle.chip.specs.Chip.{Whole, whole, level_reset}
 use Rattle.chip.specs.declared.Level.TheVariants.{Memory}
 use Rattle.histories.specs.Histories.{at, run, answers}
 use Rattle.recovery.specs.Sessions.{write_bits, write, WithinPage}
-use Rattle.recovery.specs.Among.{among_at}
+use Rattle.recovery.proofs.Among.{among_at}
 use Rattle.recovery.specs.Goes.{Goes, of_kind}
 use Rattle.recovery.specs.Written.{ruled, data_from, overlaid, wrote, goes_write, goes_filled}
-use Rattle.recovery.specs.Installed.{Installed}
-use Rattle.recovery.specs.Matched.{session_among}
-use Rattle.recovery.specs.Rewritten.{pad-size}
+use Rattle.recovery.proofs.Installed.{Installed}
+use Rattle.recovery.proofs.Matched.{session_among}
+use Rattle.recovery.proofs.Rewritten.{pad-size}
 use Rattle.commands.specs.Streams.{then_ones, but_level, Streams}
 use Rattle.commands.specs.Sending.{inverted, in_phase, streams_crc}
 use Rattle.commands.specs.ReadSession.{reading, reading_answers, after_match, match_goes, session_reads, session_stays}

@@ -11,7 +11,7 @@ use Rattle.line.specs.declared.Verdict.{Verdict}
 use Rattle.line.specs.Attached.{Attached, says_of, leaves_of, Stands, line_from, with_line}
 use Rattle.search.specs.Search.{wire, from_played, search_by, search_of}
 use Rattle.histories.specs.Histories.{answer_of, after_of, run, answers, line_wire}
-use Rattle.line.specs.Standing.{line_length, put_back, again}
+use Rattle.line.proofs.Standing.{line_length, put_back, again}
 use Rattle.histories.specs.Standing.{says_is, leaves_is, stands_after, line_after, after_length}
 
 -- what was played on the line of a table, with that line put back

@@ -18,7 +18,7 @@ use Rattle.histories.specs.Histories.{no_whole, at, codes_of, kinds_of, after_of
 use Rattle.chip.specs.RangeKept.{Clear, clear_bit}
 use Rattle.line.specs.Named.{Named, act_named}
 use Rattle.line.specs.Keeps.{outside_named}
-use Rattle.line.specs.Standing.{AllGood, line_good}
+use Rattle.line.proofs.Standing.{AllGood, line_good}
 use Rattle.histories.specs.Standing.{at_chip, after_length}
 use Rattle.histories.specs.Joined.{run_on, run_joined}
 use Rattle.histories.specs.Calls.{Call, calls_on, events_of_calls, calls_run, stands_calls}

@@ -18,7 +18,7 @@ use Rattle.line.specs.declared.Verdict.{Verdict}
 use Rattle.line.specs.declared.Plan.TheVariants as plan
 use Rattle.line.specs.Attached.{Attached, says_of, leaves_of, left_by, Stands, line_from, with_line}
 use Rattle.histories.specs.Histories.{at, codes_of, answer_of, after_of}
-use Rattle.line.specs.Standing.{AllGood, comes_good, line_good, line_length, put_back, line_with, stands_with}
+use Rattle.line.proofs.Standing.{AllGood, comes_good, line_good, line_length, put_back, line_with, stands_with}
 
 -- the chips of a line, and of its table
 pub at_chip : (i : ℕ) (L : List Whole) → (at i L).chip ≡ get_or (chips_of L) i no_chip

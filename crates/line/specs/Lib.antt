@@ -18,4 +18,3 @@ pub mod Runs
 pub mod Packing
 pub mod RunTables
 pub mod Keeps
-pub mod Standing

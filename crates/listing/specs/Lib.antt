@@ -8,9 +8,3 @@ pub mod Slots
 pub mod Line
 pub mod Pass
 pub mod Passes
-pub mod Listing
-pub mod Public
-pub mod AfterTrouble
-pub mod Case
-pub mod Count
-pub mod TooFew

@@ -12,16 +12,16 @@ use Rattle.chip.specs.Chip.{Whole}
 use Rattle.chip.specs.declared.Chip.{Chip}
 use Rattle.line.specs.Attached.{Attached, Stands, line_from}
 use Rattle.line.specs.Refusals.{chips_split, in_range_few}
-use Rattle.line.specs.Standing.{line_length}
+use Rattle.line.proofs.Standing.{line_length}
 use Rattle.rounds.specs.Borne.{borne_in, only_borne}
 use Rattle.rounds.specs.Round.{borne_on}
 use Rattle.histories.specs.Below.{Codes}
 use Rattle.histories.specs.Histories.{codes_of}
 use Rattle.histories.specs.Standing.{codes_chips}
 use Rattle.listing.specs.Order.{Distinct}
-use Rattle.listing.specs.Listing.{branch-order}
-use Rattle.listing.specs.Count.{once_distinct, no_more}
-use Rattle.listing.specs.Public.{order_of}
+use Rattle.listing.proofs.Listing.{branch-order}
+use Rattle.listing.proofs.Count.{once_distinct, no_more}
+use Rattle.listing.proofs.Public.{order_of}
 
 -- "some chip of the table with that code is of kind 1"
 pub record Bears (code : ℕ) (cs : List Chip) : Type 0 where

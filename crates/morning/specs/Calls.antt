@@ -23,7 +23,7 @@ use Rattle.histories.specs.Below.{Codes, Bytes}
 use Rattle.histories.specs.Histories.{codes_of, stores_of}
 use Rattle.histories.specs.Calls.{events_of}
 use Rattle.histories.specs.SearchEvents.{RunOfEvents}
-use Rattle.listing.specs.Public.{order_of}
+use Rattle.listing.proofs.Public.{order_of}
 use Rattle.morning.specs.Page.{bearers_of, page_of, pages_of}
 use Rattle.morning.specs.Counts.{codes_count, Sized, Counts, round_counts}
 use Rattle.morning.specs.RoundEvents.{round_is_run}

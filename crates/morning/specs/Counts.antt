@@ -23,8 +23,8 @@ use Rattle.rounds.specs.Rounds.{search_well, round_stops, round_reads_on}
 use Rattle.histories.specs.Below.{Codes}
 use Rattle.histories.specs.Histories.{codes_of}
 use Rattle.listing.specs.Order.{SameMembers}
-use Rattle.listing.specs.Count.{once_distinct, no_more, order_distinct}
-use Rattle.listing.specs.Public.{order_of, search_finds}
+use Rattle.listing.proofs.Count.{once_distinct, no_more, order_distinct}
+use Rattle.listing.proofs.Public.{order_of, search_finds}
 use Rattle.morning.specs.Bearing.{borne_listed, borne_few, codes_few}
 
 -- "n is the number of distinct codes"

@@ -15,7 +15,7 @@ use Rattle.chip.specs.declared.Chip.{Chip}
 use Rattle.line.specs.Attached.{Attached, says_of, leaves_of, Stands, line_from}
 use Rattle.line.specs.Layout.{split}
 use Rattle.line.specs.Refusals.{in_range_few}
-use Rattle.line.specs.Standing.{AllGood, line_good, line_length}
+use Rattle.line.proofs.Standing.{AllGood, line_good, line_length}
 use Rattle.search.specs.Host.{Host, done, ask, bind, Played, Listed, play, search_host}
 use Rattle.search.specs.Counts.{and_then, play_bind}
 use Rattle.search.specs.Search.{wire}
@@ -27,9 +27,9 @@ use Rattle.histories.specs.Histories.{Stored, codes_of, stores_of, line_wire}
 use Rattle.histories.specs.Joined.{play_joined}
 use Rattle.histories.specs.Standing.{says_is, line_after, stands_after}
 use Rattle.listing.specs.Order.{Lists}
-use Rattle.listing.specs.Listing.{branch-order, listing_of_16}
-use Rattle.listing.specs.Count.{order_distinct}
-use Rattle.listing.specs.Public.{order_of}
+use Rattle.listing.proofs.Listing.{branch-order, listing_of_16}
+use Rattle.listing.proofs.Count.{order_distinct}
+use Rattle.listing.proofs.Public.{order_of}
 use Rattle.morning.specs.Page.{bearing, bearers_of, bytes_at, page_of, pages_of}
 use Rattle.morning.specs.Rows.{bears, Longer}
 use Rattle.morning.specs.Anded.{own_bytes}

@@ -1,23 +1,20 @@
 -- A run of slots cut into two records at any bit plays as the one record does.
 use Rattle.std.specs.Prelude.{ℕ, ◌+◌, ◌-◌, ◌≤◌, Bool, true, false, List, [], ◌++◌, ◌≡◌, ltb, length, take, drop}
-use Rattle.std.proofs.Common.{add-zero, arith, append_assoc, ◌∙◌, ap, sym, subst, length-append, length-drop, take-append-drop, length-take-le, drop_at, lt-ltb, le-ltb}
+use Rattle.std.proofs.Common.{add-zero, arith, append_assoc, ◌∙◌, ap, sym, length-append, length-drop, take-append-drop, length-take-le, drop_at, lt-ltb, le-ltb}
 use Rattle.std.proofs.lemmas.List.{map-append}
 use Rattle.base.specs.Pick.{pick, pick_true, pick_false}
 use Rattle.line.specs.Attached.{Attached, Stands}
 use Rattle.line.specs.declared.Event.{Event}
 use Rattle.line.specs.declared.Table.{Table}
 use Rattle.line.specs.Events.{slot_event}
-use Rattle.line.specs.Slots.{bytes_asked, host_bits}
-use Rattle.recording.specs.Reading.{found_at, starts_event}
+use Rattle.line.specs.Slots.{bytes_asked}
+use Rattle.recording.specs.Reading.{starts_event}
 use Rattle.recording.specs.Cards.{room_for, cards_read, cards_of, cards_from}
 use Rattle.recording.specs.Playing.{Ends, bits, Step, step, slots_step, Played, played, after, further, on_step, play_on, play_from, play_all, set_up_line, playback}
 use Rattle.recording.specs.JoinPlay.{run_of, after_run, slots-step, runs_said}
 use Rattle.recording.specs.Unpacked.{unpacked}
 use Rattle.recording.specs.declared.CardsEnding.TheVariants as cards
 use Rattle.recording.specs.declared.CardsRead.{CardsRead}
-use Rattle.recording.specs.declared.Record.TheVariants as record_of
-use Rattle.recording.specs.declared.Found.TheVariants as found
-use Rattle.histories.specs.Below.{Bytes}
 use Rattle.histories.specs.Sent.{slots}
 use Rattle.histories.specs.Joined.{run_on, stands_on}
 use Rattle.histories.specs.Calls.{run_on_append}
@@ -26,7 +23,6 @@ use Rattle.played.specs.Packing.{packed}
 use Rattle.played.specs.Written.{slots_bytes, slots_size, bits_written, found_written, starts_written, written_length}
 use Rattle.played.specs.Handed.{Stage, carding, playing, over, Hand, start, hand_after, card_after, hand_bytes, hand_piece, came_to}
 use Rattle.played.specs.Standing.{table_stands}
-use Rattle.played.specs.Formed.{Formed, formed}
 use Rattle.played.specs.Fuel.{play_there}
 use Rattle.played.specs.Pieces.{whole_from, piece_whole, one_piece}
 use Rattle.played.specs.Counted.{piece_counted}
@@ -176,15 +172,3 @@ pub after_refusal : (before first second : List ℕ) (e : Ends) (l : Attached) �
 after_refusal before first second e l o =
     let g = hand_piece true before start in
     in_two_pieces before first ∙ handed_over first g e l o ∙ sym (handed_over second g e l o) ∙ sym (in_two_pieces before second)
-
--- every run that a recording of bytes holds there has that form, so all of them can be cut so
-pub taken_cut : (before rest : List ℕ) (count from to next room : ℕ) (event more : Bool) → Bytes rest → (hand_piece true before start).held ≡ []
-    → found_at rest 0 room event more ≡ found.Record (record_of.Slots count from to) next → let hs = host_bits count (take (to - from) (drop from rest)) in (k : ℕ) → k ≤ count
-    → playback (before ++ (slots_bytes (take k hs) ++ (slots_bytes (drop k hs) ++ drop next rest))) ≡ place_moved (length before) (bytes_added k hs) (playback (before ++ rest))
-taken_cut before rest count from to next room event more b e f k h =
-    let hs = host_bits count (take (to - from) (drop from rest)) in
-    let w = subst (Formed rest) f (formed rest room event more b) in
-    let n = w.0 in
-    let few = w.1 in
-    written_cut before (drop next rest) hs k (omega arith) (omega arith) e
-    ∙ ap (λ (s : List ℕ). place_moved (length before) (bytes_added k hs) (playback (before ++ s))) (sym w.2)

@@ -23,7 +23,6 @@ pub mod Written
 pub mod Formed
 pub mod Cut
 pub mod Before
-pub mod CutAnywhere
 pub mod Texts
 pub mod Called
 pub mod Permitted

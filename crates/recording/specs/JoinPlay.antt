@@ -7,7 +7,7 @@ use Rattle.line.specs.Attached.{Attached, verdict_at, Stands, line_from, with_li
 use Rattle.line.specs.Refusals.{well_judged}
 use Rattle.line.specs.Runs.{run_append, run_full}
 use Rattle.line.specs.Slots.{host_bits, Run, run_on}
-use Rattle.line.specs.Standing.{line_length, put_back, again, judged_stands, run_stands, run_line}
+use Rattle.line.proofs.Standing.{line_length, put_back, again, judged_stands, run_stands, run_line}
 use Rattle.line.specs.declared.Verdict.{Verdict}
 use Rattle.line.specs.declared.Verdict.TheVariants as verdict
 use Rattle.recording.specs.Reading.{found_at}

@@ -8,7 +8,7 @@ use Rattle.line.specs.Attached.{Attached, says_of, verdict_at, line_from}
 use Rattle.line.specs.Event.{Answered, bit, refused}
 use Rattle.line.specs.Runs.{run_length, host_most}
 use Rattle.line.specs.Slots.{host_bits}
-use Rattle.line.specs.Standing.{event_places, run_places}
+use Rattle.line.proofs.Standing.{event_places, run_places}
 use Rattle.line.specs.declared.Verdict.{Verdict}
 use Rattle.line.specs.declared.Verdict.TheVariants as verdict
 use Rattle.recording.specs.Reading.{found_at}

@@ -1,6 +1,6 @@
 -- Which slots carry out a copy; and a chip that carries out none keeps its memory.
 use Rattle.std.specs.Prelude.{ℕ, Bool, true, false, not, List, ◌≡◌, ltb}
-use Rattle.std.proofs.Common.{true≢false, ◌∙◌, ap}
+use Rattle.std.proofs.Common.{◌∙◌, ap}
 use Rattle.std.proofs.Math.Path.{refl}
 use Rattle.std.proofs.lemmas.Bool.{not-true}
 use Rattle.base.specs.Pick.{pick}
@@ -10,15 +10,13 @@ use Rattle.scratchpad.specs.declared.MemoryAfter.{MemoryAfter}
 use Rattle.scratchpad.specs.declared.MemoryPhase.TheVariants.{CopyEnd}
 use Rattle.scratchpad.specs.declared.Deed.{Deed}
 use Rattle.scratchpad.specs.declared.Deed.TheVariants.{Nothing, Put, Copy}
-use Rattle.memory.specs.Memory.{done}
-use Rattle.chip.specs.Chip.{Whole, chip_map, level_seen, level_takes_by, memory_sight, memory_slot, takes_of, reset_of, power_on_of, outside_of}
+use Rattle.chip.specs.Chip.{Whole, level_seen, level_takes_by, memory_sight, memory_slot}
 use Rattle.chip.specs.declared.Level.{Level}
 use Rattle.chip.specs.declared.Level.TheVariants.{Memory}
-use Rattle.line.specs.Line.{value_of, act_of}
+use Rattle.line.specs.Line.{value_of}
 use Rattle.line.specs.declared.Event.{Event}
-use Rattle.line.specs.declared.Act.TheVariants.{Take, Reset, PowerOn}
-use Rattle.histories.specs.Histories.{at, run}
-use Rattle.histories.specs.AtSlots.{AtSlots, at_slots, at-slots, slots_kept}
+use Rattle.histories.specs.Histories.{at}
+use Rattle.histories.specs.AtSlots.{AtSlots, at_slots, at-slots}
 
 -- the deed is a copy
 abbrev pub is_copy : Deed → Bool
@@ -56,38 +54,3 @@ copies_none i es L = at_slots (λ (b : Bool) (K : List Whole). not (carries_out 
 -- where it computes to true, it is so
 pub copies-none : (i : ℕ) (es : List Event) (L : List Whole) → copies_none i es L ≡ true → NoCopy i es L
 copies-none i es L e = at-slots _ _ (λ b K h. not-true (carries_out (value_of b K) (at i K)) h) es L e
-
--- a slot that carries out no copy leaves the memory
-module _ (w : Whole) where
-  -- by the deed
-  deed_stays : (d : Deed) → is_copy d ≡ false → (done (chip_map w.chip) w.memory w.pad d).memory ≡ w.memory
-  deed_stays Nothing e = refl
-  deed_stays (Put offset b) e = refl
-  deed_stays (Copy t n) e = absurd (true≢false e)
-
-  -- by the slot
-  slot_stays : (v : Bool) → carries_out v w ≡ false → (act_of (Take v) w).memory ≡ w.memory
-  unfolding takes_of carries_out
-  slot_stays v e = let l = w.chip.level in deed_stays (level_takes_by w.chip v (level_seen w l) l).deed e
-
-  -- a reset leaves the memory
-  reset_stays : (act_of Reset w).memory ≡ w.memory
-  unfolding reset_of
-  reset_stays = refl
-
-  -- power on leaves the memory
-  power_stays : (act_of PowerOn w).memory ≡ w.memory
-  unfolding power_on_of
-  power_stays = refl
-
-  -- outside levels leave the memory
-  outside_stay : (l : ℕ) → (outside_of l w).memory ≡ w.memory
-  unfolding outside_of
-  outside_stay l = refl
-
--- THEOREM: a chip that carries out no copy in a history has the memory that it had
-pub no_copy : (i : ℕ) (es : List Event) (L : List Whole) → NoCopy i es L → (at i (run es L)).memory ≡ (at i L).memory
-no_copy i es L n =
-    slots_kept i (λ (w : Whole). w.memory ≡ (at i L).memory) _
-    (λ b K h q. slot_stays (at i K) (value_of b K) q ∙ h) (λ w h. reset_stays w ∙ h) (λ w h. power_stays w ∙ h) (λ l w h. outside_stay w l ∙ h)
-    es L refl n

@@ -2,16 +2,6 @@ pub mod Sessions
 pub mod CarriedOut
 pub mod Stays
 pub mod Opening
-pub mod Among
 pub mod Filled
 pub mod Goes
 pub mod Written
-pub mod Installed
-pub mod Matched
-pub mod Rewritten
-pub mod Recovery
-pub mod Demand3
-pub mod Case
-pub mod Public
-pub mod OverCalls
-pub mod FromCard

@@ -19,9 +19,9 @@ use Rattle.line.specs.declared.Plan.TheVariants as plan
 use Rattle.line.specs.Attached.{Attached, says_of, leaves_of, Stands, line_from}
 use Rattle.histories.specs.Histories.{at, answer_of, after_of}
 use Rattle.histories.specs.Place.{at_map}
-use Rattle.line.specs.Standing.{line_length}
+use Rattle.line.proofs.Standing.{line_length}
 use Rattle.histories.specs.Standing.{says_is, line_after}
-use Rattle.wired.specs.Wired.{AllSendOne, value_exactly, Sending, moves_on}
+use Rattle.wired.specs.Wired.{AllSendOne, value_exactly}
 
 -- "Events: 0 and 1, a slot in which the host writes that bit"
 abbrev pub Writes : Bool → Event → Type 0
@@ -91,7 +91,7 @@ module _ (l : Attached) (s : Stands l) where
   unfolding answer_of
   says_by e q h = says_is l s e ∙ ap (λ (p : Plan). answer_by p (line_from l)) h
 
-  slot_says : (b : Bool) (e : Event) → Writes b e → says_of e l ≡ answer_by (plan.Slot b) (line_from l)
+  pub slot_says : (b : Bool) (e : Event) → Writes b e → says_of e l ≡ answer_by (plan.Slot b) (line_from l)
   slot_says b e h = says_by e (plan.Slot b) (slot_plan b e (line_from l) h)
 
   -- "A slot's value is the AND of the host's bit and the bit of each chip that is sending": a slot answers 1 exactly if the host's bit and
@@ -130,18 +130,3 @@ module _ (l : Attached) (s : Stands l) where
       ap (at i) (line_after l e s ∙ ap (λ (p : Plan). after_by p L) (slot_plan b e L h))
       ∙ at_map (act_of (Take (value_of b L))) i L (rw (line_length l s) k)
       ∙ rw u
-
-  -- "A sending chip moves on whatever the value.": by either bit it is the same after the slot
-  pub senders_move_on : (b : Bool) (e : Event) → Writes b e → (i : ℕ) → i < l.count → Sending (at i (line_from l)).chip.level
-      → (v : Bool) → at i (line_from (leaves_of e l)) ≡ takes_of v (at i (line_from l))
-  senders_move_on b e h i k d v =
-      chips_take_the_bus b e h (value_of b (line_from l)) (slot_says b e h) i k ∙ either (value_of b (line_from l)) v
-    where
-      w : Whole
-      w = at i (line_from l)
-
-      either : (x y : Bool) → takes_of x w ≡ takes_of y w
-      either true true = refl
-      either true false = moves_on w d
-      either false true = sym (moves_on w d)
-      either false false = refl

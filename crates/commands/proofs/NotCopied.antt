@@ -24,8 +24,10 @@ use Rattle.line.specs.declared.Event.{Event}
 use Rattle.histories.specs.Histories.{at, run}
 use Rattle.line.specs.Keeps.{level_either}
 use Rattle.histories.specs.AtSlots.{AtSlots, slots_kept, at_slots_too}
-use Rattle.recovery.specs.CarriedOut.{is_copy, carries_out, NoCopy, no_copy}
-use Rattle.commands.specs.Reset.{is_cut, after_cut, only_pf, reset_cuts}
+use Rattle.recovery.specs.CarriedOut.{is_copy, carries_out, NoCopy}
+use Rattle.recovery.proofs.CarriedOut.{no_copy}
+use Rattle.commands.specs.Reset.{is_cut, after_cut, only_pf}
+use Rattle.commands.proofs.Reset.{reset_cuts}
 
 -- the next slot is that of the 16th bit of a Write Scratchpad's address, at each phase of a memory
 abbrev pub phase_ends : MemoryPhase → Bool

@@ -6,15 +6,15 @@ use Rattle.line.specs.declared.Event.{Event}
 use Rattle.line.specs.Attached.{Attached, Stands, line_from}
 use Rattle.histories.specs.Histories.{at, run, answers, came, codes_of}
 use Rattle.line.specs.Keeps.{Good}
-use Rattle.line.specs.Standing.{AllGood, line_good, line_length}
+use Rattle.line.proofs.Standing.{AllGood, line_good, line_length}
 use Rattle.histories.specs.Joined.{run_on, answers_on, run_joined, answers_joined, stands_on}
 use Rattle.histories.specs.Below.{Codes}
 use Rattle.recovery.specs.Sessions.{Addressed, write, Page}
 use Rattle.recovery.specs.CarriedOut.{NoCopy}
 use Rattle.recovery.specs.Written.{written_to}
-use Rattle.recovery.specs.Installed.{Differ, Installed}
-use Rattle.recovery.specs.Recovery.{Recovered}
-use Rattle.recovery.specs.Demand3.{written, demand_3}
+use Rattle.recovery.proofs.Installed.{Differ, Installed}
+use Rattle.recovery.proofs.Recovery.{Recovered}
+use Rattle.recovery.proofs.Demand3.{written, demand_3}
 
 -- chip i of a table with its buffers: record, memory and scratchpad
 abbrev pub chip_of : ℕ → Attached → Whole

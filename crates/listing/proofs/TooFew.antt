@@ -16,8 +16,8 @@ use Rattle.line.specs.Attached.{Attached, Stands, line_from, verdict_at}
 use Rattle.search.specs.Search.{Searched, complete, refused, search_by, search_of}
 use Rattle.histories.specs.Below.{Codes}
 use Rattle.histories.specs.Histories.{codes_of}
-use Rattle.listing.specs.Count.{order_distinct}
-use Rattle.listing.specs.Public.{order_of, search_finds}
+use Rattle.listing.proofs.Count.{order_distinct}
+use Rattle.listing.proofs.Public.{order_of, search_finds}
 
 -- neither complete nor 4 is the answer where 8 or 5 is given
 abbrev Done : Searched → Type 0

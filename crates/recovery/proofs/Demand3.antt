@@ -9,13 +9,14 @@ use Rattle.line.specs.declared.Event.{Event}
 use Rattle.histories.specs.Histories.{at, run}
 use Rattle.histories.specs.Kept.{run_kinds}
 use Rattle.recovery.specs.Sessions.{write, Page}
-use Rattle.recovery.specs.CarriedOut.{NoCopy, no_copy}
+use Rattle.recovery.specs.CarriedOut.{NoCopy}
+use Rattle.recovery.proofs.CarriedOut.{no_copy}
 use Rattle.recovery.specs.Stays.{run_stays}
-use Rattle.recovery.specs.Among.{among_at}
+use Rattle.recovery.proofs.Among.{among_at}
 use Rattle.recovery.specs.Written.{written_to}
-use Rattle.recovery.specs.Installed.{Installed, installed_run}
-use Rattle.recovery.specs.Rewritten.{rewritten}
-use Rattle.recovery.specs.Recovery.{Recovered, same_memory, run_append}
+use Rattle.recovery.proofs.Installed.{Installed, installed_run}
+use Rattle.recovery.proofs.Rewritten.{rewritten}
+use Rattle.recovery.proofs.Recovery.{Recovered, same_memory, run_append}
 
 -- THEOREM: the exact state of chip i after a reset, a match of its code and a write of a whole page, from any state of the line
 pub written : (i : ℕ) (L : List Whole) → Installed i L → (t : ℕ) (bytes : List ℕ) → Page t bytes

@@ -8,10 +8,10 @@ use Rattle.line.specs.Attached.{Attached, Stands, line_from}
 use Rattle.search.specs.Search.{Search, complete, refused, search_of}
 use Rattle.histories.specs.Below.{Codes}
 use Rattle.histories.specs.Histories.{line_wire, codes_of}
-use Rattle.line.specs.Standing.{line_length}
+use Rattle.line.proofs.Standing.{line_length}
 use Rattle.histories.specs.Joined.{search_joined}
 use Rattle.listing.specs.Order.{branch_order}
-use Rattle.listing.specs.Listing.{listing_of_16}
+use Rattle.listing.proofs.Listing.{listing_of_16}
 
 -- the codes of a table's line, in branch order
 abbrev pub order_of : Attached → List ℕ

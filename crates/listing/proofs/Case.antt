@@ -26,9 +26,10 @@ use Rattle.histories.specs.Histories.{at, codes_of, answer_of, after_of, run, li
 use Rattle.histories.specs.Kept.{run_on_codes}
 use Rattle.histories.specs.Joined.{in_table, run_on, run_joined, stands_on, search_joined}
 use Rattle.listing.specs.Order.{branch, branch_order, SameMembers}
-use Rattle.listing.specs.Listing.{equal_members, branch-order}
-use Rattle.listing.specs.Public.{search_finds}
-use Rattle.listing.specs.AfterTrouble.{ListedAlike, SameSearch, one_list, same_codes_same_list, list_after_trouble}
+use Rattle.listing.proofs.Listing.{equal_members, branch-order}
+use Rattle.listing.proofs.Public.{search_finds}
+use Rattle.listing.proofs.AfterTrouble.{ListedAlike, SameSearch, one_list, same_codes_same_list}
+use Rattle.listing.proofs.AfterCalls.{list_after_trouble}
 
 -- the four codes on four DS28EC20s, with memory and scratchpads FFh
 abbrev fresh : Attached

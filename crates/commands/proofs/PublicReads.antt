@@ -10,12 +10,13 @@ use Rattle.histories.specs.Histories.{at, run, answers}
 use Rattle.histories.specs.Joined.{run_on, answers_on, run_joined, answers_joined}
 use Rattle.histories.specs.Sent.{bits_from}
 use Rattle.recovery.specs.Sessions.{write_bits, write, WithinPage}
-use Rattle.recovery.specs.Public.{chip_of, TableInstalled, line_installed}
+use Rattle.recovery.proofs.Public.{chip_of, TableInstalled, line_installed}
 use Rattle.commands.specs.ShortAddress.{matched}
 use Rattle.commands.specs.Streams.{then_ones, but_level}
 use Rattle.commands.specs.Sending.{inverted}
 use Rattle.commands.specs.ReadSession.{reading, reading_answers}
-use Rattle.commands.specs.ReadScratchpad.{scratchpad_bits, scratchpad_answers, scratchpad_stays}
+use Rattle.commands.specs.ReadScratchpad.{scratchpad_bits}
+use Rattle.commands.proofs.ReadScratchpad.{scratchpad_answers, scratchpad_stays}
 use Rattle.commands.specs.ReadMemory.{read_memory, memory_bits, memory_answers, memory_past, memory_stays}
 use Rattle.commands.specs.WriteScratchpad.{write_crc, written_from, filled_from, part_written, write_answers, write_leaves}
 

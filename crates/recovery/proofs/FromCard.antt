@@ -17,8 +17,8 @@ use Rattle.line.specs.Attached.{line_from}
 use Rattle.histories.specs.Joined.{run_on}
 use Rattle.recovery.specs.Sessions.{write, Page}
 use Rattle.recovery.specs.CarriedOut.{NoCopy}
-use Rattle.recovery.specs.Installed.{Differ}
-use Rattle.recovery.specs.Public.{TableInstalled, TableRecovered, demand_3_on}
+use Rattle.recovery.proofs.Installed.{Differ}
+use Rattle.recovery.proofs.Public.{TableInstalled, TableRecovered, demand_3_on}
 
 -- one set-up: a card of bytes answers k chips, the codes of its k records differ, and the sizes are those asked. Nothing is asked of the
 -- table before

@@ -14,11 +14,11 @@ use Rattle.line.specs.Event.{bit}
 use Rattle.histories.specs.Histories.{at, run, answers}
 use Rattle.recovery.specs.Sessions.{opening, write_bits, write, Page}
 use Rattle.recovery.specs.Stays.{bare}
-use Rattle.recovery.specs.Among.{Own, Among}
+use Rattle.recovery.proofs.Among.{Own, Among}
 use Rattle.recovery.specs.Goes.{Goes, goes_from, goes_to, of_kind, ec20}
 use Rattle.recovery.specs.Written.{ruled, written_to, goes_written}
-use Rattle.recovery.specs.Installed.{Installed, codes_at}
-use Rattle.recovery.specs.Matched.{reset_is, session_among, session_answers}
+use Rattle.recovery.proofs.Installed.{Installed, codes_at}
+use Rattle.recovery.proofs.Matched.{reset_is, session_among, session_answers}
 
 -- a DS28EC20 after the write, with its kind written out
 module _ (w : Whole) (e : w.chip.kind ≡ 1) where

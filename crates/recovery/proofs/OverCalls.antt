@@ -6,7 +6,7 @@ use Rattle.histories.specs.Joined.{run_on}
 use Rattle.histories.specs.Calls.{Call, calls_on, events_of_calls, run_on_append, calls_run, stands_calls}
 use Rattle.recovery.specs.Sessions.{write, Page}
 use Rattle.recovery.specs.CarriedOut.{NoCopy}
-use Rattle.recovery.specs.Public.{chip_of, TableInstalled, TableRecovered, demand_3_on}
+use Rattle.recovery.proofs.Public.{chip_of, TableInstalled, TableRecovered, demand_3_on}
 
 module _ (i : ℕ) (l : Attached) (s : TableInstalled i l) (start : List Call) where
   -- the table after the common beginning, and the events that led there

@@ -11,14 +11,17 @@ use Rattle.line.specs.Events.{reset_event, power_on_event}
 use Rattle.line.specs.declared.Event.{Event}
 use Rattle.line.specs.Attached.{Attached, Stands, line_from}
 use Rattle.histories.specs.Histories.{at, run}
-use Rattle.line.specs.Standing.{line_good, line_length}
+use Rattle.line.proofs.Standing.{line_good, line_length}
 use Rattle.histories.specs.Joined.{run_on, run_joined, stands_on}
 use Rattle.histories.specs.Sent.{bits_from}
-use Rattle.recovery.specs.CarriedOut.{NoCopy, no_copy}
-use Rattle.recovery.specs.Public.{chip_of, TableInstalled, good_at, line_installed}
-use Rattle.commands.specs.Reset.{is_cut, awaiting, after_cut, after_power_on, reset_exactly, short-address, power_on_exactly}
-use Rattle.commands.specs.ShortAddress.{begun_write, ended_write, matched, after_address, short_before, short-write, whole_address}
-use Rattle.commands.specs.NotCopied.{NoAddress, cut_not_copied}
+use Rattle.recovery.specs.CarriedOut.{NoCopy}
+use Rattle.recovery.proofs.CarriedOut.{no_copy}
+use Rattle.recovery.proofs.Public.{chip_of, TableInstalled, good_at, line_installed}
+use Rattle.commands.specs.Reset.{is_cut, awaiting, after_cut, after_power_on, power_on_exactly}
+use Rattle.commands.proofs.Reset.{reset_exactly, short-address}
+use Rattle.commands.specs.ShortAddress.{begun_write, ended_write, matched, after_address}
+use Rattle.commands.proofs.ShortAddress.{short_before, short-write, whole_address}
+use Rattle.commands.proofs.NotCopied.{NoAddress, cut_not_copied}
 use Rattle.commands.specs.Copy.{Copies, CopiedInFull, copy_in_full}
 
 -- THEOREM: a reset on any table that neither 8 nor 5 refuses, at any level of a DS28EC20

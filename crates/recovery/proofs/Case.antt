@@ -20,10 +20,10 @@ use Rattle.line.specs.Keeps.{InRange, Good}
 use Rattle.histories.specs.Sent.{bits_from, slots}
 use Rattle.recovery.specs.Sessions.{opening, Addressed, write, Page}
 use Rattle.recovery.specs.CarriedOut.{carries_out, copies_none, copies-none}
-use Rattle.recovery.specs.Installed.{Installed}
-use Rattle.recovery.specs.Matched.{addressed_slots}
-use Rattle.recovery.specs.Recovery.{Recovered}
-use Rattle.recovery.specs.Demand3.{demand_3}
+use Rattle.recovery.proofs.Installed.{Installed}
+use Rattle.recovery.proofs.Matched.{addressed_slots}
+use Rattle.recovery.proofs.Recovery.{Recovered}
+use Rattle.recovery.proofs.Demand3.{demand_3}
 
 -- a DS28EC20 of code 5 and a DS2413 of code 6, as set up, with a memory all FFh
 abbrev line : List Whole

@@ -2,20 +2,17 @@
 -- given: not on memory, latches, RC, scratchpads or any events before, where neither 8 nor 5 is given." Of the public search, over a
 -- table, its buffers and a lent list. Refusal 4 is inside: whether it is given, and what is listed under it. Nothing is said of the line
 -- that a search leaves. `Stands` is that neither 8 nor 5 is given; `Codes` that the codes have 64 bits, as every `u64` has.
-use Rattle.std.specs.Prelude.{ℕ, ◌≤◌, List, ◌∷◌, ◌++◌, ◌≡◌, refl, length, drop}
+use Rattle.std.specs.Prelude.{ℕ, ◌≤◌, List, ◌++◌, ◌≡◌, length, drop}
 use Rattle.std.proofs.Common.{arith, ◌∙◌, ap, sym, length-take}
-use Rattle.line.specs.declared.Event.{Event}
 use Rattle.search.specs.Host.{Listed, play, search_host}
 use Rattle.line.specs.Attached.{Attached, Stands, line_from}
 use Rattle.search.specs.Search.{Search, complete_or4, search_of}
 use Rattle.histories.specs.Below.{Codes}
 use Rattle.histories.specs.Histories.{line_wire, codes_of}
-use Rattle.histories.specs.Joined.{search_joined, run_on, stands_on}
-use Rattle.histories.specs.Calls.{Call, search_call, calls_on, events_of_calls, calls_run, stands_calls}
-use Rattle.histories.specs.Kept.{run_on_codes, calls_codes}
+use Rattle.histories.specs.Joined.{search_joined}
 use Rattle.listing.specs.Order.{SameMembers, SameListing}
-use Rattle.listing.specs.Listing.{equal_members, by_members}
-use Rattle.listing.specs.Public.{order_of, search_finds}
+use Rattle.listing.proofs.Listing.{by_members}
+use Rattle.listing.proofs.Public.{order_of, search_finds}
 
 -- what two searches come to, each with its own list: the same answer, the same codes in the first places of both lists, as many as
 -- both say, and the same counts of resets and of slots; past the codes each list is as it was found
@@ -72,27 +69,3 @@ one_list list s t c = record {
   resets = c.resets;
   slots = c.slots;
 }
-
--- M-111. A table with its buffers that is refused by neither 8 nor 5; then any events, refused ones counted in; then a search. It
--- answers, lists and counts what it would have on the table before.
-pub list_after_trouble : (es : List Event) (list : List ℕ) (l : Attached) → Stands l → Codes (codes_of (line_from l))
-    → SameSearch (search_of list (run_on es l)) (search_of list l)
-list_after_trouble es list l s fits =
-    let e = run_on_codes es l s in
-    one_list list (search_of list (run_on es l)) (search_of list l)
-    (same_codes_same_list list list (run_on es l) l (stands_on es l s) s (rw e fits) (equal_members _ _ e) refl)
-
--- Earlier searches are such events: the same after any calls, events, searches and runs of slots. A search that was broken off is no call of its own: it
--- is events alone.
-pub list_after_calls : (cs : List Call) (list : List ℕ) (l : Attached) → Stands l → Codes (codes_of (line_from l))
-    → SameSearch (search_of list (calls_on cs l)) (search_of list l)
-list_after_calls cs list l s fits = rw (calls_run cs l s) (list_after_trouble (events_of_calls cs l) list l s fits)
-
--- What a technician does: a search, any calls, a second search into a list of as many places, which may be the one that the first has
--- filled. The two lists have the same codes.
-pub second_list : (first second : List ℕ) (cs : List Call) (l : Attached) → Stands l → Codes (codes_of (line_from l))
-    → length first ≡ length second
-    → ListedAlike first second (search_of first l) (search_of second (calls_on cs (search_of first l).line))
-second_list first second cs l s fits long =
-    let k = calls_on (search_call first ∷ cs) l in
-    same_codes_same_list first second l k s (stands_calls (search_call first ∷ cs) l s) fits (equal_members _ _ (sym (calls_codes (search_call first ∷ cs) l s))) long

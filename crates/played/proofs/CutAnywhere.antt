@@ -24,7 +24,8 @@ use Rattle.played.specs.Handed.{start, hand_piece}
 use Rattle.played.specs.Starts.{found_starts}
 use Rattle.played.specs.Reached.{CardReached, first, chip, Reached, card, onto, Faulty, in_card, in_record, in_events, playback_refused}
 use Rattle.played.specs.Written.{slots_bytes}
-use Rattle.played.specs.Cut.{bytes_added, place_moved, taken_cut}
+use Rattle.played.specs.Cut.{bytes_added, place_moved}
+use Rattle.played.proofs.Taken.{taken_cut}
 use Rattle.played.specs.Before.{ends-by, none_held, after_fault}
 
 -- where records start ----------------------------------------------------------------------------------------

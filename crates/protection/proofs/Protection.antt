@@ -4,7 +4,7 @@ use Rattle.std.specs.Int.Bits.{bit_and}
 use Rattle.chip.specs.Chip.{Whole}
 use Rattle.line.specs.declared.Event.{Event}
 use Rattle.histories.specs.Histories.{at, run}
-use Rattle.protection.specs.Blocks.{control, block_byte, run_protected, run_only_falls}
+use Rattle.protection.proofs.Blocks.{control, block_byte, run_protected, run_only_falls}
 
 -- THEOREM: once the control byte of block j is 55h, it stays 55h, and none of the block's 256 bytes changes
 pub protected : (es : List Event) (L : List Whole) (i j : ℕ) → j < 10

@@ -18,9 +18,9 @@ use Rattle.histories.specs.Fed.{fed, sends_nothing}
 use Rattle.histories.specs.Sent.{slots}
 use Rattle.histories.specs.Slots.{planned_slot}
 use Rattle.recovery.specs.Sessions.{opening, Addressed, slotted, match_session}
-use Rattle.recovery.specs.Among.{Own, Among, own_run, own_answers, to_comes, both_one, alone, present, alone_answers}
+use Rattle.recovery.proofs.Among.{Own, Among, own_run, own_answers, to_comes, both_one, alone, present, alone_answers}
 use Rattle.recovery.specs.Goes.{Goes, of_kind, ec20}
-use Rattle.recovery.specs.Installed.{Installed, reset_among, reset_own}
+use Rattle.recovery.proofs.Installed.{Installed, reset_among, reset_own}
 
 -- the host's own slots come to themselves
 pub came_slots : (vs : List Bool) (L : List Whole) → came (slots vs) L ≡ slotted vs

@@ -7,7 +7,7 @@ use Rattle.base.specs.Pick.{pick_if}
 use Rattle.base.specs.Once.{is_in, once_each, distinct_in, in_is, once_in, in_once}
 use Rattle.histories.specs.Below.{Codes}
 use Rattle.listing.specs.Order.{Distinct, branch_order}
-use Rattle.listing.specs.Listing.{branch-order}
+use Rattle.listing.proofs.Listing.{branch-order}
 
 -- each number of a list once: none stands twice
 pub once_distinct : (xs : List ℕ) → Distinct (once_each xs)

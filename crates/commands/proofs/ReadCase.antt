@@ -17,11 +17,12 @@ use Rattle.histories.specs.Histories.{at, run, answers}
 use Rattle.line.specs.Keeps.{Good}
 use Rattle.histories.specs.Sent.{bits_from, bits_of}
 use Rattle.recovery.specs.Sessions.{write_bits, write, WithinPage}
-use Rattle.recovery.specs.Installed.{Installed, installed_run}
-use Rattle.recovery.specs.Case.{fresh_range}
+use Rattle.recovery.proofs.Installed.{Installed, installed_run}
+use Rattle.recovery.proofs.Case.{fresh_range}
 use Rattle.commands.specs.Streams.{then_ones}
 use Rattle.commands.specs.ReadSession.{reading, reading_answers}
-use Rattle.commands.specs.ReadScratchpad.{scratchpad_bits, scratchpad_answers}
+use Rattle.commands.specs.ReadScratchpad.{scratchpad_bits}
+use Rattle.commands.proofs.ReadScratchpad.{scratchpad_answers}
 use Rattle.commands.specs.ReadMemory.{read_memory, memory_answers}
 use Rattle.commands.specs.WriteScratchpad.{written_from, part_written, write_answers}
 

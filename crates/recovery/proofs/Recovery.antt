@@ -7,10 +7,10 @@ use Rattle.histories.specs.Histories.{at, kinds_of, after_of, run, answers, came
 use Rattle.histories.specs.Kept.{run_kinds}
 use Rattle.recovery.specs.Sessions.{Addressed, write, Page}
 use Rattle.recovery.specs.Stays.{bare}
-use Rattle.recovery.specs.Among.{among_at, own_run, own_answers, came_alike, alone, alone_answers}
+use Rattle.recovery.proofs.Among.{among_at, own_run, own_answers, came_alike, alone, alone_answers}
 use Rattle.recovery.specs.Written.{written_to}
-use Rattle.recovery.specs.Installed.{Installed}
-use Rattle.recovery.specs.Rewritten.{written_same, rewritten, rewritten_own, rewritten_answers}
+use Rattle.recovery.proofs.Installed.{Installed}
+use Rattle.recovery.proofs.Rewritten.{written_same, rewritten, rewritten_own, rewritten_answers}
 
 -- two lines after the events `again`: chip i is in one state, both answered alike, and as long as each session matches the code
 -- both go on to answer alike and to leave chip i in one state

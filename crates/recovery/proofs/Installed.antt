@@ -15,7 +15,7 @@ use Rattle.histories.specs.Place.{at_map}
 use Rattle.recovery.specs.Sessions.{opening}
 use Rattle.recovery.specs.Stays.{run_stays}
 use Rattle.recovery.specs.Opening.{opening_silent}
-use Rattle.recovery.specs.Among.{Own, Among, other_reset}
+use Rattle.recovery.proofs.Among.{Own, Among, other_reset}
 
 -- none of the codes is this one
 abbrev pub Without : ℕ → List ℕ → Type 0

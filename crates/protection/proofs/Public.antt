@@ -10,7 +10,7 @@ use Rattle.histories.specs.Histories.{at}
 use Rattle.histories.specs.Joined.{run_on, run_joined}
 use Rattle.histories.specs.Calls.{Call, calls_on, events_of_calls, calls_run}
 use Rattle.protection.specs.Guarded.{Protected, OnlyFalls}
-use Rattle.protection.specs.Blocks.{control, block_byte, run_protected, run_only_falls}
+use Rattle.protection.proofs.Blocks.{control, block_byte, run_protected, run_only_falls}
 
 -- the memory of chip i of a table
 abbrev pub memory_of : ℕ → Attached → List ℕ

@@ -1,0 +1,11 @@
+pub mod CarriedOut
+pub mod Among
+pub mod Installed
+pub mod Matched
+pub mod Rewritten
+pub mod Recovery
+pub mod Demand3
+pub mod Case
+pub mod Public
+pub mod FromCard
+pub mod OverCalls
