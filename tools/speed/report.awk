@@ -1,11 +1,10 @@
-# Makes the report of tools/speed/run from what was measured: lines 'time', 'real' (see speed.c), 'count', 'where' and
-# 'emulated' (see run). counter is what counted the instructions, missing why nothing could.
+# Makes the report of tools/speed/run from what was measured: lines 'time', 'real' (see speed.c), 'count' and 'where' (see
+# run). counter is what counted the instructions, missing why nothing could.
 
 $1 == "time" { time[$2, $3, $4, $5] = $6 }
 $1 == "real" { real[$2, $3] = $4 }
 $1 == "count" { taken[$2, $3, $4, $5] = $6 }
 $1 == "where" { part[$2, $4] += $3; sum[$2] += $3; names[$4] }
-$1 == "emulated" { emulated = 1 }
 
 function call_name(call) { return call ? "`tk_slots`, runs of " call : "`tk_event`" }
 function mix_name(mix) { return mix == "whole" ? "whole mix" : "one chip spoken to" }
@@ -55,8 +54,6 @@ function real_row(call, mix,   row, i) {
 
 function times(   m, i) {
     print "\n## Time of a slot\n"
-    if (emulated)
-        print "The programs ran under an emulator, the plain model too: the ratios are not those of an x86-64."
     print "Nanoseconds of the library and of plain C on the same bytes, and how many times as long the library takes: the time that"
     print "the program had of the processor, the best of several tries. It varies with what else the machine does; instructions do"
     print "not.\n"
@@ -99,11 +96,10 @@ function flat_bar(call,   text, n, i) {
         n[2] <= 1.1 * n[1] && n[3] <= 1.1 * n[1])
 }
 
-function real_bar(call,   least, found) {
-    least = emulated ? 25 : 100
+function real_bar(call,   found) {
     found = times_real(call, "whole", 16)
-    bar(sprintf("runs of %d at 16 chips: at least %d times as fast as a real line%s", call, least, \
-        emulated ? ", under the emulator" : ""), "", "", sprintf("%.0f", found), found >= least)
+    bar(sprintf("runs of %d at 16 chips: at least 100 times as fast as a real line", call), "", "", \
+        sprintf("%.0f", found), found >= 100)
 }
 
 function bars() {
