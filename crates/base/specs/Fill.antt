@@ -1,5 +1,5 @@
 -- Laws: a slice set to one value, byte after byte.
-use Rattle.std.specs.Prelude.{ℕ, suc, ◌+◌, ◌<◌, ◌≤◌, ◌≡◌, List, [], ◌∷◌, ◌++◌, length, take, set, replicate}
+use Rattle.std.specs.Prelude.{ℕ, ◌+◌, ◌<◌, ◌≤◌, ◌≡◌, List, [], ◌∷◌, ◌++◌, length, take, set, replicate}
 use Rattle.std.proofs.Common.{arith, add-one, ◌∙◌, sym, ap, take-suc-set, take_all}
 use Rattle.std.proofs.lemmas.List.{replicate-append-replicate}
 

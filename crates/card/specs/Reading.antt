@@ -1,7 +1,7 @@
 -- Laws: the loop that reads a card.
 use Prim.Native.Nat.{ℕ, zero, suc, ◌+◌, ◌-◌, ◌<◌, ◌≤◌}
 use native.Mathlib.Omega.{arith}
-use Rattle.std.proofs.Common.{add-one, true≢false, append_assoc, append-nil, ◌∙◌, take-append-drop, length-set, take-suc-set, drop-set-lt, drop-drop, length-take-le}
+use Rattle.std.proofs.Common.{add-one, append_assoc, append-nil, ◌∙◌, take-append-drop, length-set, take-suc-set, drop-set-lt, drop-drop, length-take-le}
 use Rattle.std.specs.Prelude.{Bool, true, false, List, [], ◌∷◌, ◌++◌, ◌≡◌, eqb, length, take, drop, set}
 use Rattle.std.proofs.Math.Path.{refl, ap, sym}
 use Rattle.base.specs.Pick.{pick}
@@ -12,7 +12,7 @@ use Rattle.line.specs.Layout.{capped}
 use Rattle.records.specs.Records.{head_at}
 use Rattle.records.specs.declared.Head.{Head}
 use Rattle.records.specs.declared.Head.TheVariants.{End, Short, Cut, Whole}
-use Rattle.card.specs.Card.{Carded, chips, refused, cut_entry, whole_entry, entry_of, entry_at, Read, all, none, after, onward, read_from, SetUp, set_up, from_read, set_up_of}
+use Rattle.card.specs.Card.{chips, refused, cut_entry, whole_entry, entry_of, entry_at, Read, all, none, after, onward, read_from, set_up, from_read, set_up_of}
 use Rattle.card.specs.declared.Entry.{Entry}
 use Rattle.card.specs.declared.Entry.TheVariants as entry
 

@@ -3,7 +3,6 @@ use Rattle.std.specs.Prelude.{ℕ, ◌+◌, Bool, true, false, List, ltb, length
 use Rattle.base.specs.Pick.{pick}
 use Rattle.base.specs.Bits.{filled}
 use Rattle.rom.specs.Rom.{rom_takes, rom_sends}
-use Rattle.rom.specs.declared.Knows.{Knows}
 use Rattle.rom.specs.declared.RomNext.{RomNext}
 use Rattle.rom.specs.declared.RomNext.TheVariants as next
 use Rattle.rom.specs.declared.RomStep.{RomStep}
@@ -21,12 +20,11 @@ use Rattle.memory.specs.declared.Look.{Look}
 use Rattle.memory.specs.declared.Look.TheVariants as look
 use Rattle.memory.specs.declared.Seen.{Seen}
 use Rattle.memory.specs.Part.{map_of}
-use Rattle.memory.specs.Memory.{Bytes, look_of, seen_in, sight_by, done}
+use Rattle.memory.specs.Memory.{look_of, seen_in, sight_by, done}
 use Rattle.chip.specs.Kinds.{part_of, has_memory, has_scratchpad, has_registers, has_switch, takes_outside, knows_of}
 use Rattle.chip.specs.With.{new_chip, with_rc, with_level, with_registers, with_switch}
 use Rattle.chip.specs.declared.ChipAfter.{ChipAfter}
 use Rattle.ds2413.specs.Switch.{switch_outside, switch_begins, switch_takes, switch_sends, switch_power_on, switch_set_up}
-use Rattle.ds2413.specs.declared.Switch.{Switch}
 use Rattle.ds2413.specs.declared.SwitchPhase.{SwitchPhase}
 use Rattle.ds2413.specs.declared.SwitchAfter.{SwitchAfter}
 use Rattle.chip.specs.declared.Chip.{Chip}

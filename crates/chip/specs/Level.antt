@@ -1,6 +1,6 @@
 -- Laws: a dispatch over the levels, taken at the level that a match found.
 use Rattle.std.specs.Prelude.{ℕ, Bool, ◌≡◌, List}
-use Rattle.std.proofs.Common.{◌∙◌, ap, sym}
+use Rattle.std.proofs.Common.{◌∙◌, ap}
 use Rattle.base.specs.Along.{along}
 use Rattle.rom.specs.declared.RomNext.{RomNext}
 use Rattle.scratchpad.specs.declared.Registers.{Registers}

@@ -1,5 +1,5 @@
 -- Laws: what Read Scratchpad sends, in full.
-use Rattle.std.specs.Prelude.{ℕ, ◌+◌, ◌*◌, ◌/◌, ◌%◌, ◌<◌, Bool, List, ◌++◌, ◌≡◌, leb, length, get_or, drop}
+use Rattle.std.specs.Prelude.{ℕ, ◌+◌, ◌*◌, ◌%◌, ◌<◌, Bool, List, ◌++◌, ◌≡◌, leb, length, get_or, drop}
 use Rattle.std.proofs.Common.{arith, add-one, ◌∙◌, sym, subst, lt-ltb}
 use Rattle.std.proofs.Math.Bool.{true}
 use Rattle.std.proofs.Math.Path.{refl, ap}

@@ -1,8 +1,8 @@
 -- Laws: what a reset does to a DS28EC20, exactly.
-use Rattle.std.specs.Prelude.{ℕ, ◌/◌, ◌<◌, Bool, true, List, [], ◌∷◌, ◌≡◌, refl, length}
+use Rattle.std.specs.Prelude.{ℕ, ◌<◌, Bool, true, List, [], ◌∷◌, ◌≡◌, refl, length}
 use Rattle.std.proofs.Common.{◌∙◌, ap}
 use Rattle.base.specs.Pick.{pick, pick_true}
-use Rattle.scratchpad.specs.Registers.{registers, pf_set}
+use Rattle.scratchpad.specs.Registers.{pf_set}
 use Rattle.scratchpad.specs.Scratchpad.{cut_of, memory_reset}
 use Rattle.scratchpad.specs.declared.Registers.{Registers}
 use Rattle.scratchpad.specs.declared.MemoryPhase.{MemoryPhase}

@@ -1,6 +1,6 @@
 -- What Read Scratchpad sends, in full. Document 01: "AAh Read Scratchpad: TA1, TA2, E/S, the scratchpad from T mod 32 to 31, the CRC-16
 -- of the command and all that, then ones."
-use Rattle.std.specs.Prelude.{ℕ, ◌+◌, ◌/◌, ◌%◌, Bool, List, ◌∷◌, ◌++◌, drop}
+use Rattle.std.specs.Prelude.{ℕ, ◌/◌, ◌%◌, Bool, List, ◌∷◌, ◌++◌, drop}
 use Rattle.crc.specs.Crc.{poly16, crc_of}
 use Rattle.scratchpad.specs.declared.Registers.{Registers}
 use Rattle.histories.specs.Sent.{bits_of}

@@ -19,7 +19,7 @@ use Rattle.chip.specs.declared.Level.TheVariants.{Waiting, Rom, FunctionCommand,
 use Rattle.line.specs.Line.{act_of}
 use Rattle.line.specs.Event.{asked_by, plan_event, outside_fits}
 use Rattle.line.specs.Events.{power_on_event}
-use Rattle.line.specs.declared.Act.TheVariants.{Reset, PowerOn}
+use Rattle.line.specs.declared.Act.TheVariants.{PowerOn}
 use Rattle.histories.specs.Histories.{at, after_of, run}
 use Rattle.chip.specs.RangeKept.{pf_block}
 use Rattle.histories.specs.Place.{at_map}

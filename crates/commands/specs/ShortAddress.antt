@@ -1,6 +1,6 @@
 -- Document 02, M-102, "A short address also sets PF.": a whole session of a line whose codes all differ, from any state of it. A
 -- Write Scratchpad that a reset ends inside its address, and one that it ends straight after it.
-use Rattle.std.specs.Prelude.{ℕ, ◌+◌, ◌%◌, Bool, true, List, [], ◌∷◌, ◌++◌}
+use Rattle.std.specs.Prelude.{ℕ, ◌%◌, Bool, true, List, [], ◌∷◌, ◌++◌}
 use Rattle.scratchpad.specs.Registers.{registers}
 use Rattle.chip.specs.With.{with_rc}
 use Rattle.chip.specs.Chip.{Whole, whole}

@@ -125,14 +125,14 @@ pub fn tell_failed(errors: Stderr, name: &[u8], why: io::Error) {
     tell(errors, b"\n");
 }
 
-// The system's number for bytes that are no text.
-const NO_TEXT: i32 = 84;
+// The system's number for a path that leads to no file.
+const NO_FILE: i32 = 2;
 
-// Opens the file that a path names. A path that is no text in UTF-8 opens none.
+// Opens the file that a path names. The standard library's paths are text in UTF-8: a path that is none leads to no file here.
 pub fn open<R: Files>(files: &R, path: &[u8]) -> io::Result<R::File> {
     match str::from_utf8(path) {
         Ok(text) => File::open(files, text),
-        Err(_) => Err(io::Error::from_raw_os_error(NO_TEXT)),
+        Err(_) => Err(io::Error::from_raw_os_error(NO_FILE)),
     }
 }
 

@@ -1,5 +1,5 @@
 -- Document 01, "Codes and check sums": the two check sums, bit by bit, least significant bit first, start 0.
-use Rattle.std.specs.Prelude.{ℕ, ◌+◌, ◌-◌, ◌/◌, ◌%◌, ◌^◌, Bool, List, [], ◌∷◌}
+use Rattle.std.specs.Prelude.{ℕ, ◌+◌, ◌-◌, ◌/◌, ◌^◌, Bool, List, [], ◌∷◌}
 use Rattle.std.specs.Int.Bits.{bit_xor}
 use Rattle.base.specs.Pick.{pick}
 use Rattle.base.specs.Bits.{bit_of, same}

@@ -1,5 +1,5 @@
 -- Laws: a dispatch over the phases, taken at the phase that a match found.
-use Rattle.std.specs.Prelude.{ℕ, Bool, ◌≡◌}
+use Rattle.std.specs.Prelude.{Bool, ◌≡◌}
 use Rattle.base.specs.Along.{along}
 use Rattle.ds2413.specs.Switch.{switch_takes, switch_sends, phase_in_range}
 use Rattle.ds2413.specs.declared.Switch.{Switch}

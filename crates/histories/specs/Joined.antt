@@ -2,7 +2,6 @@
 use Rattle.std.specs.Prelude.{ℕ, List, [], ◌∷◌, ◌≡◌, refl, length}
 use Rattle.std.proofs.Common.{◌∙◌, ap, sym}
 use Rattle.chip.specs.Chip.{Whole}
-use Rattle.line.specs.Layout.{lent}
 use Rattle.line.specs.Event.{Answered}
 use Rattle.line.specs.declared.Event.{Event}
 use Rattle.search.specs.Host.{Host, done, ask, Played, played, more, resets_of, slots_of, play, search_host}

@@ -7,7 +7,7 @@ use Rattle.std.proofs.Math.Path.{ap}
 use Rattle.chip.specs.Chip.{Whole}
 use Rattle.chip.specs.declared.Chip.{Chip}
 use Rattle.line.specs.Line.{after_by}
-use Rattle.line.specs.Layout.{chips_of, lent}
+use Rattle.line.specs.Layout.{chips_of}
 use Rattle.chip.specs.With.{no_chip}
 use Rattle.line.specs.Event.{plan_in, plan_by, plan_of, plan_on, answer_by, done_of, event_of}
 use Rattle.line.specs.Refusals.{chips_split, well_judged, comes}

@@ -1,12 +1,12 @@
 -- Laws: the loops over a lent slice of chips, and what they come to.
-use Rattle.std.specs.Prelude.{ℕ, zero, suc, ◌+◌, Bool, List, ◌≡◌, length, get_or, set}
+use Rattle.std.specs.Prelude.{ℕ, zero, suc, Bool, List, ◌≡◌, length, get_or, set}
 use Rattle.std.proofs.Common.{arith, add-one, ◌∙◌, ap, sym}
 use Rattle.std.proofs.Math.Path.{refl}
 use Rattle.chip.specs.declared.Chip.{Chip}
 use Rattle.chip.specs.With.{no_chip}
 use Rattle.line.specs.Event.{answered, refused, number_of, Outcome, outcome, verdict_of, event_of}
-use Rattle.line.specs.Layout.{Lent, lent}
-use Rattle.line.specs.Carrier.{over, first_spot, first_survey, survey_chip, surveyed, verdict_by, plan_seen, bus_over, Turn, turned, turn_of, acts, answer_for}
+use Rattle.line.specs.Layout.{lent}
+use Rattle.line.specs.Carrier.{over, first_spot, first_survey, survey_chip, surveyed, verdict_by, plan_seen, bus_over, turned, turn_of, acts, answer_for}
 use Rattle.line.specs.Carried.{Surveyed, over_line, plan_is, stands_is, walked, refused_walked}
 use Rattle.line.proofs.Walked.{plan_walked}
 use Rattle.line.specs.declared.Answer.{Answer}

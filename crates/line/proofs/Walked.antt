@@ -1,6 +1,6 @@
 -- Laws: what the walks of a plan over a table come to is what the line does, and the event.
-use Rattle.std.specs.Prelude.{ℕ, ◌≤◌, Bool, List, ◌++◌, ◌≡◌, length, map, take, drop}
-use Rattle.std.proofs.Common.{zero-add, ◌∙◌, refl, ap, sym, drop_at}
+use Rattle.std.specs.Prelude.{ℕ, ◌≤◌, Bool, List, ◌++◌, ◌≡◌, length, take, drop}
+use Rattle.std.proofs.Common.{zero-add, ◌∙◌, refl, ap, drop_at}
 use Rattle.std.proofs.lemmas.List.{length-map}
 use Rattle.chip.specs.Chip.{Whole}
 use Rattle.chip.specs.declared.Chip.{Chip}

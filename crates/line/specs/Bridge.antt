@@ -1,17 +1,11 @@
 -- Laws: a loop over a table and its buffers, which threads the places where a chip's parts begin, is the meaning over whole chips.
-use Rattle.std.specs.Prelude.{ℕ, zero, suc, ◌+◌, ◌≤◌, Bool, true, false, List, [], ◌∷◌, ◌++◌, map, ◌≡◌, refl, leb, length, take, drop, get_or, set}
-use Rattle.std.proofs.Common.{arith, append_assoc, ◌∙◌, ap, sym, take-append-drop, length-drop, length-append, length-take-le, le-leb}
+use Rattle.std.specs.Prelude.{ℕ, ◌+◌, ◌≤◌, Bool, true, List, ◌++◌, ◌≡◌, leb, length, take, drop}
+use Rattle.std.proofs.Common.{arith, append_assoc, ◌∙◌, ap, sym, take-append-drop, length-append, le-leb}
 use Rattle.std.proofs.Math.Seq.{take_at, drop_at}
-use Rattle.std.proofs.lemmas.List.{get_or_at, set_at}
 use Rattle.base.specs.Pick.{pick, pick_true}
-use Rattle.base.specs.Bits.{both}
 use Rattle.chip.specs.Chip.{Whole, whole, sends_of}
 use Rattle.chip.specs.Kinds.{image_size, pad_size}
 use Rattle.chip.specs.declared.Chip.{Chip}
-use Rattle.line.specs.Line.{value_of}
-use Rattle.line.specs.Layout.{images_size, pads_size, split, chips_of, images_of, pads_of, Lent, lent, line_of, lent_from}
-use Rattle.chip.specs.With.{no_chip}
-use Rattle.line.specs.Sizes.{Sized}
 
 -- a part of a buffer, and the buffer with that part replaced
 abbrev pub part_of : List ℕ → ℕ → ℕ → List ℕ

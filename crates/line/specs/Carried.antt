@@ -1,5 +1,5 @@
 -- Laws: what a carrier comes to, chip by chip, is the event.
-use Rattle.std.specs.Prelude.{ℕ, zero, suc, ◌+◌, ◌-◌, ◌*◌, ◌<◌, ◌≤◌, Bool, ◌≡◌, eqb, leb, get_or, set}
+use Rattle.std.specs.Prelude.{ℕ, zero, suc, ◌+◌, ◌*◌, ◌<◌, ◌≤◌, Bool, ◌≡◌, eqb, leb, get_or, set}
 use Rattle.std.proofs.Common.{arith, zero-add, true≢false, ◌∙◌, leb-true, leb-false, eq-eqb, ne_eqb, le-leb, take-append-drop}
 use Rattle.std.proofs.Math.Bool.{true, false}
 use mathlib.Core.List.{List, [], ◌∷◌, ◌++◌, map, append_assoc}
@@ -16,10 +16,10 @@ use Rattle.chip.specs.Range.{in_range}
 use Rattle.chip.specs.Kinds.{image_most, pad_most, image_size, pad_size}
 use Rattle.chip.specs.Limits.{image_small, pad_small}
 use Rattle.chip.specs.declared.Chip.{Chip}
-use Rattle.line.specs.Line.{bus_from, value_of, act_of, outside_at, puts_of, host_of, bus_of, after_by}
+use Rattle.line.specs.Line.{bus_from, act_of, outside_at, puts_of, host_of, bus_of}
 use Rattle.line.specs.Layout.{capped, images_asked, pads_asked, images_size, pads_size, images_most, pads_most, split, chips_of, images_of, pads_of, Lent, lent, line_of, lent_from}
 use Rattle.chip.specs.With.{no_chip}
-use Rattle.line.specs.Event.{bit, refused, number_of, answered, all_in_range, table_in_range, sizes_fit, judge, table_tests, verdict_of, Fits, Outcome, outcome, plan_event, plan_in, plan_by, plan_of, done_of, event_of}
+use Rattle.line.specs.Event.{refused, number_of, answered, all_in_range, table_in_range, sizes_fit, judge, table_tests, verdict_of, Fits, Outcome, outcome, plan_event, plan_in, plan_by, plan_of, done_of}
 use Rattle.line.specs.Sizes.{act_sized}
 use Rattle.line.specs.Bridge.{act-at, bit-at, regroup}
 use Rattle.line.specs.Prefix.{capped_is}
@@ -27,7 +27,6 @@ use Rattle.line.specs.Refusals.{judged_fit}
 use Rattle.line.specs.Carrier.{first_spot, spot_after, over, first_survey, survey_chip, surveyed, verdict_with, verdict_by, run_verdict_by, plan_seen, first_bus, puts_at, bus_with, bus_over, does_at, turn_of, acts, happens_by, answer_for}
 use Rattle.line.specs.Slots.{run_fits, run_verdict}
 use Rattle.line.specs.declared.Act.TheVariants as act
-use Rattle.line.specs.declared.Answer.{Answer}
 use Rattle.line.specs.declared.Event.{Event}
 use Rattle.line.specs.declared.Refusal.{Refusal}
 use Rattle.line.specs.declared.Verdict.{Verdict}

@@ -1,20 +1,14 @@
 -- Laws: what the loops of the code cite, a turn and the end of each.
-use Rattle.std.specs.Prelude.{ℕ, zero, suc, ◌+◌, ◌-◌, ◌<◌, ◌≤◌, Bool, true, false, List, [], ◌∷◌, ◌≡◌, refl, leb, length, take, drop, get_or, set}
-use Rattle.std.proofs.Common.{arith, add-one, ◌∙◌, ap, sym, le-leb, drop_of_length-le, length-take-le, drop-cons, get_or-take}
+use Rattle.std.specs.Prelude.{ℕ, ◌+◌, ◌-◌, ◌<◌, ◌≤◌, Bool, true, false, List, ◌≡◌, leb}
+use Rattle.std.proofs.Common.{arith, sym, le-leb}
 use Rattle.std.proofs.Math.Nat.{add-sub_cancel_left}
 use Rattle.std.proofs.lemmas.Bool.{lt-leb}
 use Rattle.base.specs.Along.{along}
-use Rattle.base.specs.Bits.{both}
-use Rattle.base.specs.Both.{both_assoc, both_true}
 use Rattle.chip.specs.Chip.{Whole, whole, sends_of}
-use Rattle.chip.specs.Range.{in_range}
 use Rattle.chip.specs.Kinds.{image_size, pad_size}
 use Rattle.chip.specs.declared.Chip.{Chip}
 use Rattle.line.specs.declared.Act.{Act}
 use Rattle.line.specs.Line.{act_of}
-use Rattle.line.specs.Layout.{sum_of, Lent, lent}
-use Rattle.chip.specs.With.{no_chip}
-use Rattle.line.specs.Event.{all_in_range}
 use Rattle.line.specs.Bridge.{part_of, put_part, act_within}
 
 -- where a part of a size at an offset lies

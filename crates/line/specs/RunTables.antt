@@ -1,5 +1,5 @@
 -- Laws: a run of slots on a table and its buffers, of which the line is carried from slot to slot.
-use Rattle.std.specs.Prelude.{ℕ, ◌+◌, ◌≤◌, Bool, List, [], ◌++◌, ◌≡◌, refl, eqb, leb, length, take, drop}
+use Rattle.std.specs.Prelude.{ℕ, ◌+◌, ◌≤◌, List, ◌++◌, ◌≡◌, refl, eqb, leb, length, take, drop}
 use Rattle.std.proofs.Common.{arith, ◌∙◌, ap, sym, take-append-drop, length-append, take_at, drop_at, length-take-le}
 use Rattle.std.proofs.lemmas.List.{length-map}
 use borrow.Author.Tests.{leb-true, eqb-true}
@@ -8,17 +8,15 @@ use Rattle.base.specs.Bits.{both}
 use Rattle.base.specs.Both.{both_holds}
 use Rattle.chip.specs.Chip.{Whole}
 use Rattle.chip.specs.declared.Chip.{Chip}
-use Rattle.line.specs.Line.{value_of, after_by}
-use Rattle.line.specs.Layout.{capped, chips_of, images_of, pads_of, Lent, lent, line_of, lent_from, split, images_size, pads_size}
+use Rattle.line.specs.Line.{value_of}
+use Rattle.line.specs.Layout.{chips_of, images_of, pads_of, Lent, lent, line_of, lent_from, split, images_size, pads_size}
 use Rattle.line.specs.Event.{Fits, table_in_range, sizes_fit}
 use Rattle.line.specs.Fitted.{AllFitted, split_fitted, map_fitted, length_chips, images_length, pads_length, split_joined}
-use Rattle.line.specs.Prefix.{capped_is, length_split}
+use Rattle.line.specs.Prefix.{length_split}
 use Rattle.line.specs.Refusals.{chips_split, images_split, pads_split, fit, held}
-use Rattle.line.specs.Carrier.{first_spot, bus_over, acts}
 use Rattle.line.specs.Slots.{bits_of, bytes_from, host_bits, run_on, bytes_asked, run_fits, run_verdict, put, RunOutcome, run_outcome, run_by}
 use Rattle.line.specs.Runs.{run_length, run_keeps, run_full, host_many, InByte, Running}
 use Rattle.line.specs.declared.Act.TheVariants as act
-use Rattle.line.specs.declared.Plan.TheVariants as plan
 use Rattle.line.specs.declared.Refusal.TheVariants.{OutOfRange, WrongSize}
 use Rattle.line.specs.declared.Verdict.{Verdict}
 use Rattle.line.specs.declared.Verdict.TheVariants as verdict

@@ -1,5 +1,5 @@
 -- Laws: a dispatch taken at the case that a match found, and a copy byte by byte.
-use Rattle.std.specs.Prelude.{ℕ, zero, suc, ◌+◌, ◌-◌, ◌<◌, ◌≤◌, Bool, List, ◌≡◌, refl, get_or, set}
+use Rattle.std.specs.Prelude.{ℕ, zero, suc, ◌+◌, ◌-◌, ◌<◌, ◌≤◌, List, ◌≡◌, refl, get_or, set}
 use Rattle.std.proofs.Common.{not-suc-le-zero, arith, ◌∙◌, ap, sym}
 use Rattle.base.specs.Along.{along}
 use Rattle.scratchpad.specs.Map.{Map}

@@ -1,6 +1,6 @@
 -- The request M-108, "How long is a morning round?": "Slots: 200 n + 352 m, at most 8,832 with 16 chips. Resets: n (1 if n is 0) and m
 -- more, counted apart. Under refusal 4 both counts are the search's."
-use Rattle.std.specs.Prelude.{ℕ, max, ◌+◌, ◌*◌, ◌<◌, ◌≤◌, true, false, List, [], ◌++◌, ◌≡◌, refl, leb, length, take, drop}
+use Rattle.std.specs.Prelude.{ℕ, max, ◌+◌, ◌*◌, ◌<◌, ◌≤◌, true, List, [], ◌++◌, ◌≡◌, refl, leb, length, take, drop}
 use Rattle.std.proofs.Common.{arith, append-nil, sym, ◌∙◌, drop_of_length-le, take_all, length-take-le}
 use Rattle.std.proofs.Math.Path.{ap}
 use Rattle.std.proofs.Math.Seq.{take-append_seam}

@@ -1,5 +1,5 @@
 -- Laws: a line whose chips each send bits of their own, whatever the values of the slots; what a host reads on it.
-use Rattle.std.specs.Prelude.{ℕ, zero, suc, ◌+◌, Bool, true, List, [], ◌∷◌, ◌++◌, map, ◌≡◌, refl, length}
+use Rattle.std.specs.Prelude.{ℕ, zero, suc, Bool, true, List, [], ◌∷◌, ◌++◌, map, ◌≡◌, refl, length}
 use Rattle.std.proofs.Common.{append-nil, ◌∙◌, ap, ap₂, sym, subst}
 use Rattle.std.proofs.Math.Seq.{append_snoc}
 use Rattle.base.specs.Bits.{both, filled}

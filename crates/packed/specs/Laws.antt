@@ -1,5 +1,5 @@
 -- Laws: bytes are a record, or a table, of a chip, or of chips, exactly where packing gives them.
-use Rattle.std.specs.Prelude.{ℕ, zero, suc, ◌+◌, ◌*◌, ◌/◌, ◌%◌, true, false, List, [], ◌∷◌, ◌≡◌, refl, eqb, length, drop}
+use Rattle.std.specs.Prelude.{ℕ, zero, suc, ◌+◌, ◌*◌, ◌/◌, ◌%◌, true, List, [], ◌∷◌, ◌≡◌, refl, eqb, length, drop}
 use Rattle.std.proofs.Common.{arith, true≢false, ◌∙◌, ap, sym, length-append, take_at, drop_at, eqb-true, eq-eqb}
 use Rattle.base.specs.Pick.{pick}
 use Rattle.base.specs.Bits.{both}

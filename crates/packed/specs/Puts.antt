@@ -3,7 +3,7 @@ use Rattle.std.specs.Prelude.{ℕ, zero, suc, ◌+◌, ◌<◌, ◌≤◌, List,
 use Rattle.std.proofs.Common.{◌∙◌, ap, sym, get_or-drop, le-leb}
 use Rattle.std.proofs.Math.Seq.{take-length}
 use Rattle.std.proofs.lemmas.Bool.{lt-leb}
-use Rattle.base.specs.Pick.{pick, pick_true, pick_false}
+use Rattle.base.specs.Pick.{pick_true, pick_false}
 use Rattle.chip.specs.declared.Chip.{Chip}
 use Rattle.packed.specs.Packed.{record_size, packed, unpacked, put_record}
 use Rattle.packed.specs.Laws.{packed_length}

@@ -1,5 +1,5 @@
 -- Every run of slots that a recording holds can be cut.
-use Rattle.std.specs.Prelude.{ℕ, ◌+◌, ◌-◌, ◌≤◌, Bool, true, List, [], ◌++◌, ◌≡◌, length, take, drop}
+use Rattle.std.specs.Prelude.{ℕ, ◌-◌, ◌≤◌, Bool, true, List, [], ◌++◌, ◌≡◌, length, take, drop}
 use Rattle.std.proofs.Common.{arith, ◌∙◌, ap, sym, subst}
 use Rattle.line.specs.Slots.{host_bits}
 use Rattle.recording.specs.Reading.{found_at}

@@ -20,7 +20,6 @@ use Rattle.recording.specs.declared.Ending.TheVariants as ending
 use Rattle.recording.specs.declared.Fault.TheVariants as fault
 use Rattle.recording.specs.declared.Found.{Found}
 use Rattle.recording.specs.declared.Found.TheVariants as found
-use Rattle.recording.specs.declared.Record.{Record}
 use Rattle.histories.specs.Lent.{lent_to_change}
 use Rattle.played.specs.Handed.{Stage, carding, playing, over, Hand, hand}
 use Rattle.played.specs.LineRefusals.{RefusalFor, record_refusal}

@@ -1,6 +1,6 @@
 -- Demand 1 for a recording: what the record at an offset gives, "exactly when": 3, 2, 3, 1 in document 01's order, and document 02's "9, a card
 -- record after one of kinds 16 to 19; 10, a nonzero unused bit".
-use Rattle.std.specs.Prelude.{ℕ, ◌+◌, ◌-◌, ◌<◌, Bool, not, List, ◌≡◌, eqb, ltb}
+use Rattle.std.specs.Prelude.{ℕ, ◌+◌, ◌<◌, Bool, not, List, ◌≡◌, eqb, ltb}
 use Rattle.std.proofs.Common.{arith, true≢false, ◌∙◌, sym, eqb-true}
 use Rattle.std.proofs.Math.Bool.{true, false}
 use Rattle.std.proofs.Math.Path.{refl, ap}

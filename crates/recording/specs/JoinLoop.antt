@@ -5,7 +5,7 @@ use Rattle.line.specs.Attached.{verdict_at}
 use Rattle.line.specs.Packing.{host_put, put_long, host_more, host_before}
 use Rattle.line.specs.Slots.{host_bits, bytes_asked, slot_bit, with_slot_bit}
 use Rattle.recording.specs.Reading.{found_at}
-use Rattle.recording.specs.Playing.{bits, run_step, slots_step, record_step}
+use Rattle.recording.specs.Playing.{run_step, slots_step, record_step}
 use Rattle.recording.specs.Putting.{answers_most}
 use Rattle.recording.specs.Next.{Lies, found_lies}
 use Rattle.recording.specs.Puts.{with_slots, without_slots}

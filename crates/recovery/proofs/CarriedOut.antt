@@ -1,5 +1,5 @@
 -- A chip that carries out no copy keeps its memory.
-use Rattle.std.specs.Prelude.{ℕ, Bool, true, false, List, ◌≡◌}
+use Rattle.std.specs.Prelude.{ℕ, Bool, false, List, ◌≡◌}
 use Rattle.std.proofs.Common.{true≢false, ◌∙◌}
 use Rattle.std.proofs.Math.Path.{refl}
 use Rattle.scratchpad.specs.declared.Deed.{Deed}

@@ -5,7 +5,7 @@ use Rattle.std.proofs.Math.Nat.{two-pow-succ}
 use Rattle.base.specs.Pick.{pick, pick_true, pick_false}
 use Rattle.base.specs.Bits.{bit_of, both}
 use Rattle.line.specs.Events.{slot_event}
-use Rattle.search.specs.Host.{Played, played, End, end, more, resets_of, slots_of, heard, play, under_way, begun, pass, write, turn, mark, put, up_to, wanted}
+use Rattle.search.specs.Host.{Played, more, resets_of, slots_of, heard, play, under_way, begun, pass, write, turn, mark, put, up_to, wanted}
 use Rattle.search.specs.Counts.{more_more, more_none, one_slot}
 use Rattle.line.specs.Attached.{Attached, says_of, leaves_of}
 use Rattle.search.specs.Search.{wire, played_pass, played_write}

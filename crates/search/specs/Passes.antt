@@ -8,7 +8,7 @@ use Rattle.chip.specs.declared.Chip.{Chip}
 use Rattle.line.specs.Event.{verdict_of}
 use Rattle.line.specs.Events.{reset_event}
 use Rattle.line.specs.declared.Verdict.{Verdict}
-use Rattle.search.specs.Host.{Host, bind, Played, played, Listed, listed, End, end, more, heard, play, begun, pass, write, passes, go_on, up_to, search_host}
+use Rattle.search.specs.Host.{Host, bind, Played, played, Listed, listed, End, end, more, heard, play, begun, pass, write, passes, go_on, up_to}
 use Rattle.search.specs.Counts.{more_more, more_none, and_then, play_bind}
 use Rattle.line.specs.Attached.{Attached, attached, says_of, leaves_of}
 use Rattle.search.specs.Search.{Searched, complete_or4, wire, Search, outcome, from_played, search_by, search_of, played_pass, played_write}

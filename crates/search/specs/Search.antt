@@ -1,5 +1,5 @@
 -- Document 01, "Search" and "Refusal numbers": the search over a table, its buffers and a lent list, for every input.
-use Rattle.std.specs.Prelude.{ℕ, Bool, true, false, List, ◌++◌, length, drop}
+use Rattle.std.specs.Prelude.{ℕ, Bool, List, ◌++◌, length, drop}
 use Rattle.base.specs.Pick.{pick}
 use Rattle.line.specs.Attached.{Attached, says_of, leaves_of, verdict_at}
 use Rattle.line.specs.Event.{number_of}

@@ -4,18 +4,18 @@ use Rattle.std.proofs.Common.{arith, ◌∙◌, ap, sym, length-set}
 use Rattle.std.proofs.Math.Nat.{sub-zero}
 use Rattle.base.specs.Bits.{both}
 use Rattle.chip.specs.declared.Chip.{Chip}
-use Rattle.line.specs.Layout.{Lent, lent}
+use Rattle.line.specs.Layout.{lent}
 use Rattle.chip.specs.With.{no_chip}
-use Rattle.line.specs.Event.{answered, outcome, Outcome}
-use Rattle.line.specs.Carrier.{over, over_more, over_done, first_spot, spot_after, first_bus, puts_at, bus_with, bus_over, Turn, turned, turn_of, acts, acts_more, acts_done, answer_for}
+use Rattle.line.specs.Event.{answered, outcome}
+use Rattle.line.specs.Carrier.{over, over_more, over_done, first_spot, spot_after, puts_at, bus_with, bus_over, turned, turn_of, acts, acts_more, acts_done, answer_for}
 use Rattle.line.specs.Carried.{walked}
 use Rattle.line.specs.declared.Answer.{Answer}
 use Rattle.line.specs.declared.Plan.{Plan}
 use Rattle.line.specs.declared.Spot.{Spot}
 use Rattle.line.specs.declared.Bus.{Bus}
-use Rattle.packed.specs.Packed.{record_size, unpacked, packed_table, unpacked_table, put_record}
+use Rattle.packed.specs.Packed.{record_size, unpacked, unpacked_table, put_record}
 use Rattle.packed.specs.Places.{Table16, bytes_length, chip-at, chips_put, table_put}
-use Rattle.toemsakun.specs.Library.{EventLeft, event_left, answer_number, packed_outcome}
+use Rattle.toemsakun.specs.Library.{event_left, answer_number, packed_outcome}
 
 chips_count : (bs : List ℕ) → Table16 bs → length bs / record_size ≡ length (unpacked_table bs)
 chips_count bs t = let k = bytes_length bs t in omega arith

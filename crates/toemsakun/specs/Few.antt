@@ -11,7 +11,7 @@ use Rattle.line.specs.declared.Verdict.TheVariants as verdict
 use Rattle.line.specs.Layout.{capped}
 use Rattle.line.specs.Prefix.{capped_few}
 use Rattle.line.specs.Events.{reset_event}
-use Rattle.search.specs.Host.{Host, done, bind, Played, Listed, listed, End, write, begun, pass, heard, play, passes, go_on, search_host, up_to}
+use Rattle.search.specs.Host.{Host, done, bind, Played, Listed, listed, End, write, begun, pass, heard, play, passes, go_on, up_to}
 use Rattle.search.specs.Counts.{play_bind}
 use Rattle.line.specs.Attached.{Attached, says_of, leaves_of, verdict_at}
 use Rattle.search.specs.Search.{wire, search_by, search_of}

@@ -1,5 +1,5 @@
 -- Laws: a plain form on the table that bytes were unpacked to, packed again, is the call on the bytes.
-use Rattle.std.specs.Prelude.{ℕ, ◌+◌, ◌*◌, ◌/◌, ◌<◌, ◌≤◌, Bool, false, ◌≡◌, leb, ℤ, pos}
+use Rattle.std.specs.Prelude.{ℕ, ◌*◌, ◌/◌, ◌<◌, ◌≤◌, Bool, false, ◌≡◌, leb, ℤ, pos}
 use native.Mathlib.Omega.{arith}
 use Rattle.std.proofs.Math.Bool.{true}
 use mathlib.Core.List.{List, ◌++◌, append-nil}
@@ -14,7 +14,7 @@ use Rattle.line.specs.Prefix.{capped_few, images_rest, pads_rest}
 use Rattle.line.specs.Carried.{images_none, pads_none}
 use Rattle.line.specs.Tables.{blank_table}
 use Rattle.line.specs.declared.Table.{Table}
-use Rattle.card.specs.Card.{Carded, chips, Read, all, none, read_from, SetUp, set_up, from_read, set_up_of}
+use Rattle.card.specs.Card.{Carded, Read, all, none, read_from, SetUp, set_up, from_read, set_up_of}
 use Rattle.line.specs.Attached.{Attached, attached}
 use Rattle.search.specs.Search.{Searched, Search, outcome as found, search_of}
 use Rattle.search.specs.Prefix.{Has, many_search, search-rest, search_has}

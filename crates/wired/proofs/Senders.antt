@@ -3,7 +3,6 @@ use Rattle.std.specs.Prelude.{ℕ, ◌<◌, Bool, true, false, ◌≡◌, refl}
 use Rattle.std.proofs.Common.{◌∙◌, sym}
 use Rattle.chip.specs.Chip.{Whole, takes_of}
 use Rattle.line.specs.Line.{value_of}
-use Rattle.line.specs.Event.{bit}
 use Rattle.line.specs.declared.Event.{Event}
 use Rattle.line.specs.Attached.{Attached, leaves_of, Stands, line_from}
 use Rattle.histories.specs.Histories.{at}

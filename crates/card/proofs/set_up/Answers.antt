@@ -1,6 +1,5 @@
 use borrow.Author.Rules.{rules}
-use Rattle.card.specs.Reading.{Taking, taking_start, taking_next, room_for, taking_done, taking_many, taking_kind, taking_length}
-use lib.ListN.{length-map}
+use Rattle.card.specs.Reading.{taking_start, taking_next, room_for, taking_done, taking_many, taking_kind, taking_length}
 use native.Mathlib.Omega.{arith}
 use Rattle.card.proofs.set_up.Goals as goal
 

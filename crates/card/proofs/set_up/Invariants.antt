@@ -1,4 +1,4 @@
-use Rattle.card.specs.Reading.{Taking, taking_start, taking_next, room_for, taking_done, taking_many, taking_kind, taking_length}
+use Rattle.card.specs.Reading.{Taking}
 use Prim.Native.Nat.{◌-◌}
 use Rattle.card.proofs.set_up.Given as goal
 

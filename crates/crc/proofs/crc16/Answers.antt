@@ -1,6 +1,6 @@
 use borrow.Author.Rules.{rules}
 use Rattle.crc.specs.Loop.{crc_next, crc_end}
-use Rattle.crc.specs.Crc.{crc_of, poly16}
+use Rattle.crc.specs.Crc.{poly16}
 use Rattle.crc.proofs.crc16.Goals as goal
 
 pub loop-i-preserved : goal.loop-i-preserved

@@ -1,8 +1,8 @@
 use borrow.Author.Rules.{rules}
 use Rattle.crc.specs.Loop.{drawn_next, drawn_end}
 use Rattle.crc.specs.Drawn.{drawn_from_0}
-use Rattle.crc.specs.Figure4.{cleared, drawn_of}
-use mathlib.Core.Path.{◌≡◌, ap}
+use Rattle.crc.specs.Figure4.{drawn_of}
+use mathlib.Core.Path.{ap}
 use Rattle.crc.specs.declared.figure4.ShiftRegister.{ShiftRegister}
 use Rattle.crc.proofs.crc8.Goals as goal
 

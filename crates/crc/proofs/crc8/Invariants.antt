@@ -1,6 +1,6 @@
 use Rattle.crc.specs.Figure4.{cleared, drawn_of}
 use lib.ListN.{length, drop}
-use mathlib.Core.Path.{◌≡◌, ap}
+use mathlib.Core.Path.{◌≡◌}
 use Prim.Native.Nat.{◌≤◌, ◌-◌}
 use Rattle.crc.proofs.crc8.Given as goal
 

@@ -1,4 +1,4 @@
-use Rattle.std.proofs.Common.{rules, ◌∙◌, sym, ap, length, refl}
+use Rattle.std.proofs.Common.{rules, ◌∙◌, sym, length, refl}
 use native.Mathlib.Nat.{sub-zero}
 use Rattle.line.specs.Carrier.{acts, acts_more, acts_done}
 use Rattle.lent.proofs.all_turn.Goals as goal

@@ -1,4 +1,4 @@
-use Rattle.std.proofs.Common.{rules, ◌∙◌, sym, ap, length}
+use Rattle.std.proofs.Common.{rules, ◌∙◌, sym, length}
 use native.Mathlib.Nat.{sub-zero}
 use Rattle.line.specs.Carrier.{over, survey_chip, over_more, over_done}
 use Rattle.lent.proofs.survey_table.Goals as goal

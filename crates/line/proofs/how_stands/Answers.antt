@@ -1,7 +1,6 @@
 use Rattle.std.proofs.Common.{arith}
 use Rattle.line.specs.Carried.{stands_is, table_surveyed}
 use mathlib.Core.Path.{◌∙◌}
-use lib.ListN.{length-map}
 use Rattle.line.proofs.how_stands.Goals as goal
 
 pub returns : goal.returns

@@ -3,7 +3,7 @@ use Rattle.line.specs.Carried.{table_few, table_surveyed}
 use Rattle.line.proofs.Walked.{event_walked}
 use Rattle.line.specs.Layout.{capped}
 use mathlib.Core.Path.{◌≡◌}
-use lib.ListN.{length, length-map}
+use lib.ListN.{length}
 use Rattle.line.proofs.take_event.Goals as goal
 
 pub returns : goal.returns

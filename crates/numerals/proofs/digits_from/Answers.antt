@@ -1,8 +1,8 @@
 use Prim.Native.Nat.{ℕ, ◌+◌, ◌*◌, ◌≤◌, ◌-◌}
-use mathlib.Core.Path.{◌≡◌, ◌∙◌, sym, subst}
-use lib.ListN.{length, get_or, drop}
+use mathlib.Core.Path.{◌∙◌, sym, subst}
+use lib.ListN.{get_or}
 use borrow.Author.Rules.{rules}
-use Rattle.numerals.specs.Numerals.{digits_on, digits_in, most}
+use Rattle.numerals.specs.Numerals.{most}
 use Rattle.numerals.specs.Digits.{kept_most, digit_from, no_digits, first_digit, next_digit, no_digit, last_digit}
 use Rattle.numerals.proofs.digits_from.Goals as goal
 

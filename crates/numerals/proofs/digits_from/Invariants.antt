@@ -1,6 +1,6 @@
-use Prim.Native.Nat.{ℕ, ◌+◌, ◌*◌, ◌≤◌, ◌-◌}
-use mathlib.Core.Path.{◌≡◌, ◌∙◌, sym, subst}
-use lib.ListN.{length, get_or, drop}
+use Prim.Native.Nat.{◌≤◌, ◌-◌}
+use mathlib.Core.Path.{◌≡◌}
+use lib.ListN.{length, drop}
 use Rattle.numerals.specs.Numerals.{digits_on, digits_in, most}
 use Rattle.numerals.specs.Numerals.{counted_by}
 use Rattle.numerals.proofs.digits_from.Given as goal

@@ -1,7 +1,7 @@
 use Rattle.search.specs.Pass.{wanted_up}
-use Rattle.search.specs.Passes.{Seeking, seeking_start, seek_absent, seek_none, seek_up, seek_last, seek_full, seek_again, seek_stays}
-use mathlib.Core.Path.{◌≡◌, ◌∙◌, refl}
-use lib.ListN.{length, length-set}
+use Rattle.search.specs.Passes.{seeking_start, seek_absent, seek_none, seek_up, seek_last, seek_full, seek_again, seek_stays}
+use mathlib.Core.Path.{◌∙◌, refl}
+use lib.ListN.{length-set}
 use native.Mathlib.Omega.{arith}
 use Rattle.search.proofs.seek.Goals as goal
 

@@ -1,7 +1,7 @@
-use Rattle.search.specs.Passes.{Seeking, seeking_start, seek_absent, seek_none, seek_up, seek_last, seek_full, seek_again, seek_stays}
+use Rattle.search.specs.Passes.{Seeking}
 use Rattle.line.specs.Attached.{attached}
-use mathlib.Core.Path.{◌≡◌, ◌∙◌, refl}
-use lib.ListN.{length, length-set}
+use mathlib.Core.Path.{◌≡◌}
+use lib.ListN.{length}
 use Prim.Native.Nat.{◌-◌}
 use Rattle.search.proofs.seek.Given as goal
 

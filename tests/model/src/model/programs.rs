@@ -1,6 +1,8 @@
 //! What the two programs answer.
 
 use std::collections::BTreeSet;
+use std::fs::File;
+use std::io;
 
 use super::book::{Book, Rule, Slip};
 use super::card::read_card;
@@ -40,6 +42,14 @@ fn word_of(code: u64, book: &mut Book) -> &'static str {
                 "zero"
             }
         }
+    }
+}
+
+/// Opens a file. The programs' paths are text in UTF-8: a name that is none leads to no file.
+pub fn open_file(name: &[u8]) -> io::Result<File> {
+    match std::str::from_utf8(name) {
+        Ok(path) => File::open(path),
+        Err(_) => Err(io::Error::from_raw_os_error(2)),
     }
 }
 

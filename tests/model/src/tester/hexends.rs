@@ -139,6 +139,10 @@ impl Tester {
                         .join(std::ffi::OsStr::from_bytes(name));
                     fs::write(&path, content).expect("a file in the temporary folder");
                     let words = [word(verb), name.to_vec()];
+                    // The program's paths are text in UTF-8.
+                    if std::str::from_utf8(name).is_err() {
+                        return tester.tells(&command, &words, Stdio::piped(), name, 2);
+                    }
                     let steps = [Step::Ends];
                     let (said, fault) =
                         tester.told_in_steps(&command, &words, Stdio::piped(), &steps);

@@ -1,7 +1,6 @@
-use Rattle.std.proofs.Common.{rules, ◌∙◌, sym, ap, length}
+use Rattle.std.proofs.Common.{rules, ◌∙◌, sym}
 use native.Mathlib.Nat.{sub-zero}
-use Rattle.line.specs.Carrier.{over, over_more, over_done}
-use Rattle.line.specs.Tables.{joined}
+use Rattle.line.specs.Carrier.{over_more, over_done}
 use Rattle.lent.specs.Back.{gather_first}
 use Rattle.lent.proofs.gathered.gather.Goals as goal
 

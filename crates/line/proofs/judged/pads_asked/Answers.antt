@@ -1,6 +1,5 @@
 use Rattle.line.specs.Carried.{table_pads, pads_none}
 use native.Mathlib.Omega.{arith}
-use lib.ListN.{length-map}
 use borrow.Author.Rules.{rules}
 use Rattle.line.proofs.judged.pads_asked.Goals as goal
 

@@ -1,9 +1,8 @@
 use Rattle.std.proofs.Common.{arith}
 use borrow.Author.Rules.{rules}
 use Rattle.line.specs.Carrier.{acts, acts_more, acts_done}
-use lib.ListN.{length, length-map}
 use native.Mathlib.Nat.{sub-zero}
-use mathlib.Core.Path.{◌≡◌, ◌∙◌, sym}
+use mathlib.Core.Path.{◌∙◌, sym}
 use Rattle.line.proofs.loops.all_turn.Goals as goal
 
 pub loop-i-init : goal.loop-i-init

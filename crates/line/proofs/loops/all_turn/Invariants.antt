@@ -1,7 +1,7 @@
-use Rattle.line.specs.Carrier.{acts, acts_more, acts_done}
-use lib.ListN.{length, length-map}
+use Rattle.line.specs.Carrier.{acts}
+use lib.ListN.{length}
 use Prim.Native.Nat.{◌≤◌, ◌-◌}
-use mathlib.Core.Path.{◌≡◌, ◌∙◌, sym}
+use mathlib.Core.Path.{◌≡◌}
 use Rattle.line.proofs.loops.all_turn.Given as goal
 
 abbrev pub invariant-loop-i : goal.invariant-loop-i

@@ -4,9 +4,8 @@ use mathlib.Core.Path.{ap}
 use Rattle.line.specs.declared.Bus.{Bus}
 use Rattle.chip.specs.declared.Chip.{Chip}
 use Rattle.line.specs.Carrier.{over, bus_with, over_more, over_done}
-use lib.ListN.{length, length-map}
 use native.Mathlib.Nat.{sub-zero}
-use mathlib.Core.Path.{◌≡◌, ◌∙◌, sym}
+use mathlib.Core.Path.{◌∙◌, sym}
 use Rattle.line.proofs.loops.line_value.Goals as goal
 
 pub loop-i-init : goal.loop-i-init

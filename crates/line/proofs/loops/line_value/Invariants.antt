@@ -1,9 +1,9 @@
 use Rattle.line.specs.declared.Bus.{Bus}
 use Rattle.chip.specs.declared.Chip.{Chip}
-use Rattle.line.specs.Carrier.{over, bus_with, over_more, over_done}
-use lib.ListN.{length, length-map}
+use Rattle.line.specs.Carrier.{over, bus_with}
+use lib.ListN.{length}
 use Prim.Native.Nat.{◌≤◌, ◌-◌}
-use mathlib.Core.Path.{◌≡◌, ◌∙◌, sym}
+use mathlib.Core.Path.{◌≡◌}
 use Rattle.line.proofs.loops.line_value.Given as goal
 
 abbrev pub invariant-loop-i : goal.invariant-loop-i

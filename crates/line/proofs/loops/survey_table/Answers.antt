@@ -1,9 +1,8 @@
 use Rattle.std.proofs.Common.{arith}
 use borrow.Author.Rules.{rules}
 use Rattle.line.specs.Carrier.{over, survey_chip, over_more, over_done}
-use lib.ListN.{length, length-map}
 use native.Mathlib.Nat.{sub-zero}
-use mathlib.Core.Path.{◌≡◌, ◌∙◌, sym}
+use mathlib.Core.Path.{◌∙◌, sym}
 use Rattle.line.proofs.loops.survey_table.Goals as goal
 
 pub loop-i-init : goal.loop-i-init

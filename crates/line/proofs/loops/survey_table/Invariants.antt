@@ -1,7 +1,7 @@
-use Rattle.line.specs.Carrier.{over, survey_chip, over_more, over_done}
-use lib.ListN.{length, length-map}
+use Rattle.line.specs.Carrier.{over, survey_chip}
+use lib.ListN.{length}
 use Prim.Native.Nat.{◌≤◌, ◌-◌}
-use mathlib.Core.Path.{◌≡◌, ◌∙◌, sym}
+use mathlib.Core.Path.{◌≡◌}
 use Rattle.line.proofs.loops.survey_table.Given as goal
 
 abbrev pub invariant-loop-i : goal.invariant-loop-i

@@ -3,11 +3,11 @@ use Rattle.line.specs.Slots.{bits_of, number_from, run_on}
 use native.Mathlib.Omega.{arith}
 use mathlib.Core.List.{List}
 use mathlib.Core.Path.{◌≡◌, refl, ◌∙◌, ap}
-use lib.ListN.{length, get_or, length-map}
+use lib.ListN.{length, get_or}
 use Rattle.chip.specs.Chip.{Whole}
 use Rattle.line.specs.Layout.{line_of}
 use Rattle.line.specs.Runs.{running_start, running_at, running_next, running_end, count_few, count_some}
-use Rattle.line.specs.RunTables.{RunTable, carrying_start, carrying_end, carrying_fits, carrying_line, carrying_byte}
+use Rattle.line.specs.RunTables.{carrying_start, carrying_end, carrying_fits, carrying_line, carrying_byte}
 use Rattle.line.proofs.runs.run_all.Goals as goal
 
 pub loop-left-init : goal.loop-left-init

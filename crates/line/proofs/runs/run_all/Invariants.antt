@@ -1,5 +1,5 @@
 use Rattle.line.specs.Layout.{line_of}
-use Rattle.line.specs.RunTables.{RunTable, carrying_start, carrying_end, carrying_fits, carrying_line, carrying_byte}
+use Rattle.line.specs.RunTables.{RunTable}
 use Rattle.line.proofs.runs.run_all.Given as goal
 
 abbrev pub invariant-loop-left : goal.invariant-loop-left

@@ -1,12 +1,12 @@
-use Prim.Native.Nat.{◌-◌, ◌%◌}
+use Prim.Native.Nat.{◌%◌}
 use native.Mathlib.Omega.{arith}
 use mathlib.Core.Path.{◌≡◌, refl, ◌∙◌}
 use lib.Dec.{eqb}
-use lib.ListN.{length, length-map}
+use lib.ListN.{length}
 use Rattle.line.specs.Line.{after_by}
 use Rattle.line.specs.Layout.{line_of}
 use Rattle.line.specs.Runs.{byte_start, byte_worth, bit_most, byte_next, byte_end}
-use Rattle.line.specs.RunTables.{ByteTable, carrying_start, carrying_end}
+use Rattle.line.specs.RunTables.{carrying_start, carrying_end}
 use Rattle.line.proofs.Walked.{carrying_slot}
 use Rattle.line.specs.declared.Plan.TheVariants as plan
 use Rattle.line.proofs.runs.run_byte.Goals as goal

@@ -1,7 +1,6 @@
-use Prim.Native.Nat.{◌-◌, ◌%◌}
+use Prim.Native.Nat.{◌-◌}
 use Rattle.line.specs.Layout.{line_of}
-use Rattle.line.specs.RunTables.{ByteTable, carrying_start, carrying_end}
-use Rattle.line.proofs.Walked.{carrying_slot}
+use Rattle.line.specs.RunTables.{ByteTable}
 use Rattle.line.proofs.runs.run_byte.Given as goal
 
 abbrev pub invariant-loop-i : goal.invariant-loop-i

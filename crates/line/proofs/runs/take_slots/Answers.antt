@@ -1,6 +1,6 @@
 use Rattle.std.proofs.Common.{arith}
 use mathlib.Core.Path.{◌≡◌, ◌∙◌, ap}
-use lib.ListN.{length, length-map}
+use lib.ListN.{length}
 use Rattle.line.specs.Slots.{slots_of, run_by}
 use Rattle.line.specs.Carried.{table_surveyed, run_stands_is}
 use Rattle.line.specs.declared.Verdict.{Verdict}

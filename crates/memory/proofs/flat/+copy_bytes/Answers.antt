@@ -1,6 +1,6 @@
 use Rattle.memory.specs.Memory.{copied}
 use Rattle.std.proofs.Common.{refl}
-use Rattle.std.proofs.Common.{rules, arith, ◌+◌, ◌-◌}
+use Rattle.std.proofs.Common.{rules, ◌+◌, ◌-◌}
 use Rattle.scratchpad.specs.Scratchpad.{in_page}
 use Rattle.memory.specs.Part.{map_of}
 use Rattle.memory.specs.Laws.{copied_none, copied_more}

@@ -1,4 +1,4 @@
-use mathlib.Core.Path.{◌≡◌, refl, ◌∙◌}
+use mathlib.Core.Path.{refl, ◌∙◌}
 use Rattle.numerals.specs.Spelling.{spelt_next, spelt_all}
 use borrow.Author.Rules.{rules}
 use Rattle.numerals.proofs.hex.put_digits.Goals as goal

@@ -1,7 +1,6 @@
 use Rattle.std.proofs.Common.{◌≡◌, ◌∙◌, ap, sym, length}
 use Rattle.std.proofs.Math.Seq.{take-length}
 use Rattle.std.proofs.lemmas.List.{length-take-le}
-use Rattle.packed.specs.Packed.{packed}
 use Rattle.packed.specs.Puts.{record_put, record_left}
 use Rattle.packed.specs.Laws.{packed_length}
 use Rattle.packed.proofs.record.put_record.Goals as goal

@@ -1,4 +1,4 @@
-use Rattle.std.proofs.Common.{◌∙◌, length}
+use Rattle.std.proofs.Common.{◌∙◌}
 use Rattle.std.proofs.Math.Seq.{take-length}
 use Rattle.packed.specs.Puts.{zeros_unpacked}
 use Rattle.packed.proofs.record.unpack.Goals as goal

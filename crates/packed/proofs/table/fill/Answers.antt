@@ -1,8 +1,8 @@
 use Rattle.std.proofs.Common.{arith}
 use mathlib.Core.Path.{◌≡◌}
-use lib.ListN.{length, length-map}
+use lib.ListN.{length}
 use borrow.Author.Rules.{rules}
-use Rattle.packed.specs.Filling.{Filling, filling_start, filling_next, filling_end}
+use Rattle.packed.specs.Filling.{filling_start, filling_next, filling_end}
 use Rattle.packed.proofs.table.fill.Goals as goal
 
 pub loop-i-init : goal.loop-i-init

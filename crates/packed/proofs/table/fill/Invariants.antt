@@ -1,4 +1,4 @@
-use Rattle.packed.specs.Filling.{Filling, filling_start, filling_next, filling_end}
+use Rattle.packed.specs.Filling.{Filling}
 use Prim.Native.Nat.{◌-◌}
 use Rattle.packed.proofs.table.fill.Given as goal
 

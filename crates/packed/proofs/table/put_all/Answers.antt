@@ -1,7 +1,7 @@
 use native.Mathlib.Omega.{arith}
 use borrow.Author.Rules.{rules}
 use Rattle.packed.specs.Filling.{putting_next, putting_end}
-use lib.ListN.{length, take, drop, length-map}
+use lib.ListN.{length}
 use mathlib.Core.Path.{◌≡◌, refl}
 use Rattle.packed.proofs.table.put_all.Goals as goal
 

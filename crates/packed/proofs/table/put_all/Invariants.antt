@@ -1,7 +1,7 @@
 use Rattle.packed.specs.Packed.{record_size, packed_table}
-use lib.ListN.{length, take, drop, length-map}
+use lib.ListN.{length, take, drop}
 use mathlib.Core.List.{◌++◌}
-use mathlib.Core.Path.{◌≡◌, refl}
+use mathlib.Core.Path.{◌≡◌}
 use Prim.Native.Nat.{◌-◌, ◌*◌, ◌≤◌}
 use Rattle.packed.proofs.table.put_all.Given as goal
 

@@ -1,12 +1,12 @@
 use borrow.Enum.Refused.{opened}
 use native.Mathlib.Omega.{arith}
-use Prim.Native.Nat.{ℕ, ◌-◌}
+use Prim.Native.Nat.{ℕ}
 use mathlib.Core.List.{[], ◌∷◌}
 use mathlib.Core.Logic.{inl, inr}
 use mathlib.Core.Path.{◌≡◌, ap}
 use denote.Enum.Declared.{tag_of}
 use types.Run.{OneOf}
-use Rattle.recording.specs.CardLoop.{Taking, taking_start, taking_event, taking_stopped, taking_other, taking_next, taking_less}
+use Rattle.recording.specs.CardLoop.{taking_start, taking_event, taking_stopped, taking_other, taking_next, taking_less}
 use Rattle.recording.specs.declared.Record.{Record}
 use Rattle.recording.specs.declared.Record.TheVariants as record_of
 use Rattle.recording.proofs.Absent.{no_record}

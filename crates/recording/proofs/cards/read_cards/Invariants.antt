@@ -1,6 +1,6 @@
-use Prim.Native.Nat.{ℕ, ◌-◌}
+use Prim.Native.Nat.{◌-◌}
 use lib.ListN.{length}
-use Rattle.recording.specs.CardLoop.{Taking, taking_start, taking_event, taking_stopped, taking_other, taking_next, taking_less}
+use Rattle.recording.specs.CardLoop.{Taking}
 use Rattle.recording.proofs.cards.read_cards.Given as goal
 
 abbrev pub invariant-loop-table : goal.invariant-loop-table

@@ -1,5 +1,5 @@
 use native.Mathlib.Omega.{arith}
-use Rattle.recording.specs.JoinLoop.{Adding, adding_start, adding_next, adding_end}
+use Rattle.recording.specs.JoinLoop.{adding_start, adding_next, adding_end}
 use Rattle.recording.proofs.joining.add_bits.Goals as goal
 
 pub loop-i-init : goal.loop-i-init

@@ -1,5 +1,5 @@
 use Prim.Native.Nat.{◌-◌}
-use Rattle.recording.specs.JoinLoop.{Adding, adding_start, adding_next, adding_end}
+use Rattle.recording.specs.JoinLoop.{Adding}
 use Rattle.recording.proofs.joining.add_bits.Given as goal
 
 abbrev pub invariant-loop-i : goal.invariant-loop-i

@@ -1,7 +1,7 @@
 use borrow.Enum.Refused.{opened}
 use borrow.Author.Rules.{rules}
 use native.Mathlib.Omega.{arith}
-use Prim.Native.Nat.{◌-◌, ◌≤◌}
+use Prim.Native.Nat.{◌≤◌}
 use mathlib.Core.Path.{◌∙◌, subst}
 use Rattle.recording.specs.Putting.{RecordFits}
 use Rattle.recording.specs.Next.{run-bytes}

@@ -2,10 +2,10 @@ use borrow.Enum.Refused.{opened}
 use Rattle.std.proofs.Common.{arith}
 use borrow.Author.Rules.{rules}
 use mathlib.Core.Path.{◌≡◌, ◌∙◌, ap, sym}
-use lib.ListN.{length, length-map}
+use lib.ListN.{length}
 use Rattle.line.specs.Attached.{attached}
 use Rattle.recording.specs.Putting.{written_by}
-use Rattle.recording.specs.PlayLoop.{Underway, underway_start, underway_stopped, underway_lies, underway_room, underway_less, underway_refused, underway_next}
+use Rattle.recording.specs.PlayLoop.{underway_start, underway_stopped, underway_lies, underway_room, underway_less, underway_refused, underway_next}
 use Rattle.recording.proofs.Absent.{no_record}
 use Rattle.recording.proofs.playing.play_all.Goals as goal
 

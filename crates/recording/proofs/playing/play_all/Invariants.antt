@@ -1,7 +1,7 @@
 use Prim.Native.Nat.{◌-◌}
-use lib.ListN.{length, length-map}
+use lib.ListN.{length}
 use Rattle.line.specs.Attached.{attached}
-use Rattle.recording.specs.PlayLoop.{Underway, underway_start, underway_stopped, underway_lies, underway_room, underway_less, underway_refused, underway_next}
+use Rattle.recording.specs.PlayLoop.{Underway}
 use Rattle.recording.proofs.playing.play_all.Given as goal
 
 abbrev pub invariant-loop-taken : goal.invariant-loop-taken

@@ -1,6 +1,6 @@
 use borrow.Author.Rules.{rules}
 use native.Mathlib.Omega.{arith}
-use Rattle.recording.specs.Digits.{Digits, digits_start, digits_next, digits_end}
+use Rattle.recording.specs.Digits.{digits_start, digits_next, digits_end}
 use Rattle.recording.proofs.playing.put_digits.Goals as goal
 
 pub loop-i-init : goal.loop-i-init

@@ -1,5 +1,5 @@
 use Prim.Native.Nat.{◌-◌}
-use Rattle.recording.specs.Digits.{Digits, digits_start, digits_next, digits_end}
+use Rattle.recording.specs.Digits.{Digits}
 use Rattle.recording.proofs.playing.put_digits.Given as goal
 
 abbrev pub invariant-loop-i : goal.invariant-loop-i

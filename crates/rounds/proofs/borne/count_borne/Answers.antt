@@ -1,6 +1,5 @@
 use borrow.Author.Tests.{not-true, not-false}
 use native.Mathlib.Omega.{arith}
-use lib.ListN.{length, take, drop, length-map}
 use Rattle.rounds.specs.BorneLaw.{counts_one, counts_none, counts_all}
 use Rattle.rounds.proofs.borne.count_borne.Goals as goal
 

@@ -1,5 +1,5 @@
 use Prim.Native.Nat.{◌≤◌, ◌-◌, ◌+◌}
-use lib.ListN.{length, take, drop, length-map}
+use lib.ListN.{length, take, drop}
 use mathlib.Core.Path.{◌≡◌}
 use Rattle.rounds.specs.Borne.{borne_in}
 use Rattle.base.specs.Once.{distinct_in}

@@ -1,6 +1,5 @@
 use native.Mathlib.Omega.{arith}
-use lib.ListN.{length, take, drop, length-map}
-use mathlib.Core.Path.{◌≡◌, ◌∙◌, refl, sym}
+use mathlib.Core.Path.{◌∙◌, refl, sym}
 use Rattle.rounds.specs.BorneLaw.{borne_here, borne_later, borne_nowhere}
 use Rattle.rounds.proofs.borne.is_borne_from.Goals as goal
 

@@ -1,6 +1,6 @@
 use Prim.Native.Nat.{◌≤◌, ◌-◌}
-use lib.ListN.{length, take, drop, length-map}
-use mathlib.Core.Path.{◌≡◌, ◌∙◌, refl, sym}
+use lib.ListN.{length, take, drop}
+use mathlib.Core.Path.{◌≡◌}
 use Rattle.rounds.specs.Borne.{borne_in}
 use Rattle.base.specs.Once.{is_in}
 use Rattle.rounds.proofs.borne.is_borne_from.Given as goal

@@ -1,6 +1,6 @@
-use mathlib.Core.Path.{◌≡◌, ◌∙◌, refl}
+use mathlib.Core.Path.{◌∙◌, refl}
 use Rattle.line.specs.Attached.{attached}
-use Rattle.rounds.specs.Reading.{Hearing, hearing_start, hearing_next, hearing_end}
+use Rattle.rounds.specs.Reading.{hearing_start, hearing_next, hearing_end}
 use Rattle.rounds.proofs.host.read_byte.Goals as goal
 
 pub loop-i-init : goal.loop-i-init

@@ -1,8 +1,8 @@
 use Prim.Native.Nat.{◌-◌}
 use lib.ListN.{length}
-use mathlib.Core.Path.{◌≡◌, ◌∙◌, refl}
+use mathlib.Core.Path.{◌≡◌}
 use Rattle.line.specs.Attached.{attached}
-use Rattle.rounds.specs.Reading.{Hearing, hearing_start, hearing_next, hearing_end}
+use Rattle.rounds.specs.Reading.{Hearing}
 use Rattle.rounds.proofs.host.read_byte.Given as goal
 
 abbrev pub invariant-loop-i : goal.invariant-loop-i

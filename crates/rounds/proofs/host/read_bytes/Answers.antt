@@ -1,6 +1,6 @@
-use mathlib.Core.Path.{◌≡◌, ◌∙◌, refl}
+use mathlib.Core.Path.{◌∙◌, refl}
 use Rattle.line.specs.Attached.{attached}
-use Rattle.rounds.specs.Reading.{Reading, reading_start, reading_next, reading_end}
+use Rattle.rounds.specs.Reading.{reading_start, reading_next, reading_end}
 use Rattle.rounds.proofs.host.read_bytes.Goals as goal
 
 pub loop-i-init : goal.loop-i-init

@@ -1,8 +1,8 @@
 use Prim.Native.Nat.{◌-◌, ◌≤◌}
 use lib.ListN.{length}
-use mathlib.Core.Path.{◌≡◌, ◌∙◌, refl}
+use mathlib.Core.Path.{◌≡◌}
 use Rattle.line.specs.Attached.{attached}
-use Rattle.rounds.specs.Reading.{Reading, reading_start, reading_next, reading_end}
+use Rattle.rounds.specs.Reading.{Reading}
 use Rattle.rounds.proofs.host.read_bytes.Given as goal
 
 abbrev pub invariant-loop-i : goal.invariant-loop-i

@@ -1,8 +1,8 @@
 use borrow.Author.Tests.{not-true, not-false}
 use native.Mathlib.Omega.{arith}
-use mathlib.Core.Path.{◌≡◌, ◌∙◌, refl}
+use mathlib.Core.Path.{◌∙◌, refl}
 use Rattle.line.specs.Attached.{attached}
-use Rattle.rounds.specs.Pages.{Paging, paging_start, paging_past, paging_next, paging_end, among_first, past_first}
+use Rattle.rounds.specs.Pages.{paging_start, paging_past, paging_next, paging_end, among_first, past_first}
 use Rattle.rounds.proofs.host.read_pages.Goals as goal
 
 pub loop-i-init : goal.loop-i-init

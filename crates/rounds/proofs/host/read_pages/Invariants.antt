@@ -1,8 +1,8 @@
 use Prim.Native.Nat.{◌≤◌, ◌-◌}
 use lib.ListN.{length, take}
-use mathlib.Core.Path.{◌≡◌, ◌∙◌, refl}
+use mathlib.Core.Path.{◌≡◌}
 use Rattle.line.specs.Attached.{attached}
-use Rattle.rounds.specs.Pages.{Paging, paging_start, paging_past, paging_next, paging_end, among_first, past_first}
+use Rattle.rounds.specs.Pages.{Paging}
 use Rattle.rounds.specs.Borne.{borne_in}
 use Rattle.rounds.proofs.host.read_pages.Given as goal
 

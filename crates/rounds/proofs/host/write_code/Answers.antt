@@ -1,6 +1,6 @@
-use mathlib.Core.Path.{◌≡◌, ◌∙◌, refl}
+use mathlib.Core.Path.{◌∙◌, refl}
 use Rattle.line.specs.Attached.{attached}
-use Rattle.rounds.specs.Reading.{Sending, sending_start, sending_next, sending_end}
+use Rattle.rounds.specs.Reading.{sending_start, sending_next, sending_end}
 use Rattle.rounds.proofs.host.write_code.Goals as goal
 
 pub loop-i-init : goal.loop-i-init

@@ -1,8 +1,8 @@
 use Prim.Native.Nat.{◌-◌}
 use lib.ListN.{length}
-use mathlib.Core.Path.{◌≡◌, ◌∙◌, refl}
+use mathlib.Core.Path.{◌≡◌}
 use Rattle.line.specs.Attached.{attached}
-use Rattle.rounds.specs.Reading.{Sending, sending_start, sending_next, sending_end}
+use Rattle.rounds.specs.Reading.{Sending}
 use Rattle.rounds.proofs.host.write_code.Given as goal
 
 abbrev pub invariant-loop-i : goal.invariant-loop-i

@@ -1,7 +1,7 @@
-use mathlib.Core.Path.{◌≡◌, ◌∙◌, refl}
+use mathlib.Core.Path.{◌∙◌, refl}
 use native.Mathlib.Omega.{arith}
 use borrow.Author.Rules.{rules}
-use Rattle.search.specs.Pass.{Going, going_start, going_next, going_up, going_end}
+use Rattle.search.specs.Pass.{going_start, going_next, going_up, going_end}
 use Rattle.line.specs.Attached.{attached}
 use Rattle.search.proofs.host.one_pass.Goals as goal
 

@@ -1,6 +1,6 @@
-use mathlib.Core.Path.{◌≡◌, ◌∙◌, refl}
+use mathlib.Core.Path.{◌≡◌}
 use lib.ListN.{length}
-use Rattle.search.specs.Pass.{Going, going_start, going_next, going_up, going_end}
+use Rattle.search.specs.Pass.{Going}
 use Rattle.line.specs.Attached.{attached}
 use Prim.Native.Nat.{◌-◌}
 use Rattle.search.proofs.host.one_pass.Given as goal

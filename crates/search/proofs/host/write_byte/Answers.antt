@@ -1,5 +1,5 @@
-use mathlib.Core.Path.{◌≡◌, ◌∙◌, refl}
-use Rattle.search.specs.Pass.{Writing, writing_start, writing_next, writing_end}
+use mathlib.Core.Path.{◌∙◌, refl}
+use Rattle.search.specs.Pass.{writing_start, writing_next, writing_end}
 use Rattle.line.specs.Attached.{attached}
 use Rattle.search.proofs.host.write_byte.Goals as goal
 

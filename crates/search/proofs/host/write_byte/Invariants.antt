@@ -1,6 +1,6 @@
-use mathlib.Core.Path.{◌≡◌, ◌∙◌, refl}
+use mathlib.Core.Path.{◌≡◌}
 use lib.ListN.{length}
-use Rattle.search.specs.Pass.{Writing, writing_start, writing_next, writing_end}
+use Rattle.search.specs.Pass.{Writing}
 use Rattle.line.specs.Attached.{attached}
 use Prim.Native.Nat.{◌-◌}
 use Rattle.search.proofs.host.write_byte.Given as goal

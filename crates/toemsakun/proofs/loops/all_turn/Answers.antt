@@ -3,7 +3,7 @@ use Rattle.line.specs.Carrier.{acts}
 use Rattle.packed.specs.Packed.{unpacked_table}
 use lib.ListN.{length}
 use mathlib.Core.Path.{ap, ◌∙◌}
-use Rattle.toemsakun.specs.Acting.{Acting, acting_start, acting_next, acting_end}
+use Rattle.toemsakun.specs.Acting.{acting_start, acting_next, acting_end}
 use Rattle.toemsakun.proofs.loops.all_turn.Goals as goal
 
 pub loop-i-init : goal.loop-i-init

@@ -1,4 +1,4 @@
-use Rattle.toemsakun.specs.Acting.{Acting, acting_start, acting_next, acting_end}
+use Rattle.toemsakun.specs.Acting.{Acting}
 use Prim.Native.Nat.{◌-◌}
 use Rattle.toemsakun.proofs.loops.all_turn.Given as goal
 

@@ -1,4 +1,4 @@
-use Rattle.toemsakun.specs.Standing.{Judging, judging_start, judging_next, judging_end, survey_end}
+use Rattle.toemsakun.specs.Standing.{judging_start, judging_next, judging_end, survey_end}
 use Rattle.toemsakun.proofs.loops.judge.Goals as goal
 
 pub loop-i-init : goal.loop-i-init

@@ -1,4 +1,4 @@
-use Rattle.toemsakun.specs.Standing.{Judging, judging_start, judging_next, judging_end, survey_end}
+use Rattle.toemsakun.specs.Standing.{Judging}
 use Prim.Native.Nat.{◌-◌}
 use Rattle.toemsakun.proofs.loops.judge.Given as goal
 

@@ -4,7 +4,7 @@ use mathlib.Core.Path.{ap, ◌∙◌}
 use Rattle.line.specs.Carrier.{bus_with, over}
 use Rattle.line.specs.declared.Bus.{Bus}
 use Rattle.chip.specs.declared.Chip.{Chip}
-use Rattle.toemsakun.specs.Acting.{Walking, walking_start, walking_next, walking_end, sum_with, sum_is}
+use Rattle.toemsakun.specs.Acting.{walking_start, walking_next, walking_end, sum_with, sum_is}
 use Rattle.toemsakun.proofs.loops.line_value.Goals as goal
 
 pub loop-i-init : goal.loop-i-init

@@ -1,7 +1,7 @@
-use Rattle.line.specs.Carrier.{bus_with, over}
+use Rattle.line.specs.Carrier.{bus_with}
 use Rattle.line.specs.declared.Bus.{Bus}
 use Rattle.chip.specs.declared.Chip.{Chip}
-use Rattle.toemsakun.specs.Acting.{Walking, walking_start, walking_next, walking_end, sum_with, sum_is}
+use Rattle.toemsakun.specs.Acting.{Walking, sum_with}
 use Prim.Native.Nat.{◌-◌}
 use Rattle.toemsakun.proofs.loops.line_value.Given as goal
 

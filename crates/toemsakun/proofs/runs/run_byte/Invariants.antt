@@ -1,4 +1,4 @@
-use Prim.Native.Nat.{◌-◌, ◌%◌}
+use Prim.Native.Nat.{◌-◌}
 use Rattle.toemsakun.specs.Runs.{ByteBytes}
 use Rattle.toemsakun.proofs.runs.run_byte.Given as goal
 

@@ -1,4 +1,4 @@
-use Rattle.toemsakun.specs.SlotLoops.{Sending, sending_start, sending_next, sending_end}
+use Rattle.toemsakun.specs.SlotLoops.{sending_start, sending_next, sending_end}
 use Rattle.toemsakun.proofs.slots.all_send.Goals as goal
 
 pub loop-i-init : goal.loop-i-init

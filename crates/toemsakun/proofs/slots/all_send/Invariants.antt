@@ -1,5 +1,5 @@
 use Prim.Native.Nat.{◌-◌}
-use Rattle.toemsakun.specs.SlotLoops.{Sending, sending_start, sending_next, sending_end}
+use Rattle.toemsakun.specs.SlotLoops.{Sending}
 use Rattle.toemsakun.proofs.slots.all_send.Given as goal
 
 abbrev pub invariant-loop-i : goal.invariant-loop-i

@@ -1,10 +1,10 @@
 use mathlib.Core.List.{map}
-use mathlib.Core.Path.{◌≡◌, refl, ◌∙◌}
+use mathlib.Core.Path.{◌≡◌}
 use lib.ListN.{length}
 use Prim.Native.Nat.{◌-◌}
 use Rattle.chip.specs.Chip.{takes_of}
 use Rattle.toemsakun.specs.Slots.{line_in}
-use Rattle.toemsakun.specs.SlotLoops.{Taking, taking_start, taking_next, taking_end, slot-leaves}
+use Rattle.toemsakun.specs.SlotLoops.{Taking}
 use Rattle.toemsakun.proofs.slots.all_take.Given as goal
 
 abbrev pub invariant-loop-i : goal.invariant-loop-i

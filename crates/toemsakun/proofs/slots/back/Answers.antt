@@ -1,4 +1,4 @@
-use Rattle.toemsakun.specs.Narrow.{Narrow, narrow, back_next}
+use Rattle.toemsakun.specs.Narrow.{narrow, back_next}
 use Rattle.toemsakun.proofs.slots.back.Goals as goal
 
 pub loop-past-init : goal.loop-past-init

@@ -1,5 +1,5 @@
 use Prim.Native.Nat.{◌-◌}
-use Rattle.toemsakun.specs.Narrow.{Narrow, narrow, back_next}
+use Rattle.toemsakun.specs.Narrow.{Narrow}
 use Rattle.toemsakun.proofs.slots.back.Given as goal
 
 abbrev pub invariant-loop-past : goal.invariant-loop-past

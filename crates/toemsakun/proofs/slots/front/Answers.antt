@@ -1,4 +1,4 @@
-use Rattle.toemsakun.specs.Narrow.{Narrow, narrow, front_next}
+use Rattle.toemsakun.specs.Narrow.{narrow, front_next}
 use Rattle.toemsakun.proofs.slots.front.Goals as goal
 
 pub loop-first-init : goal.loop-first-init

@@ -1,5 +1,5 @@
 use Prim.Native.Nat.{◌-◌}
-use Rattle.toemsakun.specs.Narrow.{Narrow, narrow, front_next}
+use Rattle.toemsakun.specs.Narrow.{Narrow}
 use Rattle.toemsakun.proofs.slots.front.Given as goal
 
 abbrev pub invariant-loop-first : goal.invariant-loop-first

@@ -1,13 +1,11 @@
 //! The model in the place of the hexfile program.
 
-use std::ffi::OsString;
-use std::fs::File;
 use std::io::{self, Read, Write};
-use std::os::unix::ffi::OsStringExt;
 
 use super::words::{command_of, read_said, usage, write_said, Command, Said, Verb};
 use super::{write, Reader, IMAGE};
 use crate::model::book::{Book, Slip};
+use crate::model::programs::open_file;
 
 /// Serves the program; its exit status.
 pub fn serve(words: &[Vec<u8>], book: &mut Book) -> u8 {
@@ -70,7 +68,7 @@ fn print(said: &Said, book: &Book) {
 /// What the program says, or why it cannot read.
 fn told((verb, name): &Command, book: &mut Book) -> io::Result<Said> {
     let opened: io::Result<Box<dyn Read>> = match name {
-        Some(name) => File::open(OsString::from_vec(name.clone())).map(|file| Box::new(file) as _),
+        Some(name) => open_file(name).map(|file| Box::new(file) as _),
         None => Ok(Box::new(io::stdin().lock())),
     };
     let input = match opened {

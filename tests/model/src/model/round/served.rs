@@ -1,12 +1,10 @@
 //! The model in the place of the round program.
 
-use std::ffi::OsString;
-use std::fs::File;
 use std::io::{self, Read, Write};
-use std::os::unix::ffi::OsStringExt;
 
 use super::words::{asked_of, said, usage, Said, OPTIONS};
 use crate::model::book::{Book, Slip};
+use crate::model::programs::open_file;
 
 /// Serves the program; its exit status.
 pub fn serve(words: &[Vec<u8>], book: &mut Book) -> u8 {
@@ -128,7 +126,7 @@ fn read_file(name: &[u8], book: &Book) -> io::Result<Vec<u8>> {
     if name == b"-" && book.slips(Slip::RoundDash) {
         return read_all(&mut io::stdin().lock(), once, ends);
     }
-    let mut file = File::open(OsString::from_vec(name.to_vec()))?;
+    let mut file = open_file(name)?;
     read_all(&mut file, once, ends)
 }
 
