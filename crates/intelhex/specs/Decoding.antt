@@ -1,5 +1,5 @@
 -- Laws: the digits of a line put into a buffer as bytes, one after the other.
-use Rattle.std.specs.Prelude.{◌≡◌, ℕ, ◌+◌, ◌-◌, ◌*◌, ◌<◌, ◌≤◌, List, length, take, drop, set, slice_index, slice_index_or, slice_set}
+use Rattle.std.specs.Prelude.{◌≡◌, ℕ, ◌+◌, ◌*◌, ◌<◌, ◌≤◌, List, length, take, drop, set, slice_index, slice_index_or, slice_set}
 use Rattle.std.proofs.Common.{arith, zero-add, ◌∙◌, ap, sym, length-drop, get_or-drop}
 use Rattle.std.proofs.lemmas.List.Edits.{sets}
 use Rattle.intelhex.specs.Bytes.{byte_of, bytes_of}

@@ -1,6 +1,6 @@
 -- Laws: the end of a line sought, and its characters tried, one after the other; bytes of its digits.
 use Prim.Native.Char.{code as letter}
-use Rattle.std.specs.Prelude.{◌≡◌, ℕ, zero, suc, ◌+◌, ◌-◌, ◌*◌, ◌/◌, ◌<◌, ◌≤◌, Bool, true, false, List, [], ◌∷◌, length, take, drop, ◌≢◌, slice_index, refl}
+use Rattle.std.specs.Prelude.{◌≡◌, ℕ, zero, suc, ◌+◌, ◌*◌, ◌/◌, ◌<◌, ◌≤◌, Bool, true, false, List, [], ◌∷◌, length, take, drop, ◌≢◌, slice_index, refl}
 use Rattle.std.proofs.Common.{arith, add-one, ◌∙◌, ap, drop_of_length-le, drop-cons, get_or-take, length-take-le, eq-eqb, ne_eqb}
 use Rattle.std.proofs.Math.Path.{sym}
 use Rattle.base.specs.Pick.{pick_true, pick_false}

@@ -1,5 +1,5 @@
 -- Laws: what a writer leaves, and what is read of it.
-use Rattle.std.specs.Prelude.{ℕ, ◌+◌, ◌-◌, ◌*◌, ◌/◌, ◌%◌, ◌^◌, ◌<◌, ◌≤◌, Bool, true, false, List, [], ◌∷◌, ◌++◌, ◌≡◌, refl, eqb, ℤ, pos, nat_abs, ◌*ℤ◌, length, drop}
+use Rattle.std.specs.Prelude.{ℕ, ◌+◌, ◌*◌, ◌/◌, ◌%◌, ◌^◌, ◌<◌, ◌≤◌, Bool, true, false, List, [], ◌∷◌, ◌++◌, ◌≡◌, refl, eqb, ℤ, pos, nat_abs, ◌*ℤ◌, length, drop}
 use Rattle.std.proofs.Common.{arith, ◌∙◌, ap, sym, subst, length-drop, eqb-true, lt-ltb}
 use Rattle.base.specs.Pick.{pick, pick_true}
 use Rattle.setpoints.specs.Signed.{signed}

@@ -1,5 +1,5 @@
 -- The table of M-109: six pages by their beginnings, whatever follows, and what each reader answers.
-use Rattle.std.specs.Prelude.{ℕ, ◌+◌, true, false, List, [], ◌∷◌, ◌++◌, ◌≡◌, refl, ℤ, pos, length}
+use Rattle.std.specs.Prelude.{ℕ, true, false, List, [], ◌∷◌, ◌++◌, ◌≡◌, refl, ℤ, pos, length}
 use Rattle.std.proofs.Common.{◌∙◌, ap, eq-eqb}
 use Rattle.base.specs.Bits.{both}
 use Rattle.base.specs.Pick.{pick, pick_true}

@@ -1,12 +1,12 @@
 -- Laws: a text is refused for just one cause, and read where it has none.
-use Rattle.std.specs.Prelude.{ℕ, zero, suc, ◌+◌, ◌-◌, ◌<◌, ◌≤◌, true, false, List, [], ◌∷◌, ◌++◌, ◌≡◌, refl, length, drop}
+use Rattle.std.specs.Prelude.{ℕ, zero, suc, ◌+◌, ◌<◌, ◌≤◌, true, false, List, [], ◌∷◌, ◌++◌, ◌≡◌, refl, length, drop}
 use Rattle.std.proofs.Common.{zero-add, add-zero, add-one, arith, append_assoc, append-nil, ◌∙◌, ap, sym, subst, length-drop}
 use Rattle.std.proofs.Math.Seq.{drop-append_seam}
 use Rattle.base.specs.Exactly.{No}
 use Rattle.base.specs.Pick.{pick_false}
 use Rattle.intelhex.specs.Faults.{number_of_fault}
 use Rattle.intelhex.specs.Lines.{address_in, data_in, judged}
-use Rattle.intelhex.specs.Reading.{Given, given, Next, data-record, end-record, stop, next_by, next_of, next, Found, found, following, lines_of}
+use Rattle.intelhex.specs.Reading.{Given, given, Next, data-record, end-record, stop, next_by, next_of, next, Found, following, lines_of}
 use Rattle.intelhex.specs.Sound.{stands_nothing}
 use Rattle.intelhex.proofs.Underway.{NextLies, next_lies}
 use Rattle.intelhex.specs.declared.Ending.{Ending}

@@ -1,12 +1,11 @@
 -- The request M-110: "taken line by line, a text reads as in one". How a text is cut into the pieces in which it is handed over changes nothing; by calls.
-use Rattle.std.specs.Prelude.{ℕ, suc, ◌+◌, ◌-◌, ◌<◌, Bool, true, false, ◌≡◌, refl, length, drop}
+use Rattle.std.specs.Prelude.{ℕ, suc, ◌+◌, ◌<◌, Bool, true, false, ◌≡◌, refl, length, drop}
 use Rattle.std.proofs.Common.{arith, zero-add, add_assoc, ◌∙◌, ap, sym, subst, eq-eqb}
 use mathlib.Core.List.{List, [], ◌∷◌, ◌++◌, append-nil, append_assoc, flatten}
 use contract.Lifetimes.{Lfts}
 use Rattle.std.proofs.lemmas.List.{length-replicate}
 use Rattle.base.specs.Pick.{pick_true}
 use Rattle.intelhex.specs.Faults.{image_size, line_most}
-use Rattle.intelhex.specs.Lines.{before}
 use Rattle.intelhex.specs.Reading.{Found, found, lines_of, put_all, blank, Went, went, went_by, read_lines, Read, read, read_by}
 use Rattle.intelhex.proofs.Underway.{put_append, put_length}
 use Rattle.intelhex.specs.declared.Ending.{Ending}

@@ -10,7 +10,7 @@ use Rattle.base.specs.Exactly.{No, Iff}
 use Rattle.base.specs.Pick.{pick_true, pick_both}
 use Rattle.intelhex.specs.Faults.{image_size, text_size, number_of_fault}
 use Rattle.intelhex.specs.Answers.{Answered, done, awaited, refused, refused_after, written_as, read_as}
-use Rattle.intelhex.specs.Reading.{Given, lines_of, put_all, blank, Read, read, read_by, read_text}
+use Rattle.intelhex.specs.Reading.{Given, lines_of, put_all, blank, Read, read_by, read_text}
 use Rattle.intelhex.proofs.Underway.{text_unsized}
 use Rattle.intelhex.specs.Written.{Wrote, wrote, text_of}
 use Rattle.intelhex.specs.Putting as putting

@@ -1,5 +1,5 @@
 -- Laws: what was read of the beginning of a text stays, and reading goes on behind it.
-use Prim.Native.Nat.{ℕ, zero, suc, ◌+◌, ◌-◌, ◌<◌, ◌≤◌}
+use Prim.Native.Nat.{ℕ, zero, suc, ◌+◌, ◌<◌, ◌≤◌}
 use Rattle.std.proofs.Common.{arith, zero-add, inl, inr, ◌∙◌, ap, sym, drop-drop}
 use Rattle.std.specs.Prelude.{Bool, false, List, [], ◌∷◌, ◌++◌, ◌⊎◌, ◌≡◌, eqb, ltb, take, drop}
 use Rattle.std.proofs.Math.Bool.{true}
@@ -11,7 +11,7 @@ use Rattle.base.specs.Pick.{pick_true, pick_if}
 use Rattle.intelhex.specs.Faults.{line_most}
 use Rattle.intelhex.specs.Bytes.{bytes_of}
 use Rattle.intelhex.specs.Lines.{standing, before, form_of, judged}
-use Rattle.intelhex.specs.Reading.{Given, Next, data-record, end-record, stop, next_by, next_in, next_of, next_after, next, Found, found, following, lines_of, read}
+use Rattle.intelhex.specs.Reading.{Given, Next, data-record, end-record, stop, next_by, next_in, next_of, next_after, next, Found, found, following, lines_of}
 use Rattle.intelhex.proofs.Underway.{NextLies, next_lies, following_following}
 use Rattle.intelhex.specs.declared.Ending.{Ending}
 use Rattle.intelhex.specs.declared.Ending.TheVariants.{End, Part, Refused}

@@ -11,7 +11,7 @@ use Rattle.std.proofs.Math.Seq.{take_at}
 use Rattle.base.specs.Pick.{pick, pick_true, pick_false}
 use Rattle.intelhex.specs.Faults.{image_size}
 use Rattle.numerals.specs.Hex.{digit, digits_of}
-use Rattle.intelhex.specs.Bytes.{worth, total, sum_of, check_of}
+use Rattle.intelhex.specs.Bytes.{total, sum_of, check_of}
 use Rattle.intelhex.specs.Written.{line_feed, line_of, data_bytes, data_record, end_record, data_records, data_lines, text_of}
 use Rattle.intelhex.specs.Lines.{address_in, data_in}
 use Rattle.intelhex.specs.Reading.{Given, given, put_all, blank}

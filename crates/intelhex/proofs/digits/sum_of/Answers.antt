@@ -1,5 +1,5 @@
-use Rattle.std.proofs.Common.{◌≡◌, ◌+◌, ◌-◌, ◌%◌, ◌<◌, ◌≤◌, length, drop, rules}
-use Rattle.intelhex.specs.Bytes.{total, sum_of}
+use Rattle.std.proofs.Common.{rules}
+use Rattle.intelhex.specs.Bytes.{sum_of}
 use Rattle.intelhex.specs.Digits.{sum_next, sum_end}
 use Rattle.intelhex.proofs.digits.sum_of.Goals as goal
 

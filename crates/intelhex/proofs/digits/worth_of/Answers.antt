@@ -1,5 +1,5 @@
 use Rattle.base.specs.Rules.{cases}
-use Rattle.std.proofs.Common.{sym, ◌∙◌, arith, rules}
+use Rattle.std.proofs.Common.{sym, ◌∙◌, arith}
 use Rattle.intelhex.specs.Bytes.{worth}
 use Rattle.intelhex.specs.Digits.{between_ends}
 use Rattle.intelhex.proofs.digits.worth_of.Goals as goal

@@ -1,4 +1,4 @@
-use Rattle.std.proofs.Common.{◌≡◌, ◌+◌, ◌-◌, ◌≤◌, take, drop, rules}
+use Rattle.std.proofs.Common.{rules}
 use Rattle.intelhex.specs.Ends.{end_here, end_later, no_end}
 use Rattle.intelhex.proofs.lines.before_end.Goals as goal
 

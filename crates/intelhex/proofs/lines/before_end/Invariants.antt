@@ -1,4 +1,4 @@
-use Rattle.std.proofs.Common.{◌≡◌, ◌+◌, ◌-◌, ◌≤◌, take, drop, rules}
+use Rattle.std.proofs.Common.{◌≡◌, ◌+◌, ◌-◌, ◌≤◌, take, drop}
 use Rattle.intelhex.specs.Lines.{before}
 use Rattle.intelhex.proofs.lines.before_end.Given as goal
 

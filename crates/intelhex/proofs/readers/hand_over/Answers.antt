@@ -1,4 +1,4 @@
-use Rattle.std.proofs.Common.{sym, refl, ap, ◌∙◌, rules}
+use Rattle.std.proofs.Common.{sym, refl, ap, ◌∙◌}
 use Rattle.intelhex.specs.Reading.{read}
 use Rattle.intelhex.specs.declared.Reading.TheVariants as reading
 use Rattle.base.specs.Stores.{sets_all}

@@ -1,5 +1,5 @@
-use Rattle.std.proofs.Common.{◌-◌, length, sym, ◌∙◌, rules}
-use Rattle.intelhex.proofs.Underway.{Underway, underway_start, underway_next, underway_sums, underway_stopped}
+use Rattle.std.proofs.Common.{sym, ◌∙◌, rules}
+use Rattle.intelhex.proofs.Underway.{underway_start, underway_next, underway_sums, underway_stopped}
 use Rattle.intelhex.proofs.readers.read_all.Goals as goal
 
 pub loop-size-init : goal.loop-size-init

@@ -1,5 +1,5 @@
-use Rattle.std.proofs.Common.{◌-◌, length, sym, ◌∙◌, rules}
-use Rattle.intelhex.proofs.Underway.{Underway, underway_start, underway_next, underway_sums, underway_stopped}
+use Rattle.std.proofs.Common.{◌-◌, length}
+use Rattle.intelhex.proofs.Underway.{Underway}
 use Rattle.intelhex.proofs.readers.read_all.Given as goal
 
 abbrev pub invariant-loop-size : goal.invariant-loop-size

@@ -1,4 +1,4 @@
-use Rattle.std.proofs.Common.{◌≡◌, ◌-◌, ◌≤◌, length, drop, refl, ◌∙◌, rules}
+use Rattle.std.proofs.Common.{refl, ◌∙◌, rules}
 use Rattle.intelhex.specs.Ends.{digit_next, no_digit, digits_end}
 use Rattle.intelhex.proofs.record.are_digits.Goals as goal
 

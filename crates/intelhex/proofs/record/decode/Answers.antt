@@ -1,4 +1,4 @@
-use Rattle.std.proofs.Common.{◌≡◌, ℕ, ◌-◌, ◌≤◌, length, take, drop, set, refl, ap, ◌∙◌, length-set, rules}
+use Rattle.std.proofs.Common.{ℕ, set, refl, ap, ◌∙◌, length-set, rules}
 use Rattle.intelhex.specs.Decoding.{decoded_next, decoded_all}
 use Rattle.intelhex.proofs.record.decode.Goals as goal
 

@@ -1,4 +1,4 @@
-use Rattle.std.proofs.Common.{◌≡◌, ℕ, ◌-◌, ◌≤◌, length, take, drop, set, refl, ap, ◌∙◌, length-set, rules}
+use Rattle.std.proofs.Common.{◌≡◌, ◌-◌, ◌≤◌, length, take, drop}
 use lib.Seq.{sets}
 use Rattle.intelhex.specs.Bytes.{bytes_of}
 use Rattle.intelhex.proofs.record.decode.Given as goal

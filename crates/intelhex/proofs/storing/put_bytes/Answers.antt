@@ -1,4 +1,4 @@
-use Rattle.std.proofs.Common.{◌≡◌, ℕ, ◌+◌, ◌-◌, ◌≤◌, List, length, get_or, take, set, refl, ap, ◌∙◌, rules}
+use Rattle.std.proofs.Common.{ℕ, ◌+◌, List, get_or, set, refl, ap, ◌∙◌, rules}
 use Rattle.base.specs.Stores.{stored_next, stored_all}
 use Rattle.intelhex.proofs.storing.put_bytes.Goals as goal
 

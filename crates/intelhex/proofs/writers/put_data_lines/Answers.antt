@@ -1,5 +1,5 @@
-use Rattle.std.proofs.Common.{◌-◌, sym, ◌∙◌, rules}
-use Rattle.intelhex.specs.Putting.{Putting, putting_start, within, given_length, at_few, putting_next, putting_end}
+use Rattle.std.proofs.Common.{sym, ◌∙◌, rules}
+use Rattle.intelhex.specs.Putting.{putting_start, within, given_length, at_few, putting_next, putting_end}
 use Rattle.intelhex.proofs.writers.put_data_lines.Goals as goal
 
 pub loop-from-init : goal.loop-from-init

@@ -1,5 +1,5 @@
-use Rattle.std.proofs.Common.{◌-◌, sym, ◌∙◌, rules}
-use Rattle.intelhex.specs.Putting.{Putting, putting_start, within, given_length, at_few, putting_next, putting_end}
+use Rattle.std.proofs.Common.{◌-◌}
+use Rattle.intelhex.specs.Putting.{Putting}
 use Rattle.intelhex.proofs.writers.put_data_lines.Given as goal
 
 abbrev pub invariant-loop-from : goal.invariant-loop-from

@@ -1,4 +1,4 @@
-use Rattle.std.proofs.Common.{refl, rules}
+use Rattle.std.proofs.Common.{refl}
 use Rattle.intelhex.specs.Putting.{line_put}
 use Rattle.intelhex.proofs.writers.put_line.Goals as goal
 
