@@ -1,6 +1,6 @@
 -- Demand 3, "Recovery after noise: after a reset, a match and a full-page scratchpad write, a chip's whole state no longer depends on what
 -- happened between, unless it copied.": of calls. Page, write and Addressed are in recovery/specs/Sessions, TableInstalled in
--- recovery/specs/Public, NoCopyIn in SearchCopies.
+-- recovery/proofs/Public, NoCopyIn in SearchCopies.
 use Rattle.std.specs.Prelude.{ℕ, List, [], map, ◌≡◌}
 use Rattle.std.proofs.Common.{◌∙◌, ap, sym, subst}
 use Rattle.line.specs.Event.{Answered}
