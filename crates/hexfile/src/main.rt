@@ -10,7 +10,7 @@ mod writing;
 use console::Outputs;
 use std::io::{Read, Stderr};
 use std::rt::{Env, Files};
-use words::{Command, Way};
+use words::Way;
 
 // Says how the program is used.
 fn say_usage(errors: Stderr) {
@@ -45,19 +45,14 @@ fn main(rt: HostRuntime) {
     };
     let mut word = [0u8; words::WORD_MOST];
     let n = console::argument(&rt, 1, &mut word);
-    let command = words::command_of(&word[..n]);
+    let way = words::way_of(&word[..n]);
     let arguments = console::argument_count(&rt);
-    match command {
-        Command::Go(way) => {
-            if arguments == 2 {
-                let mut input = rt.stdin();
-                go(way, &mut input, b"standard input", to);
-            } else if arguments == 3 {
-                go_with_file(&rt, way, to);
-            } else {
-                say_usage(to.errors);
-            }
+    match (way, arguments) {
+        (Some(way), 2) => {
+            let mut input = rt.stdin();
+            go(way, &mut input, b"standard input", to);
         }
-        Command::Unknown => say_usage(to.errors),
+        (Some(way), 3) => go_with_file(&rt, way, to),
+        _ => say_usage(to.errors),
     }
 }

@@ -16,36 +16,11 @@ struct Stand {
     lines: u64,
 }
 
-// Where it stands after a turn, how that ended, and whether there is another.
+// Where it stands after a turn, and how that ended.
 #[derive(Clone, Copy)]
 struct Turned {
     stand: Stand,
-    ending: Ending,
-    on: bool,
-}
-
-// Whether more of the text is awaited.
-fn is_part(ending: Ending) -> bool {
-    match ending {
-        Ending::End => false,
-        Ending::Part => true,
-        Ending::Refused(_) => false,
-    }
-}
-
-// What is at hand after one read more, where more is awaited.
-fn fetched<R: Read>(
-    hand: Hand,
-    awaited: bool,
-    input: &mut R,
-    errors: Stderr,
-    name: &[u8],
-    bytes: &mut [u8],
-) -> Hand {
-    if awaited {
-        return input::fetch(hand, input, errors, name, bytes);
-    }
-    hand
+    ending: Result<Ending, Fault>,
 }
 
 // A turn: the lines at hand are read into the image, and more is fetched where more is awaited.
@@ -57,22 +32,20 @@ fn turn<R: Read>(
     bytes: &mut [u8],
     image: &mut [u8],
 ) -> Turned {
-    let hand = stand.hand;
-    let n = input::within(hand.bytes, bytes);
-    let taken = intelhex::read_lines(stand.over, &bytes[..n], hand.more, image);
-    let ending = taken.ending;
-    let rest = input::taken(hand, taken.at, bytes);
-    let awaited = is_part(ending);
-    let next = fetched(rest, awaited, input, errors, name, bytes);
+    let n = input::within(stand.hand.bytes, bytes);
+    let taken = intelhex::read_lines(stand.over, &bytes[..n], stand.hand.more, image);
+    let mut hand = input::taken(stand.hand, taken.at, bytes);
+    if taken.ending == Ok(Ending::Part) {
+        hand = input::fetch(hand, input, errors, name, bytes);
+    }
     let after = Stand {
-        hand: next,
+        hand,
         over: taken.over,
         lines: console::count_on(stand.lines, taken.lines),
     };
     Turned {
         stand: after,
-        ending: ending,
-        on: base::are_both(awaited, !next.failed),
+        ending: taken.ending,
     }
 }
 
@@ -84,24 +57,21 @@ fn read_all<R: Read>(
     bytes: &mut [u8],
     image: &mut [u8],
 ) -> Turned {
-    let hand = input::nothing();
-    let stand = Stand {
-        hand: hand,
-        over: false,
-        lines: 0,
+    let mut turned = Turned {
+        stand: Stand {
+            hand: input::nothing(),
+            over: false,
+            lines: 0,
+        },
+        ending: Ok(Ending::Part),
     };
-    let mut t = Turned {
-        stand: stand,
-        ending: Ending::Part,
-        on: true,
-    };
-    let mut turns = u64::MAX;
-    while 0 < turns {
-        let stand = t.stand;
-        t = turn(stand, input, errors, name, bytes, image);
-        turns = console::turns_left(turns, t.on);
+    for _ in 0..u64::MAX {
+        turned = turn(turned.stand, input, errors, name, bytes, image);
+        if turned.ending != Ok(Ending::Part) || turned.stand.hand.failed {
+            break;
+        }
     }
-    t
+    turned
 }
 
 // Tells the line at fault, of which so many stand before it, and what is wrong with it.
@@ -117,17 +87,15 @@ fn tell_refused(errors: Stderr, fault: Fault, before: u64) {
 pub fn read<R: Read>(input: &mut R, name: &[u8], to: Outputs) {
     let mut bytes = [0u8; BYTES_MOST];
     let mut image = intelhex::blank_image();
-    let t = read_all(input, to.errors, name, &mut bytes, &mut image);
-    let stand = t.stand;
-    let ending = t.ending;
-    match ending {
-        Ending::Part => {}
-        Ending::End => {
+    let turned = read_all(input, to.errors, name, &mut bytes, &mut image);
+    match turned.ending {
+        Ok(Ending::Part) => {}
+        Ok(Ending::End) => {
             console::is_written(to, &image);
         }
-        Ending::Refused(fault) => {
+        Err(fault) => {
             console::say_refused(to, intelhex::number_of(fault));
-            tell_refused(to.errors, fault, stand.lines);
+            tell_refused(to.errors, fault, turned.stand.lines);
         }
     }
 }

@@ -7,23 +7,14 @@ pub enum Way {
     Read,
 }
 
-// What the program is asked to do.
-#[derive(Clone, Copy)]
-pub enum Command {
-    Go(Way),
-    Unknown,
-}
-
 // Room for a word: what does not fit is none.
 pub const WORD_MOST: usize = 5;
 
-// The command that a word names.
-pub fn command_of(word: &[u8]) -> Command {
-    if base::same_bytes(word, b"write") {
-        return Command::Go(Way::Write);
+// The way that a word names.
+pub fn way_of(word: &[u8]) -> Option<Way> {
+    match word {
+        b"write" => Some(Way::Write),
+        b"read" => Some(Way::Read),
+        _ => None,
     }
-    if base::same_bytes(word, b"read") {
-        return Command::Go(Way::Read);
-    }
-    Command::Unknown
 }

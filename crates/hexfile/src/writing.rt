@@ -1,7 +1,7 @@
 // An image as text.
 use crate::telling;
 use console::{Outputs, input};
-use intelhex::{Fault, IMAGE_SIZE, TEXT_SIZE, Writing};
+use intelhex::{Fault, IMAGE_SIZE, TEXT_SIZE};
 use std::io::{Read, Stderr};
 
 // The most that is read: one byte more than an image has, so that an image is told from what only begins with one.
@@ -29,12 +29,11 @@ pub fn write<R: Read>(input: &mut R, name: &[u8], to: Outputs) {
     }
     let n = input::within(hand.bytes, &bytes);
     let mut text = [0u8; TEXT_SIZE];
-    let answer = intelhex::write_text(&bytes[..n], &mut text);
-    match answer {
-        Writing::Written => {
+    match intelhex::write_text(&bytes[..n], &mut text) {
+        Ok(()) => {
             console::is_written(to, &text);
         }
-        Writing::Refused(fault) => {
+        Err(fault) => {
             console::say_refused(to, intelhex::number_of(fault));
             tell_refused(to.errors, fault, n);
         }

@@ -1,5 +1,5 @@
 -- Laws: the loop that reads the lines of a text.
-use Rattle.std.specs.Prelude.{◌≡◌, ℕ, suc, ◌+◌, ◌-◌, ◌<◌, ◌≤◌, Bool, true, false, List, [], ◌∷◌, ◌++◌, length, take, drop, ◌==◌, ◌≢◌}
+use Rattle.std.specs.Prelude.{◌≡◌, ℕ, suc, ◌+◌, ◌-◌, ◌<◌, ◌≤◌, Bool, true, false, List, [], ◌∷◌, ◌++◌, length, take, drop, ◌==◌, ◌≢◌, Result, Ok, Err}
 use native.Mathlib.Omega.{arith}
 use Rattle.std.proofs.Common.{zero-add, add-zero, add_assoc, append-nil, append_assoc, ◌∙◌, length-drop, drop-drop, take_all, eq-eqb, ne_eqb}
 use Rattle.std.proofs.Math.Path.{refl, ap, sym}
@@ -7,25 +7,21 @@ use Rattle.std.proofs.lemmas.List.Edits.{sets}
 use Rattle.std.proofs.Math.Seq.{length-sets}
 use Rattle.base.specs.Pick.{pick_true, pick_false, pick_both}
 use Rattle.base.specs.Along.{along}
-use Rattle.base.specs.Exactly.{apart}
 use Rattle.intelhex.specs.Faults.{image_size}
 use Rattle.intelhex.specs.Bytes.{bytes_of}
 use Rattle.intelhex.specs.Lines.{standing, form_of, judged}
-use Rattle.intelhex.specs.Reading.{Given, Next, data-record, end-record, stop, next_by, next_in, next_of, next_after, next, Found, found, following, on_next, lines_from, lines_of, put_all, blank, Went, went, went_by, read_lines, Read, read, read_by, read_text}
-use Rattle.intelhex.specs.Turns.{Turned, turned, turned_by, ending_of}
+use Rattle.intelhex.specs.Reading.{Given, Next, data-record, end-record, stop, next_by, next_in, next_of, next_after, next, Found, found, following, on_next, lines_from, lines_of, put_all, blank, Went, went, went_by, read_lines, Read, read, read_by, read_text, refusing}
+use Rattle.intelhex.specs.Turns.{Turned, turned, stopped, turned_by, ending_of, ending_stopped}
 use Rattle.intelhex.specs.Sound.{LineLies, line_lies}
 use Rattle.intelhex.specs.declared.Ending.{Ending}
-use Rattle.intelhex.specs.declared.Ending.TheVariants.{Refused}
 use Rattle.intelhex.specs.declared.Fault.TheVariants.{WrongSize}
-use Rattle.intelhex.specs.declared.Reading.TheVariants as reading
 use Rattle.intelhex.specs.declared.lines.Standing.{Standing}
 use Rattle.intelhex.specs.declared.lines.Standing.TheVariants.{Nothing, Unended, Endless, Line}
 use Rattle.intelhex.specs.declared.readers.Turn.{Turn}
 use Rattle.intelhex.specs.declared.readers.Turn.TheVariants.{On, Stop}
-use Rattle.intelhex.specs.declared.record.Form.{Form}
-use Rattle.intelhex.specs.declared.record.Form.TheVariants as form
 use Rattle.intelhex.specs.declared.record.Judged.{Judged}
 use Rattle.intelhex.specs.declared.record.Judged.TheVariants as judged-as
+use Rattle.intelhex.specs.declared.Fault.{Fault}
 
 -- ---- what stands next lies in the text, and is not without characters
 abbrev pub NextLies : List ℕ → Next → Type 0
@@ -34,14 +30,14 @@ NextLies text (end-record size) = (0 < size) × (size ≤ length text)
 NextLies text (stop e) = Unit {0}
 
 module _ (text : List ℕ) where
-  record_lies : (size : ℕ) (bytes : List ℕ) (j : Judged) → 0 < size → size ≤ length text → NextLies text (next_by size bytes j)
-  record_lies size bytes (judged-as.Data address count) a b = (a, b)
-  record_lies size bytes judged-as.End a b = (a, b)
-  record_lies size bytes (judged-as.Refused f) a b = tt
+  record_lies : (size : ℕ) (bytes : List ℕ) (j : Result Judged Fault) → 0 < size → size ≤ length text → NextLies text (next_by size bytes j)
+  record_lies size bytes (Ok (judged-as.Data address count)) a b = (a, b)
+  record_lies size bytes (Ok judged-as.End) a b = (a, b)
+  record_lies size bytes (Err f) a b = tt
 
-  form_lies : (size : ℕ) (line : List ℕ) (f : Form) → 0 < size → size ≤ length text → NextLies text (next_in size line f)
-  form_lies size line (form.Bytes n) a b = record_lies size (bytes_of (drop 1 line)) (judged (bytes_of (drop 1 line))) a b
-  form_lies size line (form.Refused f) a b = tt
+  form_lies : (size : ℕ) (line : List ℕ) (f : Result ℕ Fault) → 0 < size → size ≤ length text → NextLies text (next_in size line f)
+  form_lies size line (Ok n) a b = record_lies size (bytes_of (drop 1 line)) (judged (bytes_of (drop 1 line))) a b
+  form_lies size line (Err f) a b = tt
 
   standing_lies : (more : Bool) (s : Standing) → LineLies text s → NextLies text (next_of more text s)
   standing_lies more Nothing l = tt
@@ -71,20 +67,28 @@ following_following gs hs at m lines k f =
 -- ---- the loop
 
 -- a turn that goes on, and what it says; one that stops says nothing
-abbrev size_in : Turn → ℕ
-size_in (On size over) = size
-size_in (Stop e) = 0
+abbrev size_in : Result Turn Fault → ℕ
+size_in (Ok (On size over)) = size
+size_in (Ok (Stop e)) = 0
+size_in (Err f) = 0
 
-abbrev over_in : Turn → Bool
-over_in (On size over) = over
-over_in (Stop e) = false
+abbrev over_in : Result Turn Fault → Bool
+over_in (Ok (On size over)) = over
+over_in (Ok (Stop e)) = false
+over_in (Err f) = false
 
-tag : Turn → ℕ
-tag (On size over) = 0
-tag (Stop e) = 1
+tag : Result Turn Fault → ℕ
+tag (Ok (On size over)) = 0
+tag (Ok (Stop e)) = 1
+tag (Err f) = 1
+
+tag_stopped : (e : Result Ending Fault) → tag (stopped e) ≡ 1
+unfolding tag
+tag_stopped (Ok e) = refl
+tag_stopped (Err f) = refl
 
 -- where the loop stands: what was given so far, and how many more lines there may be after this one
-pub record Underway (more over₀ : Bool) (text image₀ bytes image : List ℕ) (at lines : ℕ) (over : Bool) : Type 0 where
+pub record Underway (more over₀ : Bool) (text image₀ image : List ℕ) (at lines : ℕ) (over : Bool) : Type 0 where
   pub gave : List Given
   pub turns : ℕ
   pub left : following gave at lines (lines_from (suc turns) more over (drop at text)) ≡ lines_of more over₀ text
@@ -93,11 +97,10 @@ pub record Underway (more over₀ : Bool) (text image₀ bytes image : List ℕ)
   pub put : image ≡ put_all gave image₀
   pub few : lines ≤ at
   pub long : length image ≡ length image₀
-  pub room : length bytes ≡ 260
 
-pub underway_start : (more over : Bool) (text image bytes : List ℕ) → length bytes ≡ 260 → Underway more over text image bytes image 0 0 over
+pub underway_start : (more over : Bool) (text image : List ℕ) → Underway more over text image image 0 0 over
 unfolding lines_of
-underway_start more over text image bytes r = record {
+underway_start more over text image = record {
   gave = [];
   turns = length text;
   left = let f = lines_from (suc (length text)) more over text in λ j. found f.given f.ending (zero-add f.at j) (zero-add f.lines j) f.over;
@@ -106,17 +109,16 @@ underway_start more over text image bytes r = record {
   put = refl;
   few = omega arith;
   long = refl;
-  room = r;
 }
 
-module _ (more over₀ : Bool) (text image₀ bytes image : List ℕ) (at lines : ℕ) (over : Bool) (u : Underway more over₀ text image₀ bytes image at lines over) where
+module _ (more over₀ : Bool) (text image₀ image : List ℕ) (at lines : ℕ) (over : Bool) (u : Underway more over₀ text image₀ image at lines over) where
   -- the part of the text from there on, as the code lends it
   part : take (length text - at) (drop at text) ≡ drop at text
   part = let l = length-drop at text in take_all (length text - at) (drop at text) (omega arith)
 
-  module _ (size : ℕ) (ended : Bool) (bytes' image' : List ℕ) (r : length bytes' ≡ length bytes) where
+  module _ (size : ℕ) (ended : Bool) (image' : List ℕ) where
     step : (gs : List Given) → lines_from (suc u.turns) more over (drop at text) ≡ following gs size 1 (lines_from u.turns more ended (drop size (drop at text)))
-        → image' ≡ put_all gs image → 0 < size → size ≤ length (drop at text) → Underway more over₀ text image₀ bytes' image' (at + size) (lines + 1) ended
+        → image' ≡ put_all gs image → 0 < size → size ≤ length (drop at text) → Underway more over₀ text image₀ image' (at + size) (lines + 1) ended
     step gs e p a b =
         let l = length-drop at text in
         let n = u.enough in
@@ -138,11 +140,10 @@ module _ (more over₀ : Bool) (text image₀ bytes image : List ℕ) (at lines 
           put = p ∙ ap (put_all gs) u.put ∙ sym (put_append u.gave gs image₀);
           few = omega arith;
           long = ap length p ∙ put_length gs image ∙ u.long;
-          room = r ∙ u.room;
         }
 
-    by_next : (x : Next) → next over more (drop at text) ≡ x → NextLies (drop at text) x → turned (On size ended) image' ≡ turned_by image x
-        → (0 < size) × ((size ≤ length (drop at text)) × Underway more over₀ text image₀ bytes' image' (at + size) (lines + 1) ended)
+    by_next : (x : Next) → next over more (drop at text) ≡ x → NextLies (drop at text) x → turned (Ok (On size ended)) image' ≡ turned_by image x
+        → (0 < size) × ((size ≤ length (drop at text)) × Underway more over₀ text image₀ image' (at + size) (lines + 1) ended)
     unfolding lines_from tag
     by_next (data-record n g) e l h =
         let s : size ≡ n = ap (λ (t : Turned). size_in t.turn) h in
@@ -172,16 +173,16 @@ module _ (more over₀ : Bool) (text image₀ bytes image : List ℕ) (at lines 
                 (ap (λ (t : Turned). t.image) h) a b,
           ),
         )
-    by_next (stop x) e l h = absurd (apart tag (On size ended) (Stop x) (λ p. omega arith) (ap (λ (t : Turned). t.turn) h))
+    by_next (stop x) e l h = absurd (let y : tag (Ok (On size ended)) ≡ tag (stopped x) = ap (λ (t : Turned). tag t.turn) h in let z : 0 ≡ 1 = y ∙ tag_stopped x in omega arith)
 
     -- after a turn that goes on: its characters lie in the text, and the loop stands behind them
-    pub underway_next : (t : Turn) → t ≡ On size ended → turned t image' ≡ turned_by image (next over more (take (length text - at) (drop at text)))
-        → (0 < size) × ((size ≤ length (drop at text)) × Underway more over₀ text image₀ bytes' image' (at + size) (lines + 1) ended)
+    pub underway_next : (t : Result Turn Fault) → t ≡ Ok (On size ended) → turned t image' ≡ turned_by image (next over more (take (length text - at) (drop at text)))
+        → (0 < size) × ((size ≤ length (drop at text)) × Underway more over₀ text image₀ image' (at + size) (lines + 1) ended)
     underway_next t q h = by_next (next over more (drop at text)) refl (next_lies (drop at text) over more)
-        (ap (λ (x : Turn). turned x image') (sym q) ∙ h ∙ ap (λ (x : List ℕ). turned_by image (next over more x)) part)
+        (ap (λ (x : Result Turn Fault). turned x image') (sym q) ∙ h ∙ ap (λ (x : List ℕ). turned_by image (next over more x)) part)
 
     -- so the sums fit, and fewer characters are left
-    pub underway_sums : (t : Turn) → t ≡ On size ended → turned t image' ≡ turned_by image (next over more (take (length text - at) (drop at text)))
+    pub underway_sums : (t : Result Turn Fault) → t ≡ Ok (On size ended) → turned t image' ≡ turned_by image (next over more (take (length text - at) (drop at text)))
         → (at + size ≤ length text) × ((lines + 1 ≤ length text) × (length text - (at + size) < length text - at))
     underway_sums t q h =
         let n = underway_next t q h in
@@ -191,28 +192,28 @@ module _ (more over₀ : Bool) (text image₀ bytes image : List ℕ) (at lines 
         (w, (omega arith, omega arith))
 
   -- after one that stops
-  pub underway_stopped : (t : Turn) (e ending : Ending) (image' : List ℕ) → t ≡ Stop e → ending ≡ ending_of t → turned t image' ≡ turned_by image (next over more (take (length text - at) (drop at text)))
-      → went ending at lines over image' ≡ went_by image₀ (lines_of more over₀ text)
+  pub underway_stopped : (t : Result Turn Fault) (e : Result Ending Fault) (image' : List ℕ) → t ≡ stopped e → turned t image' ≡ turned_by image (next over more (take (length text - at) (drop at text)))
+      → went e at lines over image' ≡ went_by image₀ (lines_of more over₀ text)
   unfolding lines_from tag
-  underway_stopped t e ending image' q d h = by (next over more (drop at text)) refl (ap (λ (x : Turn). turned x image') (sym q) ∙ h ∙ ap (λ (x : List ℕ). turned_by image (next over more x)) part)
+  underway_stopped t e image' q h = by (next over more (drop at text)) refl (ap (λ (x : Result Turn Fault). turned x image') (sym q) ∙ h ∙ ap (λ (x : List ℕ). turned_by image (next over more x)) part)
     where
-      by : (x : Next) → next over more (drop at text) ≡ x → turned (Stop e) image' ≡ turned_by image x → went ending at lines over image' ≡ went_by image₀ (lines_of more over₀ text)
-      by (data-record n g) f k = absurd (apart tag (Stop e) (On n false) (λ p. omega arith) (ap (λ (t : Turned). t.turn) k))
-      by (end-record n) f k = absurd (apart tag (Stop e) (On n true) (λ p. omega arith) (ap (λ (t : Turned). t.turn) k))
+      by : (x : Next) → next over more (drop at text) ≡ x → turned (stopped e) image' ≡ turned_by image x → went e at lines over image' ≡ went_by image₀ (lines_of more over₀ text)
+      by (data-record n g) f k = absurd (let z : 1 ≡ 0 = sym (tag_stopped e) ∙ ap (λ (t : Turned). tag t.turn) k in omega arith)
+      by (end-record n) f k = absurd (let z : 1 ≡ 0 = sym (tag_stopped e) ∙ ap (λ (t : Turned). tag t.turn) k in omega arith)
       by (stop x) f k =
           let m : image' ≡ image = ap (λ (t : Turned). t.image) k in
-          let y : ending ≡ x = d ∙ ap ending_of q ∙ ap (λ (t : Turned). ending_of t.turn) k in
+          let y : e ≡ x = sym (ending_stopped e) ∙ ap (λ (t : Turned). ending_of t.turn) k ∙ ending_stopped x in
           (λ j. went (y j) (sym (add-zero at) j) (sym (add-zero lines) j) over ((m ∙ u.put ∙ ap (λ (gs : List Given). put_all gs image₀) (sym (append-nil u.gave))) j))
           ∙ ap (λ (y : Found). went_by image₀ (following u.gave at lines y)) (sym (ap (on_next (λ o t. lines_from u.turns more o t) over (drop at text)) f))
           ∙ ap (went_by image₀) u.left
 
 -- what is handed over, by how reading ended
-pub handed : (image made : List ℕ) (lines : ℕ) (p q : Ending) (r : Read) → p ≡ q → r ≡ read_by image made lines q → r ≡ read_by image made lines p
+pub handed : (image made : List ℕ) (lines : ℕ) (p q : Result Ending Fault) (r : Read) → p ≡ q → r ≡ read_by image made lines q → r ≡ read_by image made lines p
 handed image made lines p q r e h = along (read_by image made lines) p q r e h
 
 -- ---- images of another size, and of their own
 module _ (over more : Bool) (text image : List ℕ) where
-  pub lines_unsized : (length image ≢ image_size) → went (Refused WrongSize) 0 0 over image ≡ read_lines over more text image
+  pub lines_unsized : (length image ≢ image_size) → went (Err WrongSize) 0 0 over image ≡ read_lines over more text image
   unfolding read_lines
   lines_unsized n = sym (pick_false _ _ _ (ne_eqb (length image) image_size n))
 
@@ -221,12 +222,12 @@ module _ (over more : Bool) (text image : List ℕ) where
   lines_sized e w h = h ∙ sym (pick_true _ _ _ (eq-eqb (length image) image_size e))
 
 module _ (text image : List ℕ) where
-  pub text_unsized : (length image ≢ image_size) → read (reading.Refused WrongSize 0) image ≡ read_text text image
+  pub text_unsized : (length image ≢ image_size) → read (refusing WrongSize 0) image ≡ read_text text image
   unfolding read_text
   text_unsized n = sym (pick_false _ _ _ (ne_eqb (length image) image_size n))
 
   -- a text that was read into an image of FFh is handed over
-  pub text_sized : length image ≡ image_size → (made made' : List ℕ) (e : Ending) (at lines : ℕ) (over : Bool) (r : Read) → made ≡ blank
+  pub text_sized : length image ≡ image_size → (made made' : List ℕ) (e : Result Ending Fault) (at lines : ℕ) (over : Bool) (r : Read) → made ≡ blank
       → went e at lines over made' ≡ went_by made (lines_of false false text) → r ≡ read_by image made' lines e → r ≡ read_text text image
   unfolding read_text
   text_sized l made made' e at lines over r b h k =

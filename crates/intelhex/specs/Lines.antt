@@ -1,7 +1,7 @@
 -- Document 02, M-110: "LF or CR LF is read, a line without either is out of form". The line that a text begins with, and what it says. What else is quoted here is the request
 -- that settled the rest.
 use Prim.Native.Char.{code as letter}
-use Rattle.std.specs.Prelude.{ℕ, suc, ◌+◌, ◌-◌, ◌*◌, ◌/◌, ◌%◌, Bool, true, false, not, List, [], ◌∷◌, length, take, drop, ◌==◌, nat_lt, slice_index}
+use Rattle.std.specs.Prelude.{ℕ, suc, ◌+◌, ◌-◌, ◌*◌, ◌/◌, ◌%◌, Bool, true, false, not, List, [], ◌∷◌, length, take, drop, ◌==◌, nat_lt, slice_index, Result, Ok, Err}
 use Rattle.base.specs.Bits.{both}
 use Rattle.base.specs.Pick.{pick}
 use Rattle.intelhex.specs.Faults.{last_address, line_most}
@@ -10,10 +10,9 @@ use Rattle.intelhex.specs.Written.{line_feed}
 use Rattle.intelhex.specs.declared.Fault.TheVariants.{NoColon, NoDigit, OddDigits, FewBytes, WrongCount, EndNotZero, CheckByte, UnknownType, AboveImage}
 use Rattle.intelhex.specs.declared.lines.Standing.{Standing}
 use Rattle.intelhex.specs.declared.lines.Standing.TheVariants.{Nothing, Unended, Endless, Line}
-use Rattle.intelhex.specs.declared.record.Form.{Form}
-use Rattle.intelhex.specs.declared.record.Form.TheVariants as form
 use Rattle.intelhex.specs.declared.record.Judged.{Judged}
 use Rattle.intelhex.specs.declared.record.Judged.TheVariants as judged-as
+use Rattle.intelhex.specs.declared.Fault.{Fault}
 
 -- ---- where a line ends
 
@@ -50,13 +49,13 @@ all_digits [] = true
 all_digits (c ∷ cs) = both (is_digit c) (all_digits cs)
 
 -- a line's characters: "`:`, then two hex digits of either case for each byte"; "16: .. a character out of form; an odd number of digits; fewer than five bytes"
-unfoldable pub form_of : List ℕ → Form
+unfoldable pub form_of : List ℕ → Result ℕ Fault
 form_of line =
-    unless (slice_index line 0 == (letter ":")) (form.Refused NoColon)
-    (unless (all_digits (drop 1 line)) (form.Refused NoDigit)
-    (unless ((length line - 1) % 2 == 0) (form.Refused OddDigits)
-    (pick (nat_lt ((length line - 1) / 2) 5) (form.Refused FewBytes)
-    (form.Bytes ((length line - 1) / 2)))))
+    unless (slice_index line 0 == (letter ":")) (Err NoColon)
+    (unless (all_digits (drop 1 line)) (Err NoDigit)
+    (unless ((length line - 1) % 2 == 0) (Err OddDigits)
+    (pick (nat_lt ((length line - 1) / 2) 5) (Err FewBytes)
+    (Ok ((length line - 1) / 2)))))
 
 -- the bytes of a record: count, address, type, data, check byte
 abbrev pub count_in : List ℕ → ℕ
@@ -81,15 +80,15 @@ is_above count address = pick (count == 0) false (nat_lt last_address (address +
 
 -- a record: "a count that is not that of the data bytes"; an end record out of form; "17: the sum of all its bytes, as a byte, is not 0"; "18: a type other than 00
 -- and 01"; 19
-unfoldable pub judged : List ℕ → Judged
+unfoldable pub judged : List ℕ → Result Judged Fault
 judged bytes =
     let count = count_in bytes in
     let address = address_in bytes in
     let type = type_in bytes in
-    unless (length bytes == count + 5) (judged-as.Refused WrongCount)
-    (pick (is_bad_end type count address) (judged-as.Refused EndNotZero)
-    (unless (sum_of bytes == 0) (judged-as.Refused CheckByte)
-    (pick (type == 1) judged-as.End
-    (unless (type == 0) (judged-as.Refused UnknownType)
-    (pick (is_above count address) (judged-as.Refused AboveImage)
-    (judged-as.Data address count))))))
+    unless (length bytes == count + 5) (Err WrongCount)
+    (pick (is_bad_end type count address) (Err EndNotZero)
+    (unless (sum_of bytes == 0) (Err CheckByte)
+    (pick (type == 1) (Ok judged-as.End)
+    (unless (type == 0) (Err UnknownType)
+    (pick (is_above count address) (Err AboveImage)
+    (Ok (judged-as.Data address count)))))))

@@ -1,6 +1,6 @@
 -- Laws: records put into a text as lines, one after the other.
 use Prim.Native.Char.{code as letter}
-use Rattle.std.specs.Prelude.{◌≡◌, ℕ, zero, suc, ◌+◌, ◌-◌, ◌*◌, ◌/◌, ◌%◌, ◌<◌, ◌≤◌, List, [], ◌∷◌, ◌++◌, length, take, drop, ◌≢◌, slice_set, refl}
+use Rattle.std.specs.Prelude.{◌≡◌, ℕ, zero, suc, ◌+◌, ◌-◌, ◌*◌, ◌/◌, ◌%◌, ◌<◌, ◌≤◌, List, [], ◌∷◌, ◌++◌, length, take, drop, ◌≢◌, slice_set, refl, Ok, Err}
 use native.Mathlib.Omega.{arith}
 use Rattle.std.proofs.Common.{zero-add, add-one, ◌∙◌, length-append, length-drop, length-take-le, drop-drop}
 use Rattle.std.proofs.Math.Path.{ap, sym}
@@ -15,7 +15,6 @@ use Rattle.intelhex.specs.Bytes.{check_of}
 use Rattle.intelhex.specs.Written.{line_feed, line_of, data_bytes, data_record, end_record, data_records, data_lines, text_of, wrote, write_text}
 use Rattle.base.specs.Stores.{sets_append, sets_all}
 use Rattle.intelhex.specs.declared.Fault.TheVariants.{WrongSize}
-use Rattle.intelhex.specs.declared.Writing.TheVariants as writing
 
 -- ---- a line
 
@@ -59,18 +58,17 @@ record_length address given g = omega arith
 -- ---- the loop
 
 -- where it stands: how many records are left
-pub record Putting (image text₀ bytes text : List ℕ) (from at : ℕ) : Type 0 where
+pub record Putting (image text₀ text : List ℕ) (from at : ℕ) : Type 0 where
   pub records : ℕ
   pub bytes_left : from + data_bytes * records ≡ image_size
   pub places_left : at + 44 * records ≡ 44 * data_records
   pub left : sets text at (data_lines records from (drop from image)) ≡ sets text₀ 0 (data_lines data_records 0 image)
   pub long : length text ≡ length text₀
-  pub room : length bytes ≡ 20
 
-pub putting_start : (image text bytes : List ℕ) → length bytes ≡ 20 → Putting image text bytes text 0 0
-putting_start image text bytes r = record { records = data_records; bytes_left = refl; places_left = refl; left = refl; long = refl; room = r }
+pub putting_start : (image text : List ℕ) → Putting image text text 0 0
+putting_start image text = record { records = data_records; bytes_left = refl; places_left = refl; left = refl; long = refl }
 
-module _ (image text₀ bytes text : List ℕ) (from at : ℕ) (u : Putting image text₀ bytes text from at) (s : length image ≡ image_size) where
+module _ (image text₀ text : List ℕ) (from at : ℕ) (u : Putting image text₀ text from at) (s : length image ≡ image_size) where
   pub within : from < image_size → from + data_bytes ≤ length image
   within h = let b = u.bytes_left in omega arith
 
@@ -85,7 +83,7 @@ module _ (image text₀ bytes text : List ℕ) (from at : ℕ) (u : Putting imag
   at_few = let p = u.places_left in omega arith
 
   pub putting_next : (bytes' text' : List ℕ) → from < image_size → bytes' ≡ data_record from (take (from + data_bytes - from) (drop from image)) → text' ≡ sets text at (line_of bytes')
-      → length text' ≡ length text → Putting image text₀ bytes' text' (from + data_bytes) (at + 44)
+      → length text' ≡ length text → Putting image text₀ text' (from + data_bytes) (at + 44)
   unfolding data_lines
   putting_next bytes' text' h b t l =
       let x = u.bytes_left in
@@ -109,7 +107,6 @@ module _ (image text₀ bytes text : List ℕ) (from at : ℕ) (u : Putting imag
             ∙ ap (λ (c : ℕ). sets text at (data_lines c from (drop from image))) (sym k)
             ∙ u.left;
         long = l ∙ u.long;
-        room = z;
       }
 
   pub putting_end : image_size ≤ from → text ≡ sets text₀ 0 (data_lines data_records 0 image)
@@ -150,16 +147,16 @@ text_put image s s₁ s₂ last e l z a b =
 
 -- ---- what writing answers
 module _ (image text : List ℕ) where
-  pub image_unsized : (length image ≢ image_size) → wrote (writing.Refused WrongSize) text ≡ write_text image text
+  pub image_unsized : (length image ≢ image_size) → wrote (Err WrongSize) text ≡ write_text image text
   unfolding write_text both
   image_unsized n = sym (pick_false _ _ _ (pick_false _ _ _ (ne_eqb (length image) image_size n)))
 
   module _ (e : length image ≡ image_size) where
-    pub text_unsized : (length text ≢ text_size) → wrote (writing.Refused WrongSize) text ≡ write_text image text
+    pub text_unsized : (length text ≢ text_size) → wrote (Err WrongSize) text ≡ write_text image text
     unfolding write_text both
     text_unsized n = sym (pick_false _ _ _ (pick_true _ _ _ (eq-eqb (length image) image_size e) ∙ ne_eqb (length text) text_size n))
 
-    pub text_written : (text' : List ℕ) → length text ≡ text_size → text' ≡ text_of image → wrote writing.Written text' ≡ write_text image text
+    pub text_written : (text' : List ℕ) → length text ≡ text_size → text' ≡ text_of image → wrote (Ok tt) text' ≡ write_text image text
     unfolding write_text both
     text_written text' l h =
-        ap (wrote writing.Written) h ∙ sym (pick_true _ _ _ (pick_true _ _ _ (eq-eqb (length image) image_size e) ∙ eq-eqb (length text) text_size l))
+        ap (wrote (Ok tt)) h ∙ sym (pick_true _ _ _ (pick_true _ _ _ (eq-eqb (length image) image_size e) ∙ eq-eqb (length text) text_size l))

@@ -1,6 +1,6 @@
 -- Laws: what a line that stands in a text, its form and its record keep to.
 use Prim.Native.Char.{code as letter}
-use Rattle.std.specs.Prelude.{◌≡◌, ℕ, ◌+◌, ◌-◌, ◌*◌, ◌/◌, ◌%◌, ◌<◌, ◌≤◌, Bool, true, false, List, length, take, drop, ◌==◌, ◌≢◌, nat_lt, slice_index, slice_index_or, refl}
+use Rattle.std.specs.Prelude.{◌≡◌, ℕ, ◌+◌, ◌-◌, ◌*◌, ◌/◌, ◌%◌, ◌<◌, ◌≤◌, Bool, true, false, List, length, take, drop, ◌==◌, ◌≢◌, nat_lt, slice_index, slice_index_or, refl, Result, Ok, Err}
 use Rattle.std.proofs.Common.{arith, ◌∙◌, ap, take-append-drop, length-take, take_all, length-take-le, eqb-true, eq-eqb, ne_eqb, ltb-true, ltb-false, lt-ltb, le-ltb}
 use Rattle.std.proofs.Math.Path.{sym}
 use Rattle.std.proofs.Math.Seq.{take-append_seam}
@@ -12,10 +12,9 @@ use Rattle.intelhex.specs.Ends.{colon_some}
 use Rattle.intelhex.specs.declared.Fault.TheVariants.{NoDigit, OddDigits, FewBytes}
 use Rattle.intelhex.specs.declared.lines.Standing.{Standing}
 use Rattle.intelhex.specs.declared.lines.Standing.TheVariants.{Nothing, Unended, Endless, Line}
-use Rattle.intelhex.specs.declared.record.Form.{Form}
-use Rattle.intelhex.specs.declared.record.Form.TheVariants as form
 use Rattle.intelhex.specs.declared.record.Judged.{Judged}
 use Rattle.intelhex.specs.declared.record.Judged.TheVariants as judged-as
+use Rattle.intelhex.specs.declared.Fault.{Fault}
 
 -- ---- lines
 
@@ -88,9 +87,9 @@ line_lies text =
 -- ---- forms
 
 -- there are digits for just as many bytes
-abbrev pub FormFits : List ℕ → Form → Type 0
-FormFits line (form.Bytes n) = (length line ≡ 2 * n + 1) × (5 ≤ n)
-FormFits line (form.Refused f) = Unit {0}
+abbrev pub FormFits : List ℕ → Result ℕ Fault → Type 0
+FormFits line (Ok n) = (length line ≡ 2 * n + 1) × (5 ≤ n)
+FormFits line (Err f) = Unit {0}
 
 pub form_fits : (line : List ℕ) → FormFits line (form_of line)
 unfolding form_of
@@ -110,31 +109,31 @@ form_fits line =
 
 -- a line's form, by what was found of it
 module _ (line : List ℕ) (c : slice_index_or line 0 0 ≡ letter ":") (good : Bool) (g : good ≡ all_digits (drop 1 line)) where
-  pub form_no_digit : good ≡ false → form.Refused NoDigit ≡ form_of line
+  pub form_no_digit : good ≡ false → Err NoDigit ≡ form_of line
   unfolding form_of
   form_no_digit n = sym (pick_true _ _ _ (eq-eqb (slice_index line 0) (letter ":") c) ∙ pick_false _ _ _ (sym g ∙ n))
 
   module _ (t : good ≡ true) where
-    of_digits : (f : Form) → f ≡ pick ((length line - 1) % 2 == 0) (pick (nat_lt ((length line - 1) / 2) 5) (form.Refused FewBytes) (form.Bytes ((length line - 1) / 2))) (form.Refused OddDigits) → f ≡ form_of line
+    of_digits : (f : Result ℕ Fault) → f ≡ pick ((length line - 1) % 2 == 0) (pick (nat_lt ((length line - 1) / 2) 5) (Err FewBytes) (Ok ((length line - 1) / 2))) (Err OddDigits) → f ≡ form_of line
     unfolding form_of
     of_digits f e = e ∙ sym (pick_true _ _ _ (eq-eqb (slice_index line 0) (letter ":") c) ∙ pick_true _ _ _ (sym g ∙ t))
 
-    pub form_odd : ((length line - 1) % 2 ≢ 0) → form.Refused OddDigits ≡ form_of line
+    pub form_odd : ((length line - 1) % 2 ≢ 0) → Err OddDigits ≡ form_of line
     form_odd n = of_digits _ (sym (pick_false _ _ _ (ne_eqb ((length line - 1) % 2) 0 n)))
 
-    pub form_few : (length line - 1) % 2 ≡ 0 → (length line - 1) / 2 < 5 → form.Refused FewBytes ≡ form_of line
+    pub form_few : (length line - 1) % 2 ≡ 0 → (length line - 1) / 2 < 5 → Err FewBytes ≡ form_of line
     form_few e h = of_digits _ (sym (pick_true _ _ _ (eq-eqb ((length line - 1) % 2) 0 e) ∙ pick_true _ _ _ (lt-ltb ((length line - 1) / 2) 5 h)))
 
-    pub form_bytes : (length line - 1) % 2 ≡ 0 → 5 ≤ (length line - 1) / 2 → form.Bytes ((length line - 1) / 2) ≡ form_of line
+    pub form_bytes : (length line - 1) % 2 ≡ 0 → 5 ≤ (length line - 1) / 2 → Ok ((length line - 1) / 2) ≡ form_of line
     form_bytes e h = of_digits _ (sym (pick_true _ _ _ (eq-eqb ((length line - 1) % 2) 0 e) ∙ pick_false _ _ _ (le-ltb ((length line - 1) / 2) 5 h)))
 
 -- ---- records
 
 -- a data record that can be taken has its own address and count, and so many data bytes
-abbrev pub RecordFits : List ℕ → Judged → Type 0
-RecordFits bytes (judged-as.Data address count) = (address ≡ address_in bytes) × ((count ≡ count_in bytes) × ((length bytes ≡ count + 5) × (is_above count address ≡ false)))
-RecordFits bytes judged-as.End = Unit {0}
-RecordFits bytes (judged-as.Refused f) = Unit {0}
+abbrev pub RecordFits : List ℕ → Result Judged Fault → Type 0
+RecordFits bytes (Ok (judged-as.Data address count)) = (address ≡ address_in bytes) × ((count ≡ count_in bytes) × ((length bytes ≡ count + 5) × (is_above count address ≡ false)))
+RecordFits bytes (Ok judged-as.End) = Unit {0}
+RecordFits bytes (Err f) = Unit {0}
 
 pub record_fits : (bytes : List ℕ) → RecordFits bytes (judged bytes)
 unfolding judged
@@ -153,10 +152,10 @@ record_fits bytes =
 -- a data record, by what was found of it
 pub data_judged : (bytes : List ℕ) (count address kind sum : ℕ) (bad above : Bool) → count ≡ count_in bytes → address ≡ address_in bytes → kind ≡ type_in bytes → length bytes ≡ count + 5
     → bad ≡ is_bad_end kind count address → bad ≡ false → sum ≡ sum_of bytes → sum ≡ 0 → (kind ≢ 1) → kind ≡ 0 → above ≡ is_above count address → above ≡ false
-    → judged-as.Data address count ≡ judged bytes
+    → Ok (judged-as.Data address count) ≡ judged bytes
 unfolding judged
 data_judged bytes count address kind sum bad above c a k l b b' s s' one zero v v' =
-    (λ j. judged-as.Data (a j) (c j))
+    (λ j. Ok (judged-as.Data (a j) (c j)))
     ∙ sym (
     pick_true _ _ _ (eq-eqb (length bytes) (count_in bytes + 5) (l ∙ ap (λ (n : ℕ). n + 5) c))
     ∙ pick_false _ _ _ ((λ j. is_bad_end (sym k j) (sym c j) (sym a j)) ∙ sym b ∙ b')

@@ -1,15 +1,14 @@
 -- Document 02, M-110: "Write an image as data records of 16 bytes in rising address order and an end record." The text of an image. What `:` and the
 -- order of the bytes are is the request's "A line is ..".
 use Prim.Native.Char.{code as letter}
-use Rattle.std.specs.Prelude.{ℕ, zero, suc, ◌+◌, ◌/◌, ◌%◌, List, [], ◌∷◌, ◌++◌, length, take, drop, ◌==◌}
+use Rattle.std.specs.Prelude.{ℕ, zero, suc, ◌+◌, ◌/◌, ◌%◌, List, [], ◌∷◌, ◌++◌, length, take, drop, ◌==◌, Result, Ok, Err}
 use Rattle.base.specs.Bits.{both}
 use Rattle.base.specs.Pick.{pick}
 use Rattle.intelhex.specs.Faults.{image_size, text_size}
 use Rattle.numerals.specs.Hex.{digits_of}
 use Rattle.intelhex.specs.Bytes.{check_of}
 use Rattle.intelhex.specs.declared.Fault.TheVariants.{WrongSize}
-use Rattle.intelhex.specs.declared.Writing.{Writing}
-use Rattle.intelhex.specs.declared.Writing.TheVariants as writing
+use Rattle.intelhex.specs.declared.Fault.{Fault}
 
 -- "end lines with LF"
 abbrev pub line_feed : ℕ
@@ -45,14 +44,14 @@ text_of image = data_lines data_records 0 image ++ line_of end_record
 
 -- what writing answers, and the text that it leaves
 pub record Wrote : Type 0 where
-  pub answer : Writing
+  pub answer : Result (Unit {0}) Fault
   pub text : List ℕ
 
-abbrev pub wrote : Writing → List ℕ → Wrote
+abbrev pub wrote : Result (Unit {0}) Fault → List ℕ → Wrote
 wrote a text = record { answer = a; text = text }
 
 -- "Refusals: 5 first, an image not of 2,624 bytes or, writing, a text buffer not of 7,228"
 unfoldable pub write_text : List ℕ → List ℕ → Wrote
 write_text image text =
-    pick (both (length image == image_size) (length text == text_size)) (wrote writing.Written (text_of image))
-    (wrote (writing.Refused WrongSize) text)
+    pick (both (length image == image_size) (length text == text_size)) (wrote (Ok tt) (text_of image))
+    (wrote (Err WrongSize) text)

@@ -25,7 +25,7 @@ pub const TEXT_SIZE: usize = 7228;
 const LINE_FEED: u8 = 0x0A;
 
 // Why an image or a text is refused.
-#[derive(Clone, Copy)]
+#[derive(Clone, Copy, Debug, PartialEq, Eq)]
 pub enum Fault {
     // refusal 5: an image or a text buffer of another size
     WrongSize,
@@ -57,35 +57,26 @@ pub enum Fault {
     AfterEnd,
 }
 
-// What writing answers.
-#[derive(Clone, Copy)]
-pub enum Writing {
-    Written,
-    Refused(Fault),
+// Why a whole text is refused, and how many lines stand before the one at fault.
+#[derive(Clone, Copy, Debug, PartialEq, Eq)]
+pub struct Refused {
+    pub fault: Fault,
+    pub lines: usize,
 }
 
-// What reading answers: that all is read, or a refusal and how many lines stand before the one at fault.
-#[derive(Clone, Copy)]
-pub enum Reading {
-    Read,
-    Refused(Fault, usize),
-}
-
-// How reading what is there of a text ends.
-#[derive(Clone, Copy)]
+// How reading what is there of a text ends well.
+#[derive(Clone, Copy, Debug, PartialEq, Eq)]
 pub enum Ending {
     // at the end of the text, after its end record
     End,
     // where more of the text may come
     Part,
-    // before a line that is refused
-    Refused(Fault),
 }
 
-// How reading what is there ended, at what offset and after how many lines, and whether the end record was among what was read so far.
-#[derive(Clone, Copy)]
+// How reading what is there ended, or why before the next line, at what offset and after how many lines, and whether the end record was among what was read so far.
+#[derive(Clone, Copy, Debug, PartialEq, Eq)]
 pub struct Taken {
-    pub ending: Ending,
+    pub ending: Result<Ending, Fault>,
     pub at: usize,
     pub lines: usize,
     pub over: bool,
@@ -97,18 +88,17 @@ pub fn number_of(f: Fault) -> u8
 {
     match f {
         Fault::WrongSize => 5,
-        Fault::TooLong => 16,
-        Fault::NoLineEnd => 16,
-        Fault::NoColon => 16,
-        Fault::NoDigit => 16,
-        Fault::OddDigits => 16,
-        Fault::FewBytes => 16,
-        Fault::WrongCount => 16,
-        Fault::EndNotZero => 16,
+        Fault::TooLong
+        | Fault::NoLineEnd
+        | Fault::NoColon
+        | Fault::NoDigit
+        | Fault::OddDigits
+        | Fault::FewBytes
+        | Fault::WrongCount
+        | Fault::EndNotZero => 16,
         Fault::CheckByte => 17,
         Fault::UnknownType => 18,
         Fault::AboveImage => 19,
-        Fault::NoEndRecord => 20,
-        Fault::AfterEnd => 20,
+        Fault::NoEndRecord | Fault::AfterEnd => 20,
     }
 }

@@ -9,14 +9,6 @@ use crate::{Fault, digits};
 // The last address of an image.
 const LAST_ADDRESS: u32 = 0x0A3F;
 
-// What the characters of a line are.
-#[derive(Clone, Copy)]
-pub enum Form {
-    // digits of so many bytes after a colon
-    Bytes(usize),
-    Refused(Fault),
-}
-
 // What a record is.
 #[derive(Clone, Copy)]
 pub enum Judged {
@@ -24,7 +16,6 @@ pub enum Judged {
     Data { address: u16, count: u8 },
     // the end record
     End,
-    Refused(Fault),
 }
 
 // All characters of a line from the second on are digits.
@@ -34,34 +25,33 @@ fn are_digits(line: &[u8]) -> bool
     let mut i: usize = 1;
     while i < line.len() {
         let c = line[i];
-        if digits::is_digit(c) {
-            i += 1;
-        } else {
+        if !digits::is_digit(c) {
             return false;
         }
+        i += 1;
     }
     true
 }
 
-// What the characters of a line are.
-pub fn form_of(line: &[u8]) -> Form
+// Of how many bytes a line has the digits, after its colon.
+pub fn form_of(line: &[u8]) -> Result<usize, Fault>
     ensures { result ≡ form_of line.now }
 {
     if base::byte_at(line, 0) != b':' {
-        return Form::Refused(Fault::NoColon);
+        return Err(Fault::NoColon);
     }
     let good = are_digits(line);
     let digits = line.len() - 1;
     if !good {
-        return Form::Refused(Fault::NoDigit);
+        return Err(Fault::NoDigit);
     }
     if digits % 2 != 0 {
-        return Form::Refused(Fault::OddDigits);
+        return Err(Fault::OddDigits);
     }
     if digits / 2 < 5 {
-        return Form::Refused(Fault::FewBytes);
+        return Err(Fault::FewBytes);
     }
-    Form::Bytes(digits / 2)
+    Ok(digits / 2)
 }
 
 // The bytes of a line's digits, put at the start of a buffer.
@@ -101,32 +91,29 @@ fn is_above(count: u8, address: u16) -> bool
 }
 
 // What a record is.
-pub fn judge(bytes: &[u8]) -> Judged
+pub fn judge(bytes: &[u8]) -> Result<Judged, Fault>
     ensures { result ≡ judged bytes.now }
 {
     let count = base::byte_at(bytes, 0);
     let address = address_in(bytes);
     let record_type = base::byte_at(bytes, 3);
     if bytes.len() != (count as usize) + 5 {
-        return Judged::Refused(Fault::WrongCount);
+        return Err(Fault::WrongCount);
     }
     if is_bad_end(record_type, count, address) {
-        return Judged::Refused(Fault::EndNotZero);
+        return Err(Fault::EndNotZero);
     }
     if digits::sum_of(bytes) != 0 {
-        return Judged::Refused(Fault::CheckByte);
+        return Err(Fault::CheckByte);
     }
     if record_type == 1 {
-        return Judged::End;
+        return Ok(Judged::End);
     }
     if record_type != 0 {
-        return Judged::Refused(Fault::UnknownType);
+        return Err(Fault::UnknownType);
     }
     if is_above(count, address) {
-        return Judged::Refused(Fault::AboveImage);
+        return Err(Fault::AboveImage);
     }
-    Judged::Data {
-        address: address,
-        count: count,
-    }
+    Ok(Judged::Data { address, count })
 }

@@ -4,7 +4,7 @@ ghost use Rattle.std.proofs.lemmas.List.Edits.{sets};
 ghost use Rattle.intelhex.specs.Faults.{image_size, text_size};
 ghost use Rattle.intelhex.specs.Written.{line_of, data_record, end_record, data_records, data_lines, text_of, wrote, write_text};
 
-use crate::{Fault, IMAGE_SIZE, LINE_FEED, TEXT_SIZE, Writing, digits, storing};
+use crate::{Fault, IMAGE_SIZE, LINE_FEED, TEXT_SIZE, digits, storing};
 use numerals::hex;
 
 // The data bytes of a record.
@@ -18,13 +18,6 @@ const END_AT: usize = 164 * LINE_SIZE;
 
 // The bytes of a data record without its check byte.
 const RECORD_SIZE: usize = 20;
-
-// Room for them.
-fn record_room() -> [u8; RECORD_SIZE]
-    ensures { 20 ≡ length result }
-{
-    [0; RECORD_SIZE]
-}
 
 // The end record.
 fn end_record() -> [u8; 4]
@@ -47,8 +40,8 @@ fn put_line(bytes: &[u8], text: &mut [u8], at: usize)
 }
 
 // A data record.
-fn make_record(address: u16, given: &[u8], bytes: &mut [u8])
-    requires { (length given.now ≡ 16) × (length bytes.old ≡ 20) }
+fn make_record(address: u16, given: &[u8], bytes: &mut [u8; RECORD_SIZE])
+    requires { length given.now ≡ 16 }
     ensures { bytes.new ≡ data_record address given.now }
 {
     base::put_at(bytes, 0, DATA_BYTES as u8);
@@ -63,7 +56,7 @@ fn put_data_lines(image: &[u8], text: &mut [u8])
     requires { length image.now ≡ image_size }
     ensures { text.new ≡ sets text.old 0 (data_lines data_records 0 image.now) }
 {
-    let mut bytes = record_room();
+    let mut bytes = [0u8; RECORD_SIZE];
     let mut from: usize = 0;
     let mut at: usize = 0;
     while from < IMAGE_SIZE {
@@ -86,15 +79,15 @@ fn put_text(image: &[u8], text: &mut [u8])
 }
 
 // Writes an image as text. 5 for an image or a text of another size, with nothing changed.
-pub fn write_text(image: &[u8], text: &mut [u8]) -> Writing
+pub fn write_text(image: &[u8], text: &mut [u8]) -> Result<(), Fault>
     ensures { wrote result text.new ≡ write_text image.now text.old }
 {
     if image.len() != IMAGE_SIZE {
-        return Writing::Refused(Fault::WrongSize);
+        return Err(Fault::WrongSize);
     }
     if text.len() != TEXT_SIZE {
-        return Writing::Refused(Fault::WrongSize);
+        return Err(Fault::WrongSize);
     }
     put_text(image, text);
-    Writing::Written
+    Ok(())
 }

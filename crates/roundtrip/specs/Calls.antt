@@ -1,5 +1,5 @@
 -- Calls of the functions of `intelhex`: whoever makes one is told what its contract says.
-use Rattle.std.specs.Prelude.{ℕ, Bool, List, ◌≡◌, refl}
+use Rattle.std.specs.Prelude.{ℕ, Bool, List, ◌≡◌, refl, Result}
 use Rattle.std.proofs.Common.{◌∙◌}
 use contract.Lifetimes.{Lfts}
 use Rattle.std.specs.Borrow.{Bor, MutBor}
@@ -7,14 +7,14 @@ use denote.Triple.Clauses.{at_exit}
 use Rattle.base.specs.Lent.{lent_as}
 use Rattle.intelhex.specs.Written.{wrote, write_text}
 use Rattle.intelhex.specs.Reading.{went, read_lines, read, read_text}
-use Rattle.intelhex.specs.declared.Reading.{Reading}
 use Rattle.intelhex.specs.declared.Taken.{Taken}
-use Rattle.intelhex.specs.declared.Writing.{Writing}
 use Rattle.intelhex.specs.contracts as intelhex
 use Rattle.intelhex.proofs as intelhex_proofs
+use Rattle.intelhex.specs.declared.Fault.{Fault}
+use Rattle.intelhex.specs.declared.Refused.{Refused}
 
 -- a call of `intelhex::write_text`: image and text lie anywhere, and the contract permits the answer and what the text holds then
-pub record WriteText (image text : List ℕ) (answer : Writing) (after : List ℕ) : Type 2 where
+pub record WriteText (image text : List ℕ) (answer : Result (Unit {0}) Fault) (after : List ℕ) : Type 2 where
   pub κs : Lfts 2
   pub bytes : Bor (List ℕ)
   pub characters : MutBor (List ℕ)
@@ -22,11 +22,11 @@ pub record WriteText (image text : List ℕ) (answer : Writing) (after : List �
   pub from_characters : characters.now ≡ text
   pub permits : intelhex_proofs.write_text.Reads.Learnt κs (bytes, (characters, tt)) answer (at_exit intelhex.write_text.ended κs (bytes, (characters, tt)) (tt, (after, tt)))
 
-pub wrote_by : (image text : List ℕ) (a : Writing) (after : List ℕ) → WriteText image text a after → wrote a after ≡ write_text image text
+pub wrote_by : (image text : List ℕ) (a : Result (Unit {0}) Fault) (after : List ℕ) → WriteText image text a after → wrote a after ≡ write_text image text
 wrote_by image text a after c = c.permits ∙ λ j. write_text (c.from_bytes j) (c.from_characters j)
 
 -- a call of `intelhex::read_text`
-pub record ReadText (text image : List ℕ) (answer : Reading) (after : List ℕ) : Type 2 where
+pub record ReadText (text image : List ℕ) (answer : Result (Unit {0}) Refused) (after : List ℕ) : Type 2 where
   pub κs : Lfts 2
   pub characters : Bor (List ℕ)
   pub bytes : MutBor (List ℕ)
@@ -34,7 +34,7 @@ pub record ReadText (text image : List ℕ) (answer : Reading) (after : List ℕ
   pub from_bytes : bytes.now ≡ image
   pub permits : intelhex_proofs.read_text.Reads.Learnt κs (characters, (bytes, tt)) answer (at_exit intelhex.read_text.ended κs (characters, (bytes, tt)) (tt, (after, tt)))
 
-pub read-by : (text image : List ℕ) (a : Reading) (after : List ℕ) → ReadText text image a after → read a after ≡ read_text text image
+pub read-by : (text image : List ℕ) (a : Result (Unit {0}) Refused) (after : List ℕ) → ReadText text image a after → read a after ≡ read_text text image
 read-by text image a after c = c.permits ∙ λ j. read_text (c.from_characters j) (c.from_bytes j)
 
 -- a call of `intelhex::read_lines`

@@ -1,6 +1,6 @@
 -- Laws: a line in form is read as the record of its bytes.
 use Prim.Native.Char.{code as letter}
-use Rattle.std.specs.Prelude.{ℕ, zero, suc, ◌+◌, ◌-◌, ◌*◌, ◌/◌, ◌%◌, ◌<◌, ◌≤◌, Bool, true, false, List, [], ◌∷◌, ◌++◌, ◌≡◌, eqb, get_or, take}
+use Rattle.std.specs.Prelude.{ℕ, zero, suc, ◌+◌, ◌-◌, ◌*◌, ◌/◌, ◌%◌, ◌<◌, ◌≤◌, Bool, true, false, List, [], ◌∷◌, ◌++◌, ◌≡◌, eqb, get_or, take, Ok}
 use native.Mathlib.Omega.{arith}
 use Rattle.std.proofs.Common.{true≢false, append_assoc, ◌∙◌, sym, length-append, take_at, eq-eqb, ne_eqb, lt-ltb, le-ltb}
 use Rattle.std.proofs.Math.Path.{refl, ap}
@@ -15,7 +15,6 @@ use Rattle.intelhex.specs.Written.{line_feed}
 use Rattle.intelhex.specs.Lines.{before, carriage_return, without_return, standing, all_digits, form_of, count_in, judged}
 use Rattle.intelhex.specs.Reading.{next_by, next_in, next_of, next}
 use Rattle.intelhex.specs.declared.lines.Standing.TheVariants.{Line}
-use Rattle.intelhex.specs.declared.record.Form.TheVariants as form
 use Rattle.roundtrip.specs.Digits.{digit_is, digit_small}
 use Rattle.roundtrip.specs.Grammar.{Spells, nothing, a_byte, LineEnd, lf, cr_lf, IsLineOf}
 
@@ -153,13 +152,13 @@ module _ (digits bytes : List ℕ) (s : Spells digits bytes) where
       let e : length (letter ":" ∷ digits) ≡ length digits + 1 = omega arith in
       ap (λ (x : List ℕ). take (length digits + 1) (letter ":" ∷ x)) (append_assoc digits end rest) ∙ take_at (letter ":" ∷ digits) (end ++ rest) (length digits + 1) e
 
-  formed_form : 5 ≤ length bytes → form_of (letter ":" ∷ digits) ≡ form.Bytes (length bytes)
+  formed_form : 5 ≤ length bytes → form_of (letter ":" ∷ digits) ≡ Ok (length bytes)
   unfolding form_of
   formed_form h =
       let l = spells_length digits bytes s in
       let e : (suc (length digits) - 1) / 2 ≡ length bytes = omega arith in
       pick_true _ _ _ refl ∙ pick_true _ _ _ (spells_all digits bytes s) ∙ pick_true _ _ _ (eq-eqb ((suc (length digits) - 1) % 2) 0 (omega arith))
-      ∙ pick_false _ _ _ (le-ltb ((suc (length digits) - 1) / 2) 5 (omega arith)) ∙ ap (λ (n : ℕ). form.Bytes n) e
+      ∙ pick_false _ _ _ (le-ltb ((suc (length digits) - 1) / 2) 5 (omega arith)) ∙ ap (λ (n : ℕ). Ok n) e
 
 -- a text that begins with a line of five bytes or more, as many as their count says, goes on with the record of these bytes
 pub formed_next : (bytes line rest : List ℕ) (more : Bool) → IsLineOf bytes line → 5 ≤ length bytes → length bytes ≡ count_in bytes + 5

@@ -1,6 +1,6 @@
 -- Laws: what stands next in a text, and what the text then is.
 use Prim.Native.Char.{code as letter}
-use Rattle.std.specs.Prelude.{ℕ, suc, ◌+◌, ◌-◌, ◌*◌, ◌/◌, ◌%◌, ◌<◌, ◌≤◌, Bool, true, false, ◌⊎◌, ◌≡◌, refl, eqb, ltb, length, get_or, take}
+use Rattle.std.specs.Prelude.{ℕ, suc, ◌+◌, ◌-◌, ◌*◌, ◌/◌, ◌%◌, ◌<◌, ◌≤◌, Bool, true, false, ◌⊎◌, ◌≡◌, refl, eqb, ltb, length, get_or, take, Result, Ok, Err}
 use native.Mathlib.Omega.{arith}
 use Rattle.std.proofs.Common.{add-one, inl, inr, ◌∙◌, sym, take-append-drop, drop_of_length-le, length-drop, get_or-take, take-take, length-take-le, eqb-true, ltb-true}
 use mathlib.Core.List.{List, [], ◌∷◌, ◌++◌}
@@ -25,8 +25,6 @@ use Rattle.intelhex.specs.declared.Fault.{Fault}
 use Rattle.intelhex.specs.declared.Fault.TheVariants.{WrongSize, TooLong, NoLineEnd, NoColon, NoDigit, OddDigits, FewBytes, WrongCount, EndNotZero, CheckByte, UnknownType, AboveImage, NoEndRecord, AfterEnd}
 use Rattle.intelhex.specs.declared.lines.Standing.{Standing}
 use Rattle.intelhex.specs.declared.lines.Standing.TheVariants.{Nothing, Unended, Endless, Line}
-use Rattle.intelhex.specs.declared.record.Form.{Form}
-use Rattle.intelhex.specs.declared.record.Form.TheVariants as form
 use Rattle.intelhex.specs.declared.record.Judged.{Judged}
 use Rattle.intelhex.specs.declared.record.Judged.TheVariants as judged-as
 use Rattle.roundtrip.specs.Digits.{is-digit}
@@ -142,9 +140,9 @@ spelt (a ∷ b ∷ cs) k l e =
     let q = both_holds (is_digit b) (all_digits cs) p.1 in
     a_byte (is-digit a p.0) (is-digit b q.0) (spelt cs (k - 1) (omega arith) q.1)
 
-abbrev pub FormSays : List ℕ → Form → Type 0
-FormSays line (form.Bytes n) = (get_or line 0 0 ≡ letter ":") × (all_digits (drop 1 line) ≡ true)
-FormSays line (form.Refused f) = number_of_fault f ≡ 16
+abbrev pub FormSays : List ℕ → Result ℕ Fault → Type 0
+FormSays line (Ok n) = (get_or line 0 0 ≡ letter ":") × (all_digits (drop 1 line) ≡ true)
+FormSays line (Err f) = number_of_fault f ≡ 16
 
 pub form_says : (line : List ℕ) → FormSays line (form_of line)
 unfolding form_of
@@ -171,9 +169,9 @@ abbrev pub NextSays : List ℕ → Next → Type 0
 NextSays text (data-record size g) =
     (bytes : List ℕ) × (line : List ℕ) × IsLineOf bytes line × IsDataRecord bytes × (text ≡ line ++ drop size text) × (g ≡ given (address_in bytes) (data_in bytes))
 NextSays text (end-record size) = (bytes : List ℕ) × (line : List ℕ) × IsLineOf bytes line × IsEndRecord bytes × (text ≡ line ++ drop size text)
-NextSays text (stop ending.End) = ⊥
-NextSays text (stop ending.Part) = ⊥
-NextSays text (stop (ending.Refused f)) = Stops text (number_of_fault f)
+NextSays text (stop (Ok ending.End)) = ⊥
+NextSays text (stop (Ok ending.Part)) = ⊥
+NextSays text (stop (Err f)) = Stops text (number_of_fault f)
 
 -- by a record
 module _ (text bytes line : List ℕ) (size : ℕ) (f : IsLineOf bytes line) (five : 5 ≤ length bytes) (is : text ≡ line ++ drop size text) (some : No (text ≡ [])) where
@@ -196,16 +194,16 @@ module _ (text bytes line : List ℕ) (size : ℕ) (f : IsLineOf bytes line) (fi
   fault_says NoEndRecord r = absurd r
   fault_says AfterEnd r = absurd r
 
-  by_record : (j : Judged) → RecordSays bytes j → NextSays text (next_by size bytes j)
-  by_record (judged-as.Data address count) r =
+  by_record : (j : Result Judged Fault) → RecordSays bytes j → NextSays text (next_by size bytes j)
+  by_record (Ok (judged-as.Data address count)) r =
       (bytes, line, f, ((five, r.1.0), r.1.1), is, ap (λ (a : ℕ). given a (data_in bytes)) r.0)
-  by_record judged-as.End r = (bytes, line, f, ((five, r.0), r.1), is)
-  by_record (judged-as.Refused x) r = fault_says x r
+  by_record (Ok judged-as.End) r = (bytes, line, f, ((five, r.0), r.1), is)
+  by_record (Err x) r = fault_says x r
 
 -- by a line's characters
 module _ (text : List ℕ) (n m : ℕ) (r : Return text m n) (h : m < length text) (c : get_or text m 0 ≡ line_feed) where
-  by_form : (x : Form) → x ≡ form_of (take n text) → FormSays (take n text) x → FormFits (take n text) x → NextSays text (next_in (m + 1) (take n text) x)
-  by_form (form.Bytes k) e s l =
+  by_form : (x : Result ℕ Fault) → x ≡ form_of (take n text) → FormSays (take n text) x → FormFits (take n text) x → NextSays text (next_in (m + 1) (take n text) x)
+  by_form (Ok k) e s l =
       let d = drop 1 (take n text) in
       let E = drop n (take (m + 1) text) in
       let a : length (take n text) ≡ 2 * k + 1 = l.0 in
@@ -220,11 +218,11 @@ module _ (text : List ℕ) (n m : ℕ) (r : Return text m n) (h : m < length tex
         is = line_split text m n r h c ∙ ap (λ (x : List ℕ). x ++ E) (colon_first (take n text) s.0);
       } in
       by_record text (bytes_of d) (take (m + 1) text) (m + 1) formed (omega arith) (sym (take-append-drop (m + 1) text)) (λ z. let y = ap length z in omega arith) (judged (bytes_of d)) (record_says (bytes_of d))
-  by_form (form.Refused f) e s l = subst (Stops text) (sym s) (stops_16 (λ z. let y = ap length z in omega arith))
+  by_form (Err f) e s l = subst (Stops text) (sym s) (stops_16 (λ z. let y = ap length z in omega arith))
 
 by_standing : (text : List ℕ) (x : Standing) → LineStands text x → NextSays text (next_of false text x)
-by_standing text Nothing e = subst (λ (y : Ending). NextSays text (stop y)) (sym (pick_false _ _ _ refl)) (stops_20 e)
-by_standing text Unended e = subst (λ (y : Ending). NextSays text (stop y)) (sym (pick_false _ _ _ refl)) (stops_16 e)
+by_standing text Nothing e = subst (λ (y : Result Ending Fault). NextSays text (stop y)) (sym (pick_false _ _ _ refl)) (stops_20 e)
+by_standing text Unended e = subst (λ (y : Result Ending Fault). NextSays text (stop y)) (sym (pick_false _ _ _ refl)) (stops_16 e)
 by_standing text Endless e = stops_16 e
 by_standing text (Line n size) (m, e, r, h, c) =
     subst (λ (k : ℕ). NextSays text (next_in k (take n text) (form_of (take n text)))) (sym e)

@@ -1,5 +1,5 @@
 -- Laws: a text of which more comes. What was read of its beginning stays, and goes on with the rest.
-use Rattle.std.specs.Prelude.{ℕ, zero, suc, ◌+◌, ◌-◌, ◌<◌, ◌≤◌, Bool, List, [], ◌∷◌, ◌++◌, ◌⊎◌, ◌≡◌, ltb, get_or, take}
+use Rattle.std.specs.Prelude.{ℕ, zero, suc, ◌+◌, ◌-◌, ◌<◌, ◌≤◌, Bool, List, [], ◌∷◌, ◌++◌, ◌⊎◌, ◌≡◌, ltb, get_or, take, Ok, Err}
 use Rattle.std.proofs.Common.{arith, append-nil, ◌∙◌, take_all, length-take-le}
 use Rattle.std.proofs.Math.Bool.{true, false}
 use Rattle.std.proofs.Math.Logic.{inl, inr}
@@ -15,7 +15,7 @@ use Rattle.intelhex.specs.Written.{line_feed}
 use Rattle.intelhex.specs.Lines.{before, carriage_return, without_return, standing, form_of}
 use Rattle.intelhex.specs.Reading.{stop, next_in, next_of, next_after, next, ends_at}
 use Rattle.intelhex.specs.Sound.{LineLies, line_lies, most_within, stands_endless}
-use Rattle.intelhex.specs.declared.Ending.TheVariants.{End, Part, Refused}
+use Rattle.intelhex.specs.declared.Ending.TheVariants.{End, Part}
 use Rattle.intelhex.specs.declared.Fault.TheVariants.{AfterEnd}
 use Rattle.intelhex.specs.declared.lines.Standing.{Standing}
 use Rattle.intelhex.specs.declared.lines.Standing.TheVariants.{Nothing, Unended, Endless, Line}
@@ -89,7 +89,7 @@ module _ (s t : List ℕ) where
 -- ---- what stands next, where more stands behind it: more is awaited, or it stays
 module _ (more : Bool) (s t : List ℕ) where
   by_standing : (x : Standing) → standing s ≡ x → Stays s t x → LineLies s x
-      → (next_of true s x ≡ stop Part) ⊎ (next_of more (s ++ t) (standing (s ++ t)) ≡ next_of true s x)
+      → (next_of true s x ≡ stop (Ok Part)) ⊎ (next_of more (s ++ t) (standing (s ++ t)) ≡ next_of true s x)
   by_standing Nothing e g l = inl (ap stop (pick_true _ _ _ refl))
   by_standing Unended e g l = inl (ap stop (pick_true _ _ _ refl))
   by_standing Endless e g l = inr (ap (next_of more (s ++ t)) g)
@@ -98,32 +98,32 @@ module _ (more : Bool) (s t : List ℕ) where
       let b = l.1.0 in
       inr (ap (next_of more (s ++ t)) g ∙ ap (λ (x : List ℕ). next_in size x (form_of x)) (take-append-le n s t (omega arith)))
 
-  after_stays : (next_after true s ≡ stop Part) ⊎ (next_after more (s ++ t) ≡ next_after true s)
+  after_stays : (next_after true s ≡ stop (Ok Part)) ⊎ (next_after more (s ++ t) ≡ next_after true s)
   unfolding next_after
   after_stays = by (eqb (length s) 0) refl
     where
       by : (b : Bool) → eqb (length s) 0 ≡ b
-          → (pick (eqb (length s) 0) (stop (ends_at true End)) (stop (Refused AfterEnd)) ≡ stop Part)
-          ⊎ (pick (eqb (length (s ++ t)) 0) (stop (ends_at more End)) (stop (Refused AfterEnd)) ≡ pick (eqb (length s) 0) (stop (ends_at true End)) (stop (Refused AfterEnd)))
+          → (pick (eqb (length s) 0) (stop (ends_at true (Ok End))) (stop (Err AfterEnd)) ≡ stop (Ok Part))
+          ⊎ (pick (eqb (length (s ++ t)) 0) (stop (ends_at more (Ok End))) (stop (Err AfterEnd)) ≡ pick (eqb (length s) 0) (stop (ends_at true (Ok End))) (stop (Err AfterEnd)))
       by true e = inl (pick_true _ _ _ e ∙ ap stop (pick_true _ _ _ refl))
       by false e =
           let n : length s ≡ 0 → ⊥ = eqb-false _ _ e in
           let c = length-append s t in
           inr (pick_false _ _ _ (ne_eqb (length (s ++ t)) 0 (λ z. omega arith)) ∙ sym (pick_false _ _ _ e))
 
-  pub next_stays : (over : Bool) → (next over true s ≡ stop Part) ⊎ (next over more (s ++ t) ≡ next over true s)
+  pub next_stays : (over : Bool) → (next over true s ≡ stop (Ok Part)) ⊎ (next over more (s ++ t) ≡ next over true s)
   unfolding next
   next_stays true = by after_stays
     where
-      by : (next_after true s ≡ stop Part) ⊎ (next_after more (s ++ t) ≡ next_after true s)
-          → (pick true (next_after true s) (next_of true s (standing s)) ≡ stop Part)
+      by : (next_after true s ≡ stop (Ok Part)) ⊎ (next_after more (s ++ t) ≡ next_after true s)
+          → (pick true (next_after true s) (next_of true s (standing s)) ≡ stop (Ok Part))
           ⊎ (pick true (next_after more (s ++ t)) (next_of more (s ++ t) (standing (s ++ t))) ≡ pick true (next_after true s) (next_of true s (standing s)))
       by (inl e) = inl (pick_true _ _ _ refl ∙ e)
       by (inr e) = inr (pick_true _ _ _ refl ∙ e ∙ sym (pick_true _ _ _ refl))
   next_stays false = by (by_standing (standing s) refl (standing_stays s t) (line_lies s))
     where
-      by : (next_of true s (standing s) ≡ stop Part) ⊎ (next_of more (s ++ t) (standing (s ++ t)) ≡ next_of true s (standing s))
-          → (pick false (next_after true s) (next_of true s (standing s)) ≡ stop Part)
+      by : (next_of true s (standing s) ≡ stop (Ok Part)) ⊎ (next_of more (s ++ t) (standing (s ++ t)) ≡ next_of true s (standing s))
+          → (pick false (next_after true s) (next_of true s (standing s)) ≡ stop (Ok Part))
           ⊎ (pick false (next_after more (s ++ t)) (next_of more (s ++ t) (standing (s ++ t))) ≡ pick false (next_after true s) (next_of true s (standing s)))
       by (inl e) = inl (pick_false _ _ _ refl ∙ e)
       by (inr e) = inr (pick_false _ _ _ refl ∙ e ∙ sym (pick_false _ _ _ refl))

@@ -1,5 +1,5 @@
 -- Laws: a text is refused for just one cause, and read where it has none.
-use Rattle.std.specs.Prelude.{ℕ, zero, suc, ◌+◌, ◌<◌, ◌≤◌, true, false, List, [], ◌∷◌, ◌++◌, ◌≡◌, refl, length, drop}
+use Rattle.std.specs.Prelude.{ℕ, zero, suc, ◌+◌, ◌<◌, ◌≤◌, true, false, List, [], ◌∷◌, ◌++◌, ◌≡◌, refl, length, drop, Result, Ok, Err}
 use Rattle.std.proofs.Common.{zero-add, add-zero, add-one, arith, append_assoc, append-nil, ◌∙◌, ap, sym, subst, length-drop}
 use Rattle.std.proofs.Math.Seq.{drop-append_seam}
 use Rattle.base.specs.Exactly.{No}
@@ -10,7 +10,7 @@ use Rattle.intelhex.specs.Reading.{Given, given, Next, data-record, end-record, 
 use Rattle.intelhex.specs.Sound.{stands_nothing}
 use Rattle.intelhex.proofs.Underway.{NextLies, next_lies}
 use Rattle.intelhex.specs.declared.Ending.{Ending}
-use Rattle.intelhex.specs.declared.Ending.TheVariants.{End, Part, Refused}
+use Rattle.intelhex.specs.declared.Ending.TheVariants.{End, Part}
 use Rattle.intelhex.specs.declared.Fault.{Fault}
 use Rattle.intelhex.specs.declared.Fault.TheVariants.{CheckByte, UnknownType, AboveImage, NoEndRecord, AfterEnd}
 use Rattle.intelhex.specs.declared.record.Judged.{Judged}
@@ -30,12 +30,12 @@ module _ (text bytes more : List ℕ) (b : Begins text bytes more) where
   abbrev number_in : Next → ℕ
   number_in (data-record size g) = 0
   number_in (end-record size) = 0
-  number_in (stop End) = 0
-  number_in (stop Part) = 0
-  number_in (stop (Refused f)) = number_of_fault f
+  number_in (stop (Ok End)) = 0
+  number_in (stop (Ok Part)) = 0
+  number_in (stop (Err f)) = number_of_fault f
 
   not_16 : number_in (next false false text) ≡ 16 → ⊥
-  not_16 e = formed_chain bytes b.form.1 (λ (j : Judged). number_in (next_by (length b.line) bytes j) ≡ 16 → ⊥) (λ z. omega arith) (λ z. omega arith) (λ z. omega arith) (λ z. omega arith)
+  not_16 e = formed_chain bytes b.form.1 (λ (j : Result Judged Fault). number_in (next_by (length b.line) bytes j) ≡ 16 → ⊥) (λ z. omega arith) (λ z. omega arith) (λ z. omega arith) (λ z. omega arith)
       (λ z. omega arith) (ap number_in (sym begins_next) ∙ e)
 
   rest_is : drop (length b.line) text ≡ more
@@ -62,18 +62,18 @@ cause_line bytes line text n lines f d (above_image b g s t u) = above_image (be
 cause_line bytes line text n lines f d (no_end_record b) = no_end_record (behind_line bytes line text _ _ f d b)
 cause_line bytes line text n lines f d (after_end b g e m) = after_end (behind_line bytes line text _ _ f d b) g e m
 
-abbrev JudgedBy : List ℕ → List Given → Ending → ℕ → Type 0
-JudgedBy text gs End lines = Faultless text gs
-JudgedBy text gs Part lines = ⊥
-JudgedBy text gs (Refused f) lines = Cause text (number_of_fault f) lines
+abbrev JudgedBy : List ℕ → List Given → Result Ending Fault → ℕ → Type 0
+JudgedBy text gs (Ok End) lines = Faultless text gs
+JudgedBy text gs (Ok Part) lines = ⊥
+JudgedBy text gs (Err f) lines = Cause text (number_of_fault f) lines
 
 -- by what was found of it
 abbrev JudgedAs : List ℕ → Found → Type 0
 JudgedAs text f = JudgedBy text f.given f.ending f.lines
 
-judged_line : (bytes line text : List ℕ) (gs : List Given) (e : Ending) (lines : ℕ) → IsLineOf bytes line → IsDataRecord bytes → JudgedBy text gs e lines
+judged_line : (bytes line text : List ℕ) (gs : List Given) (e : Result Ending Fault) (lines : ℕ) → IsLineOf bytes line → IsDataRecord bytes → JudgedBy text gs e lines
     → JudgedBy (line ++ text) (given (address_in bytes) (data_in bytes) ∷ gs) e (1 + lines)
-judged_line bytes line text gs End lines f d x = record {
+judged_line bytes line text gs (Ok End) lines f d x = record {
   before = line ++ x.before;
   last = x.last;
   bytes = x.bytes;
@@ -82,8 +82,8 @@ judged_line bytes line text gs End lines f d x = record {
   ends = x.ends;
   is = ap (λ (y : List ℕ). line ++ y) x.is ∙ sym (append_assoc line x.before x.last);
 }
-judged_line bytes line text gs Part lines f d x = absurd x
-judged_line bytes line text gs (Refused y) lines f d x =
+judged_line bytes line text gs (Ok Part) lines f d x = absurd x
+judged_line bytes line text gs (Err y) lines f d x =
     let e : suc lines ≡ 1 + lines = omega arith in
     subst (Cause (line ++ text) (number_of_fault y)) e (cause_line bytes line text (number_of_fault y) lines f d x)
 
@@ -123,27 +123,27 @@ every_text (suc k) text h = by (next false false text) refl (next_says text) (ne
     by (end-record size) e (bytes, line, f, d, is) l later =
         of _ (lines_end false false text size e)
         (subst (λ (x : List ℕ). JudgedAs x (following [] size 1 (lines_of false true (drop size text)))) (sym is) (after_cause bytes line (drop size text) size f d))
-    by (stop End) e says l later = absurd says
-    by (stop Part) e says l later = absurd says
-    by (stop (Refused x)) e says l later =
-        of _ (lines_stop false false text (Refused x) e) (stop_cause text (number_of_fault x) (λ n bytes more b. not_16 text bytes more b (ap (number_in text bytes more b) e ∙ n)) says)
+    by (stop (Ok End)) e says l later = absurd says
+    by (stop (Ok Part)) e says l later = absurd says
+    by (stop (Err x)) e says l later =
+        of _ (lines_stop false false text (Err x) e) (stop_cause text (number_of_fault x) (λ n bytes more b. not_16 text bytes more b (ap (number_in text bytes more b) e ∙ n)) says)
 
 -- how reading a whole text ends
-abbrev pub Ends : List ℕ → Ending → Type 0
+abbrev pub Ends : List ℕ → Result Ending Fault → Type 0
 Ends text e = (lines_of false false text).ending ≡ e
 
-all_judged : (text : List ℕ) (e : Ending) → Ends text e → JudgedBy text (lines_of false false text).given e (lines_of false false text).lines
+all_judged : (text : List ℕ) (e : Result Ending Fault) → Ends text e → JudgedBy text (lines_of false false text).given e (lines_of false false text).lines
 all_judged text e h =
-    subst (λ (x : Ending). JudgedBy text (lines_of false false text).given x (lines_of false false text).lines) h (every_text (suc (length text)) text (omega arith))
+    subst (λ (x : Result Ending Fault). JudgedBy text (lines_of false false text).given x (lines_of false false text).lines) h (every_text (suc (length text)) text (omega arith))
 
-pub ended_faultless : (text : List ℕ) → Ends text End → Faultless text (lines_of false false text).given
-ended_faultless text h = all_judged text End h
+pub ended_faultless : (text : List ℕ) → Ends text (Ok End) → Faultless text (lines_of false false text).given
+ended_faultless text h = all_judged text (Ok End) h
 
-pub never_part : (text : List ℕ) → No (Ends text Part)
-never_part text h = all_judged text Part h
+pub never_part : (text : List ℕ) → No (Ends text (Ok Part))
+never_part text h = all_judged text (Ok Part) h
 
-pub refused_cause : (text : List ℕ) (f : Fault) → Ends text (Refused f) → Cause text (number_of_fault f) (lines_of false false text).lines
-refused_cause text f h = all_judged text (Refused f) h
+pub refused_cause : (text : List ℕ) (f : Fault) → Ends text (Err f) → Cause text (number_of_fault f) (lines_of false false text).lines
+refused_cause text f h = all_judged text (Err f) h
 
 -- ---- a text with a cause is refused for it
 
@@ -169,27 +169,27 @@ lines_taken before gs rest (a_line {bytes = bytes} {line = line} {text = text} {
     (ap (λ (x : Found). x.ending) e ∙ i.0, (ap (λ (x : Found). x.given) e ∙ ap (λ (x : List Given). g ∷ x) i.1.0, ap (λ (x : Found). x.lines) e ∙ n))
 
 -- it ends so, after so many lines
-abbrev pub EndsAfter : List ℕ → Ending → ℕ → Type 0
+abbrev pub EndsAfter : List ℕ → Result Ending Fault → ℕ → Type 0
 EndsAfter text e lines = Ends text e × ((lines_of false false text).lines ≡ lines)
 
-ends_behind : (text rest : List ℕ) (e : Ending) (n m : ℕ) → Behind text rest n → EndsAfter rest e m → EndsAfter text e (n + m)
+ends_behind : (text rest : List ℕ) (e : Result Ending Fault) (n m : ℕ) → Behind text rest n → EndsAfter rest e m → EndsAfter text e (n + m)
 ends_behind text rest e n m b h =
     let t = ap (lines_of false false) b.is in
     let l = lines_taken b.before b.gave rest b.good in
     (ap (λ (x : Found). x.ending) t ∙ l.0 ∙ h.0, ap (λ (x : Found). x.lines) t ∙ l.1.1 ∙ (λ j. b.many j + h.1 j))
 
-ends_here : (text rest : List ℕ) (e : Ending) (n : ℕ) → Behind text rest n → EndsAfter rest e 0 → EndsAfter text e n
+ends_here : (text rest : List ℕ) (e : Result Ending Fault) (n : ℕ) → Behind text rest n → EndsAfter rest e 0 → EndsAfter text e n
 ends_here text rest e n b h = let x = ends_behind text rest e n 0 b h in (x.0, x.1 ∙ add-zero n)
 
-ends-by : (text : List ℕ) (e : Ending) (f : Found) → lines_of false false text ≡ f → f.ending ≡ e → EndsAfter text e f.lines
+ends-by : (text : List ℕ) (e : Result Ending Fault) (f : Found) → lines_of false false text ≡ f → f.ending ≡ e → EndsAfter text e f.lines
 ends-by text e f q h = (ap (λ (x : Found). x.ending) q ∙ h, ap (λ (x : Found). x.lines) q)
 
-ends_stopped : (text bytes more : List ℕ) (f : Fault) → Begins text bytes more → judged-as.Refused f ≡ judged bytes → EndsAfter text (Refused f) 0
+ends_stopped : (text bytes more : List ℕ) (f : Fault) → Begins text bytes more → Err f ≡ judged bytes → EndsAfter text (Err f) 0
 ends_stopped text bytes more f b j =
-    ends-by text (Refused f) _ (lines_stop false false text (Refused f) (begins_next text bytes more b ∙ ap (next_by (length b.line) bytes) (sym j))) refl
+    ends-by text (Err f) _ (lines_stop false false text (Err f) (begins_next text bytes more b ∙ ap (next_by (length b.line) bytes) (sym j))) refl
 
 -- a text that does not begin with a line in form stops there
-sixteen : (text : List ℕ) → No (text ≡ []) → ((bytes more : List ℕ) → No (Begins text bytes more)) → (f : Fault) × (EndsAfter text (Refused f) 0) × (number_of_fault f ≡ 16)
+sixteen : (text : List ℕ) → No (text ≡ []) → ((bytes more : List ℕ) → No (Begins text bytes more)) → (f : Fault) × (EndsAfter text (Err f) 0) × (number_of_fault f ≡ 16)
 sixteen text some never = by (next false false text) refl (next_says text)
   where
     number : (n : ℕ) → Stops text n → n ≡ 16
@@ -199,19 +199,19 @@ sixteen text some never = by (next false false text) refl (next_says text)
     number n (stops_19 b s t u) = absurd (never _ _ b)
     number n (stops_20 e) = absurd (some e)
 
-    by : (x : Next) → next false false text ≡ x → NextSays text x → (f : Fault) × (EndsAfter text (Refused f) 0) × (number_of_fault f ≡ 16)
+    by : (x : Next) → next false false text ≡ x → NextSays text x → (f : Fault) × (EndsAfter text (Err f) 0) × (number_of_fault f ≡ 16)
     by (data-record size g) e (bytes, line, f, d, is, eg) = absurd (never bytes (drop size text) (record { line = line; formed = f; form = d.0; is = is }))
     by (end-record size) e (bytes, line, f, d, is) = absurd (never bytes (drop size text) (record { line = line; formed = f; form = d.0; is = is }))
-    by (stop End) e says = absurd says
-    by (stop Part) e says = absurd says
-    by (stop (Refused x)) e says = (x, ends-by text (Refused x) _ (lines_stop false false text (Refused x) e) refl, number (number_of_fault x) says)
+    by (stop (Ok End)) e says = absurd says
+    by (stop (Ok Part)) e says = absurd says
+    by (stop (Err x)) e says = (x, ends-by text (Err x) _ (lines_stop false false text (Err x) e) refl, number (number_of_fault x) says)
 
 -- the empty text has no end record
-ends_empty : EndsAfter [] (Refused NoEndRecord) 0
+ends_empty : EndsAfter [] (Err NoEndRecord) 0
 unfolding next
 ends_empty =
-    ends-by [] (Refused NoEndRecord) _
-    (lines_stop false false [] (Refused NoEndRecord) (pick_false _ _ _ refl ∙ ap (next_of false []) (sym (stands_nothing [] refl)) ∙ ap stop (pick_false _ _ _ refl))) refl
+    ends-by [] (Err NoEndRecord) _
+    (lines_stop false false [] (Err NoEndRecord) (pick_false _ _ _ refl ∙ ap (next_of false []) (sym (stands_nothing [] refl)) ∙ ap stop (pick_false _ _ _ refl))) refl
 
 -- a text that begins with the end record goes on behind it
 over_lines : (text bytes more : List ℕ) → Begins text bytes more → IsEndRecord bytes → (size : ℕ) × (lines_of false false text ≡ following [] size 1 (lines_of false true more))
@@ -220,30 +220,30 @@ over_lines text bytes more b d =
     = begins_next text bytes more b ∙ ap (next_by (length b.line) bytes) (sym (judged_end bytes d.0.1 d.1.0 d.1.1)) in
     (length b.line, lines_end false false text (length b.line) n ∙ ap (λ (x : List ℕ). following [] (length b.line) 1 (lines_of false true x)) (rest_is text bytes more b))
 
-ends_over : (text bytes more : List ℕ) → Begins text bytes more → IsEndRecord bytes → No (more ≡ []) → EndsAfter text (Refused AfterEnd) 1
+ends_over : (text bytes more : List ℕ) → Begins text bytes more → IsEndRecord bytes → No (more ≡ []) → EndsAfter text (Err AfterEnd) 1
 ends_over text bytes more b d m =
     let o = over_lines text bytes more b d in
-    ends-by text (Refused AfterEnd) _ (o.1 ∙ ap (following [] o.0 1) (over_more more m)) refl
+    ends-by text (Err AfterEnd) _ (o.1 ∙ ap (following [] o.0 1) (over_more more m)) refl
 
 -- a refusal by that number, after so many lines
 abbrev pub RefusedBy : List ℕ → ℕ → ℕ → Type 0
-RefusedBy text n lines = (f : Fault) × (EndsAfter text (Refused f) lines) × (number_of_fault f ≡ n)
+RefusedBy text n lines = (f : Fault) × (EndsAfter text (Err f) lines) × (number_of_fault f ≡ n)
 
 pub cause_ends : (text : List ℕ) (n lines : ℕ) → Cause text n lines → RefusedBy text n lines
-cause_ends text n lines (out_of_form {rest = rest} b s a) = let x = sixteen rest s a in (x.0, ends_here text rest (Refused x.0) lines b x.1, x.2)
+cause_ends text n lines (out_of_form {rest = rest} b s a) = let x = sixteen rest s a in (x.0, ends_here text rest (Err x.0) lines b x.1, x.2)
 cause_ends text n lines (check_byte {rest = rest} {bytes = bytes} {more = more} b g s) =
-    (CheckByte, ends_here text rest (Refused CheckByte) lines b (ends_stopped rest bytes more CheckByte g (judged_17 bytes g.form.1 s)), refl)
+    (CheckByte, ends_here text rest (Err CheckByte) lines b (ends_stopped rest bytes more CheckByte g (judged_17 bytes g.form.1 s)), refl)
 cause_ends text n lines (another_type {rest = rest} {bytes = bytes} {more = more} b g s t u) =
-    (UnknownType, ends_here text rest (Refused UnknownType) lines b (ends_stopped rest bytes more UnknownType g (judged_18 bytes g.form.1 s t u)), refl)
+    (UnknownType, ends_here text rest (Err UnknownType) lines b (ends_stopped rest bytes more UnknownType g (judged_18 bytes g.form.1 s t u)), refl)
 cause_ends text n lines (above_image {rest = rest} {bytes = bytes} {more = more} b g s t u) =
-    (AboveImage, ends_here text rest (Refused AboveImage) lines b (ends_stopped rest bytes more AboveImage g (judged_19 bytes g.form.1 s t u)), refl)
-cause_ends text n lines (no_end_record b) = (NoEndRecord, ends_here text [] (Refused NoEndRecord) lines b ends_empty, refl)
+    (AboveImage, ends_here text rest (Err AboveImage) lines b (ends_stopped rest bytes more AboveImage g (judged_19 bytes g.form.1 s t u)), refl)
+cause_ends text n lines (no_end_record b) = (NoEndRecord, ends_here text [] (Err NoEndRecord) lines b ends_empty, refl)
 cause_ends text n lines (after_end {rest = rest} {bytes = bytes} {more = more} {lines = k} b g e m) =
-    let x = ends_behind text rest (Refused AfterEnd) k 1 b (ends_over rest bytes more g e m) in
+    let x = ends_behind text rest (Err AfterEnd) k 1 b (ends_over rest bytes more g e m) in
     (AfterEnd, (x.0, x.1 ∙ add-one k), refl)
 
 -- a text with no fault is read, and gives what its lines give
-pub faultless_ends : (text : List ℕ) (gs : List Given) → Faultless text gs → Ends text End × ((lines_of false false text).given ≡ gs)
+pub faultless_ends : (text : List ℕ) (gs : List Given) → Faultless text gs → Ends text (Ok End) × ((lines_of false false text).given ≡ gs)
 faultless_ends text gs x =
     let last = x.last in
     let b : Begins last x.bytes [] = record { line = last; formed = x.formed; form = x.ends.0; is = sym (append-nil last) } in

@@ -1,13 +1,12 @@
 -- The request M-110: "164 data records of 16 bytes from 0000h to 0A30h, then `:00000001FF`. Capitals, LF after each line". Lines of ours, character by character; by calls.
 use Prim.Native.Char.{Char, code as letter}
-use Rattle.std.specs.Prelude.{ℕ, ◌*◌, List, [], ◌∷◌, ◌++◌, map, ◌≡◌, refl, take, drop}
+use Rattle.std.specs.Prelude.{ℕ, ◌*◌, List, [], ◌∷◌, ◌++◌, map, ◌≡◌, refl, take, drop, Ok}
 use Rattle.std.proofs.Common.{append_assoc, ◌∙◌, ap, take_at, drop_at}
 use Rattle.base.specs.Pick.{pick}
 use Rattle.numerals.specs.Hex.{digit}
 use Rattle.intelhex.specs.Bytes.{sum_of, check_of}
 use Rattle.intelhex.specs.Putting.{lines_length}
 use Rattle.intelhex.specs.Written.{line_of, data_record, end_record, data_bytes, data_records, data_lines, text_of}
-use Rattle.intelhex.specs.declared.Writing.TheVariants as writing
 use Rattle.roundtrip.specs.Calls.{WriteText}
 use Rattle.roundtrip.specs.Refused.{written_text}
 
@@ -34,7 +33,7 @@ unfolding line_of check_of sum_of digit pick
 last_line = refl
 
 -- THEOREM: of an image that begins with these sixteen bytes, `:100000000123456789ABCDEFFEDCBA9876543210F8` and LF come first
-pub our_first_line : (rest text₀ text : List ℕ) → WriteText (sixteen ++ rest) text₀ writing.Written text → take 44 text ≡ map letter first ++ (0x0A ∷ [])
+pub our_first_line : (rest text₀ text : List ℕ) → WriteText (sixteen ++ rest) text₀ (Ok tt) text → take 44 text ≡ map letter first ++ (0x0A ∷ [])
 unfolding text_of data_lines
 our_first_line rest text₀ text w =
     let line = map letter first ++ (0x0A ∷ []) in
@@ -45,7 +44,7 @@ our_first_line rest text₀ text w =
     ∙ take_at line (others ++ line_of end_record) 44 refl
 
 -- THEOREM: `:00000001FF` and LF come last, behind 164 lines of 44 characters
-pub our_last_line : (image text₀ text : List ℕ) → WriteText image text₀ writing.Written text → drop (44 * data_records) text ≡ map letter last ++ (0x0A ∷ [])
+pub our_last_line : (image text₀ text : List ℕ) → WriteText image text₀ (Ok tt) text → drop (44 * data_records) text ≡ map letter last ++ (0x0A ∷ [])
 unfolding text_of
 our_last_line image text₀ text w =
     let p = written_text image text₀ text w in

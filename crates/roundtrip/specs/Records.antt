@@ -1,5 +1,5 @@
 -- Laws: what a record is judged to be, and what its bytes then are; both ways.
-use Rattle.std.specs.Prelude.{ℕ, ◌+◌, ◌-◌, Bool, true, false, not, List, ◌≡◌, refl, eqb, ltb, length}
+use Rattle.std.specs.Prelude.{ℕ, ◌+◌, ◌-◌, Bool, true, false, not, List, ◌≡◌, refl, eqb, ltb, length, Result, Ok, Err}
 use Rattle.std.proofs.Common.{arith, true≢false, ◌∙◌, ap, subst, eqb-true, eq-eqb, ne_eqb, ltb-true, lt-ltb}
 use Rattle.std.proofs.Math.Path.{sym}
 use Rattle.std.proofs.lemmas.Bool.{eqb-false, not-false}
@@ -13,7 +13,7 @@ use Rattle.intelhex.specs.Lines.{count_in, address_in, type_in, is_bad_end, is_a
 use Rattle.intelhex.specs.declared.Fault.{Fault}
 use Rattle.intelhex.specs.declared.Fault.TheVariants.{WrongSize, TooLong, NoLineEnd, NoColon, NoDigit, OddDigits, FewBytes, WrongCount, EndNotZero, CheckByte, UnknownType, AboveImage, NoEndRecord, AfterEnd}
 use Rattle.intelhex.specs.declared.record.Judged.{Judged}
-use Rattle.intelhex.specs.declared.record.Judged.TheVariants.{Data, End, Refused}
+use Rattle.intelhex.specs.declared.record.Judged.TheVariants.{Data, End}
 use Rattle.roundtrip.specs.Grammar.{IsAbove}
 
 -- ---- an end record whose count or address is not 0
@@ -92,11 +92,11 @@ FaultSays bytes FewBytes = ⊥
 FaultSays bytes NoEndRecord = ⊥
 FaultSays bytes AfterEnd = ⊥
 
-abbrev pub RecordSays : List ℕ → Judged → Type 0
-RecordSays bytes (Data address count) =
+abbrev pub RecordSays : List ℕ → Result Judged Fault → Type 0
+RecordSays bytes (Ok (Data address count)) =
     (address ≡ address_in bytes) × (Formed bytes × ((sum_of bytes ≡ 0) × ((type_in bytes ≡ 0) × No (IsAbove bytes))))
-RecordSays bytes End = Formed bytes × ((sum_of bytes ≡ 0) × (type_in bytes ≡ 1))
-RecordSays bytes (Refused f) = FaultSays bytes f
+RecordSays bytes (Ok End) = Formed bytes × ((sum_of bytes ≡ 0) × (type_in bytes ≡ 1))
+RecordSays bytes (Err f) = FaultSays bytes f
 
 pub record_says : (bytes : List ℕ) → RecordSays bytes (judged bytes)
 unfolding judged
@@ -121,14 +121,14 @@ record_says bytes =
 
 -- ---- what it is judged to be, by its bytes
 module _ (bytes : List ℕ) (f : Formed bytes) where
-  formed : (j : Judged)
-      → j ≡ pick (eqb (sum_of bytes) 0) (pick (eqb (type_in bytes) 1) End (pick (eqb (type_in bytes) 0) (pick (is_above (count_in bytes) (address_in bytes)) (Refused AboveImage) (Data (address_in bytes) (count_in bytes))) (Refused UnknownType))) (Refused CheckByte)
+  formed : (j : Result Judged Fault)
+      → j ≡ pick (eqb (sum_of bytes) 0) (pick (eqb (type_in bytes) 1) (Ok End) (pick (eqb (type_in bytes) 0) (pick (is_above (count_in bytes) (address_in bytes)) (Err AboveImage) (Ok (Data (address_in bytes) (count_in bytes)))) (Err UnknownType))) (Err CheckByte)
       → j ≡ judged bytes
   unfolding judged
   formed j e = e ∙ sym (pick_true _ _ _ (eq-eqb (length bytes) (count_in bytes + 5) f.0) ∙ pick_false _ _ _ (end_good bytes f.1))
 
   -- it is judged to be one of five things
-  pub formed_chain : (P : Judged → Type 0) → P (Refused CheckByte) → P End → P (Refused UnknownType) → P (Refused AboveImage) → P (Data (address_in bytes) (count_in bytes)) → P (judged bytes)
+  pub formed_chain : (P : Result Judged Fault → Type 0) → P (Err CheckByte) → P (Ok End) → P (Err UnknownType) → P (Err AboveImage) → P (Ok (Data (address_in bytes) (count_in bytes))) → P (judged bytes)
   formed_chain P c e u a d =
       subst P (formed _ refl)
       (pick_both P (eqb (sum_of bytes) 0) _ _
@@ -136,27 +136,27 @@ module _ (bytes : List ℕ) (f : Formed bytes) where
       (pick_both P (eqb (type_in bytes) 0) _ _ (pick_both P (is_above (count_in bytes) (address_in bytes)) _ _ a d) u))
       c)
 
-  pub judged_17 : No (sum_of bytes ≡ 0) → Refused CheckByte ≡ judged bytes
+  pub judged_17 : No (sum_of bytes ≡ 0) → Err CheckByte ≡ judged bytes
   judged_17 n = formed _ (sym (pick_false _ _ _ (ne_eqb (sum_of bytes) 0 n)))
 
   module _ (s : sum_of bytes ≡ 0) where
-    summed : (j : Judged)
-        → j ≡ pick (eqb (type_in bytes) 1) End (pick (eqb (type_in bytes) 0) (pick (is_above (count_in bytes) (address_in bytes)) (Refused AboveImage) (Data (address_in bytes) (count_in bytes))) (Refused UnknownType))
+    summed : (j : Result Judged Fault)
+        → j ≡ pick (eqb (type_in bytes) 1) (Ok End) (pick (eqb (type_in bytes) 0) (pick (is_above (count_in bytes) (address_in bytes)) (Err AboveImage) (Ok (Data (address_in bytes) (count_in bytes)))) (Err UnknownType))
         → j ≡ judged bytes
     summed j e = formed j (e ∙ sym (pick_true _ _ _ (eq-eqb (sum_of bytes) 0 s)))
 
-    pub judged_end : type_in bytes ≡ 1 → End ≡ judged bytes
+    pub judged_end : type_in bytes ≡ 1 → Ok End ≡ judged bytes
     judged_end t = summed _ (sym (pick_true _ _ _ (eq-eqb (type_in bytes) 1 t)))
 
-    pub judged_18 : No (type_in bytes ≡ 0) → No (type_in bytes ≡ 1) → Refused UnknownType ≡ judged bytes
+    pub judged_18 : No (type_in bytes ≡ 0) → No (type_in bytes ≡ 1) → Err UnknownType ≡ judged bytes
     judged_18 n m = summed _ (sym (pick_false _ _ _ (ne_eqb (type_in bytes) 1 m) ∙ pick_false _ _ _ (ne_eqb (type_in bytes) 0 n)))
 
     module _ (t : type_in bytes ≡ 0) where
-      typed : (j : Judged) → j ≡ pick (is_above (count_in bytes) (address_in bytes)) (Refused AboveImage) (Data (address_in bytes) (count_in bytes)) → j ≡ judged bytes
+      typed : (j : Result Judged Fault) → j ≡ pick (is_above (count_in bytes) (address_in bytes)) (Err AboveImage) (Ok (Data (address_in bytes) (count_in bytes))) → j ≡ judged bytes
       typed j e = summed j (e ∙ sym (pick_false _ _ _ (ne_eqb (type_in bytes) 1 (λ z. omega arith)) ∙ pick_true _ _ _ (eq-eqb (type_in bytes) 0 t)))
 
-      pub judged_19 : IsAbove bytes → Refused AboveImage ≡ judged bytes
+      pub judged_19 : IsAbove bytes → Err AboveImage ≡ judged bytes
       judged_19 a = typed _ (sym (pick_true _ _ _ (is-above bytes a)))
 
-      pub judged_data : No (IsAbove bytes) → Data (address_in bytes) (count_in bytes) ≡ judged bytes
+      pub judged_data : No (IsAbove bytes) → Ok (Data (address_in bytes) (count_in bytes)) ≡ judged bytes
       judged_data n = typed _ (sym (pick_false _ _ _ (not_above bytes n)))

@@ -1,5 +1,5 @@
 -- Laws: the lines of a text one by one; how many may be read at most does not matter, as long as they may be as many as the characters.
-use Rattle.std.specs.Prelude.{ℕ, zero, suc, ◌<◌, ◌≤◌, Bool, true, false, List, [], ◌∷◌, ◌≡◌, refl, length, drop}
+use Rattle.std.specs.Prelude.{ℕ, zero, suc, ◌<◌, ◌≤◌, Bool, true, false, List, [], ◌∷◌, ◌≡◌, refl, length, drop, Result, Ok, Err}
 use Rattle.std.proofs.Common.{arith, ◌∙◌, ne_eqb}
 use Rattle.std.proofs.Math.Path.{ap}
 use Rattle.std.proofs.Math.ListN.{length-drop}
@@ -7,8 +7,9 @@ use Rattle.base.specs.Pick.{pick_true, pick_false}
 use Rattle.intelhex.specs.Reading.{Given, Next, data-record, end-record, stop, next_after, next, Found, found, following, on_next, lines_from, lines_of}
 use Rattle.intelhex.proofs.Underway.{NextLies, next_lies}
 use Rattle.intelhex.specs.declared.Ending.{Ending}
-use Rattle.intelhex.specs.declared.Ending.TheVariants.{End, Refused}
+use Rattle.intelhex.specs.declared.Ending.TheVariants.{End}
 use Rattle.intelhex.specs.declared.Fault.TheVariants.{AfterEnd}
+use Rattle.intelhex.specs.declared.Fault.{Fault}
 
 -- reading goes on alike, where it does after each line
 on_alike : (go go' : Bool → List ℕ → Found) (over : Bool) (text : List ℕ) (x : Next) → NextLies text x
@@ -40,18 +41,18 @@ module _ (more over : Bool) (text : List ℕ) where
   pub lines_end : (size : ℕ) → next over more text ≡ end-record size → lines_of more over text ≡ following [] size 1 (lines_of more true (drop size text))
   lines_end size e = by_next (end-record size) e
 
-  pub lines_stop : (x : Ending) → next over more text ≡ stop x → lines_of more over text ≡ found [] x 0 0 over
+  pub lines_stop : (x : Result Ending Fault) → next over more text ≡ stop x → lines_of more over text ≡ found [] x 0 0 over
   lines_stop x e = by_next (stop x) e
 
 -- after the end record
-pub over_end : lines_of false true [] ≡ found [] End 0 0 true
+pub over_end : lines_of false true [] ≡ found [] (Ok End) 0 0 true
 unfolding next next_after
-over_end = lines_stop false true [] End (pick_true _ _ _ refl ∙ pick_true _ _ _ refl ∙ ap stop (pick_false _ _ _ refl))
+over_end = lines_stop false true [] (Ok End) (pick_true _ _ _ refl ∙ pick_true _ _ _ refl ∙ ap stop (pick_false _ _ _ refl))
 
 some_length : (text : List ℕ) → (text ≡ [] → ⊥) → length text ≡ 0 → ⊥
 some_length [] n e = n refl
 some_length (c ∷ cs) n e = omega arith
 
-pub over_more : (text : List ℕ) → (text ≡ [] → ⊥) → lines_of false true text ≡ found [] (Refused AfterEnd) 0 0 true
+pub over_more : (text : List ℕ) → (text ≡ [] → ⊥) → lines_of false true text ≡ found [] (Err AfterEnd) 0 0 true
 unfolding next next_after
-over_more text n = lines_stop false true text (Refused AfterEnd) (pick_true _ _ _ refl ∙ pick_false _ _ _ (ne_eqb (length text) 0 (some_length text n)))
+over_more text n = lines_stop false true text (Err AfterEnd) (pick_true _ _ _ refl ∙ pick_false _ _ _ (ne_eqb (length text) 0 (some_length text n)))

@@ -1,6 +1,6 @@
 -- The table of M-110: eight files, and what reading each comes to.
 use Prim.Native.Char.{Char, code as letter}
-use Rattle.std.specs.Prelude.{ℕ, false, List, [], ◌∷◌, ◌++◌, map, ◌≡◌, refl, length, set}
+use Rattle.std.specs.Prelude.{ℕ, false, List, [], ◌∷◌, ◌++◌, map, ◌≡◌, refl, length, set, Result}
 use Rattle.std.proofs.Common.{◌∙◌, ap}
 use Rattle.base.specs.Bits.{both}
 use Rattle.base.specs.Pick.{pick}
@@ -9,9 +9,9 @@ use Rattle.intelhex.specs.Answers.{Answered, done, refused_after, read_as}
 use Rattle.intelhex.specs.Bytes.{between, is_digit, worth, byte_of, sum_of}
 use Rattle.intelhex.specs.Lines.{without_return, standing, form_of, is_bad_end, is_above, judged}
 use Rattle.intelhex.specs.Reading.{Found, next_after, next, lines_from, lines_of, put_all, blank, Read, read_by}
-use Rattle.intelhex.specs.declared.Reading.{Reading}
 use Rattle.roundtrip.specs.Calls.{ReadText, read-by}
 use Rattle.roundtrip.specs.Refused.{sized}
+use Rattle.intelhex.specs.declared.Refused.{Refused}
 
 -- ---- the lines
 abbrev line : List Char → List ℕ
@@ -46,7 +46,7 @@ at_0_a40 = ":" ∷ "0" ∷ "1" ∷ "0" ∷ "A" ∷ "4" ∷ "0" ∷ "0" ∷ "0" �
 
 -- ---- what reading each comes to, into an image of its size, by a call
 abbrev pub Comes : List ℕ → (List ℕ → Answered → List ℕ → Type 0) → Type 2
-Comes text P = (image after : List ℕ) (r : Reading) → length image ≡ image_size → ReadText text image r after → P image (read_as r) after
+Comes text P = (image after : List ℕ) (r : Result (Unit {0}) Refused) → length image ≡ image_size → ReadText text image r after → P image (read_as r) after
 
 -- it is read as an image, or refused after so many lines and leaves the image as found
 abbrev pub IsRead : List ℕ → List ℕ → Answered → List ℕ → Type 0
@@ -73,7 +73,7 @@ pub record Forms : Type 2 where
   pub no_digit : Comes (line end_g) (IsRefused 16 0)
 
 -- what a call comes to, by what was found
-came : (text : List ℕ) (f : Found) → lines_of false false text ≡ f → (image after : List ℕ) (r : Reading) → length image ≡ image_size → ReadText text image r after
+came : (text : List ℕ) (f : Found) → lines_of false false text ≡ f → (image after : List ℕ) (r : Result (Unit {0}) Refused) → length image ≡ image_size → ReadText text image r after
     → let w = read_by image (put_all f.given blank) f.lines f.ending in (read_as r ≡ read_as w.answer) × (after ≡ w.image)
 came text f e image after r l c =
     let w = read-by text image r after c ∙ sized text image l (lines_of false false text).ending refl

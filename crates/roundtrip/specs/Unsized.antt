@@ -1,5 +1,5 @@
 -- Document 02, M-110: "5 first, an image not of 2,624 bytes", where what is there of a text is read; by calls.
-use Rattle.std.specs.Prelude.{ℕ, zero, suc, ◌≤◌, Bool, true, false, List, ◌≡◌, eqb, length, take, drop}
+use Rattle.std.specs.Prelude.{ℕ, zero, suc, ◌≤◌, Bool, true, false, List, ◌≡◌, eqb, length, take, drop, Result, Ok, Err}
 use Rattle.std.proofs.Common.{arith, ◌∙◌, ap, sym}
 use Rattle.base.specs.Exactly.{No, Iff, apart}
 use Rattle.base.specs.Pick.{pick_both}
@@ -10,14 +10,12 @@ use Rattle.intelhex.specs.Lines.{standing, form_of, judged}
 use Rattle.intelhex.specs.Reading.{Next, data-record, end-record, stop, next_by, next_in, next_of, next_after, next, ends_at, on_next, lines_from, lines_of, Went}
 use Rattle.intelhex.proofs.Underway.{lines_unsized}
 use Rattle.intelhex.specs.declared.Ending.{Ending}
-use Rattle.intelhex.specs.declared.Ending.TheVariants.{End, Part, Refused}
+use Rattle.intelhex.specs.declared.Ending.TheVariants.{End, Part}
 use Rattle.intelhex.specs.declared.Fault.{Fault}
 use Rattle.intelhex.specs.declared.Fault.TheVariants.{WrongSize, TooLong, NoLineEnd, NoColon, NoDigit, OddDigits, FewBytes, WrongCount, EndNotZero, CheckByte, UnknownType, AboveImage, NoEndRecord, AfterEnd}
 use Rattle.intelhex.specs.declared.Taken.{Taken}
 use Rattle.intelhex.specs.declared.lines.Standing.{Standing}
 use Rattle.intelhex.specs.declared.lines.Standing.TheVariants.{Nothing, Unended, Endless, Line}
-use Rattle.intelhex.specs.declared.record.Form.{Form}
-use Rattle.intelhex.specs.declared.record.Form.TheVariants as form
 use Rattle.intelhex.specs.declared.record.Judged.{Judged}
 use Rattle.intelhex.specs.declared.record.Judged.TheVariants as judged-as
 use Rattle.roundtrip.specs.Calls.{ReadLines, went-by}
@@ -27,10 +25,10 @@ use Rattle.roundtrip.specs.Refused.{number}
 use Rattle.roundtrip.specs.Records.{FaultSays, RecordSays, record_says}
 
 -- ---- a text, whatever its size, is refused by 16 or more
-abbrev OfText : Ending → Type 0
-OfText End = Unit {0}
-OfText Part = Unit {0}
-OfText (Refused f) = 16 ≤ number_of_fault f
+abbrev OfText : Result Ending Fault → Type 0
+OfText (Ok End) = Unit {0}
+OfText (Ok Part) = Unit {0}
+OfText (Err f) = 16 ≤ number_of_fault f
 
 abbrev NextOfText : Next → Type 0
 NextOfText (data-record size g) = Unit {0}
@@ -53,28 +51,28 @@ fault-of bytes FewBytes r = absurd r
 fault-of bytes NoEndRecord r = absurd r
 fault-of bytes AfterEnd r = absurd r
 
-record_of : (size : ℕ) (bytes : List ℕ) (j : Judged) → RecordSays bytes j → NextOfText (next_by size bytes j)
-record_of size bytes (judged-as.Data address count) r = tt
-record_of size bytes judged-as.End r = tt
-record_of size bytes (judged-as.Refused f) r = fault-of bytes f r
+record_of : (size : ℕ) (bytes : List ℕ) (j : Result Judged Fault) → RecordSays bytes j → NextOfText (next_by size bytes j)
+record_of size bytes (Ok (judged-as.Data address count)) r = tt
+record_of size bytes (Ok judged-as.End) r = tt
+record_of size bytes (Err f) r = fault-of bytes f r
 
-form-of : (size : ℕ) (line : List ℕ) (x : Form) → FormSays line x → NextOfText (next_in size line x)
-form-of size line (form.Bytes n) s = let bytes = bytes_of (drop 1 line) in record_of size bytes (judged bytes) (record_says bytes)
-form-of size line (form.Refused f) s = omega (arith, s)
+form-of : (size : ℕ) (line : List ℕ) (x : Result ℕ Fault) → FormSays line x → NextOfText (next_in size line x)
+form-of size line (Ok n) s = let bytes = bytes_of (drop 1 line) in record_of size bytes (judged bytes) (record_says bytes)
+form-of size line (Err f) s = omega (arith, s)
 
-ends-of : (more : Bool) (e : Ending) → OfText e → OfText (ends_at more e)
+ends-of : (more : Bool) (e : Result Ending Fault) → OfText e → OfText (ends_at more e)
 ends-of more e h = pick_both OfText more _ _ tt h
 
 standing_of : (more : Bool) (text : List ℕ) (x : Standing) → NextOfText (next_of more text x)
-standing_of more text Nothing = ends-of more (Refused NoEndRecord) (omega arith)
-standing_of more text Unended = ends-of more (Refused NoLineEnd) (omega arith)
+standing_of more text Nothing = ends-of more (Err NoEndRecord) (omega arith)
+standing_of more text Unended = ends-of more (Err NoLineEnd) (omega arith)
 standing_of more text Endless = omega arith
 standing_of more text (Line n size) = form-of size (take n text) (form_of (take n text)) (form_says (take n text))
 
 next-of : (over more : Bool) (text : List ℕ) → NextOfText (next over more text)
 unfolding next next_after
 next-of over more text =
-    pick_both NextOfText over _ _ (pick_both NextOfText (eqb (length text) 0) _ _ (ends-of more End tt) (omega arith)) (standing_of more text (standing text))
+    pick_both NextOfText over _ _ (pick_both NextOfText (eqb (length text) 0) _ _ (ends-of more (Ok End) tt) (omega arith)) (standing_of more text (standing text))
 
 lines-of : (k : ℕ) (more over : Bool) (text : List ℕ) → OfText (lines_from k more over text).ending
 unfolding lines_from
@@ -87,11 +85,11 @@ lines-of (suc k) more over text = by (next over more text) (next-of over more te
     by (stop e) h later = h
 
 -- ---- by calls
-not_five : (e : Ending) → OfText e → No (ended_as e ≡ refused 5)
+not_five : (e : Result Ending Fault) → OfText e → No (ended_as e ≡ refused 5)
 unfolding number
-not_five End h = apart number done (refused 5) (λ e. omega arith)
-not_five Part h = apart number awaited (refused 5) (λ e. omega arith)
-not_five (Refused f) h = apart number (refused (number_of_fault f)) (refused 5) (λ e. omega (arith, h))
+not_five (Ok End) h = apart number done (refused 5) (λ e. omega arith)
+not_five (Ok Part) h = apart number awaited (refused 5) (λ e. omega arith)
+not_five (Err f) h = apart number (refused (number_of_fault f)) (refused 5) (λ e. omega (arith, h))
 
 -- THEOREM: reading what is there of a text is refused by 5 exactly when the image has another size
 pub refused_lines_5 : (over more : Bool) (text image after : List ℕ) (back : Taken) → ReadLines over more text image back after

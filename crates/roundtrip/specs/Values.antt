@@ -1,5 +1,5 @@
 -- Document 02, M-110: "a byte given twice takes the later value, a byte not given is FFh". What each byte of an image is after a good reading, by calls.
-use Rattle.std.specs.Prelude.{ℕ, suc, ◌+◌, ◌-◌, ◌<◌, ◌≤◌, Bool, true, false, List, [], ◌∷◌, ◌++◌, ◌≡◌, refl, eqb, ltb, length, get_or, drop, set}
+use Rattle.std.specs.Prelude.{ℕ, suc, ◌+◌, ◌-◌, ◌<◌, ◌≤◌, Bool, true, false, List, [], ◌∷◌, ◌++◌, ◌≡◌, refl, eqb, ltb, length, get_or, drop, set, Result, Ok, Err}
 use Rattle.std.proofs.Common.{arith, ◌∙◌, ap, sym, length-take, length-set, get_or-set_same, get_or-set_other, ltb-true, ltb-false, eqb-true}
 use Rattle.std.proofs.lemmas.List.{length-replicate, get_or-replicate}
 use Rattle.std.proofs.lemmas.List.Edits.{sets}
@@ -12,12 +12,12 @@ use Rattle.intelhex.specs.Lines.{count_in, address_in, data_in}
 use Rattle.intelhex.specs.Reading.{Given, given, Found, lines_of, put_all, blank, Read, read, read_by, read_text}
 use Rattle.intelhex.proofs.Underway.{put_append, put_length}
 use Rattle.intelhex.specs.declared.Ending.{Ending}
-use Rattle.intelhex.specs.declared.Ending.TheVariants.{End, Part, Refused}
-use Rattle.intelhex.specs.declared.Reading.TheVariants as reading
+use Rattle.intelhex.specs.declared.Ending.TheVariants.{End, Part}
 use Rattle.roundtrip.specs.Grammar.{IsDataRecord, GoodLines, none, a_line, Faultless}
 use Rattle.roundtrip.specs.Judging.{ended_faultless, faultless_ends}
 use Rattle.roundtrip.specs.Calls.{ReadText, read-by}
 use Rattle.roundtrip.specs.Refused.{tag}
+use Rattle.intelhex.specs.declared.Fault.{Fault}
 
 -- ---- stores
 
@@ -67,34 +67,34 @@ put_later xs ys g s i h n l =
 -- where all was read, the image has its size, the text ended well, and the image is what it gives
 pub record Good (text image after : List ℕ) : Type 0 where
   pub sized : length image ≡ image_size
-  pub ended : (lines_of false false text).ending ≡ End
+  pub ended : (lines_of false false text).ending ≡ Ok End
   pub is : after ≡ put_all (lines_of false false text).given blank
 
-good : (text image after : List ℕ) → read reading.Read after ≡ read_text text image → Good text image after
+good : (text image after : List ℕ) → read (Ok tt) after ≡ read_text text image → Good text image after
 unfolding read_text tag
 good text image after e = by (eqb (length image) image_size) refl
   where
     f : Found
     f = lines_of false false text
 
-    ends : (x : Ending) → f.ending ≡ x → length image ≡ image_size → read reading.Read after ≡ read_by image (put_all f.given blank) f.lines x → Good text image after
-    ends End q s h = record { sized = s; ended = q; is = ap (λ (r : Read). r.image) h }
-    ends Part q s h = absurd (let z : 0 ≡ 1 = ap (λ (r : Read). tag (read_as r.answer)) h in omega arith)
-    ends (Refused x) q s h = absurd (let z : 0 ≡ 1 = ap (λ (r : Read). tag (read_as r.answer)) h in omega arith)
+    ends : (x : Result Ending Fault) → f.ending ≡ x → length image ≡ image_size → read (Ok tt) after ≡ read_by image (put_all f.given blank) f.lines x → Good text image after
+    ends (Ok End) q s h = record { sized = s; ended = q; is = ap (λ (r : Read). r.image) h }
+    ends (Ok Part) q s h = absurd (let z : 0 ≡ 1 = ap (λ (r : Read). tag (read_as r.answer)) h in omega arith)
+    ends (Err x) q s h = absurd (let z : 0 ≡ 1 = ap (λ (r : Read). tag (read_as r.answer)) h in omega arith)
 
     by : (t : Bool) → eqb (length image) image_size ≡ t → Good text image after
     by true t = ends f.ending refl (eqb-true _ _ t) (e ∙ pick_true _ _ _ t)
     by false t = absurd (let z : 0 ≡ 1 = ap (λ (r : Read). tag (read_as r.answer)) (e ∙ pick_false _ _ _ t) in omega arith)
 
-pub good_reading : (text image after : List ℕ) → ReadText text image reading.Read after → Good text image after
-good_reading text image after c = good text image after (read-by text image reading.Read after c)
+pub good_reading : (text image after : List ℕ) → ReadText text image (Ok tt) after → Good text image after
+good_reading text image after c = good text image after (read-by text image (Ok tt) after c)
 
 -- what a text with no fault gives is what its lines give
-pub gives : (text image after : List ℕ) (gs : List Given) → ReadText text image reading.Read after → Faultless text gs → after ≡ put_all gs blank
+pub gives : (text image after : List ℕ) (gs : List Given) → ReadText text image (Ok tt) after → Faultless text gs → after ≡ put_all gs blank
 gives text image after gs c f = (good_reading text image after c).is ∙ ap (λ (x : List Given). put_all x blank) (faultless_ends text gs f).1
 
 -- THEOREM: what was read had no fault: it is lines of data records, and the line of an end record
-pub read_faultless : (text image after : List ℕ) → ReadText text image reading.Read after → (gs : List Given) × Faultless text gs
+pub read_faultless : (text image after : List ℕ) → ReadText text image (Ok tt) after → (gs : List Given) × Faultless text gs
 read_faultless text image after c = ((lines_of false false text).given, ended_faultless text (good_reading text image after c).ended)
 
 -- what good lines give lies in the image
@@ -122,7 +122,7 @@ within_at [] ys g w = w.0
 within_at (x ∷ xs) ys g w = within_at xs ys g w.1
 
 -- THEOREM: a byte that is given has the value of the last line that gives it
-pub later_value : (text image after : List ℕ) (xs ys : List Given) (g : Given) (i : ℕ) → ReadText text image reading.Read after → Faultless text (xs ++ (g ∷ ys))
+pub later_value : (text image after : List ℕ) (xs ys : List Given) (g : Given) (i : ℕ) → ReadText text image (Ok tt) after → Faultless text (xs ++ (g ∷ ys))
     → Gives g i → NoneGives ys i → get_or after i 0 ≡ get_or g.bytes (i - g.address) 0
 later_value text image after xs ys g i c f h n =
     let e = length-replicate {A = ℕ} image_size 0xFF in
@@ -130,12 +130,12 @@ later_value text image after xs ys g i c f h n =
     ap (λ (m : List ℕ). get_or m i 0) (gives text image after (xs ++ (g ∷ ys)) c f) ∙ put_later xs ys g blank i h n (omega arith)
 
 -- THEOREM: a byte that no line gives is FFh
-pub not_given : (text image after : List ℕ) (gs : List Given) (i : ℕ) → ReadText text image reading.Read after → Faultless text gs → NoneGives gs i → i < image_size → get_or after i 0 ≡ 0xFF
+pub not_given : (text image after : List ℕ) (gs : List Given) (i : ℕ) → ReadText text image (Ok tt) after → Faultless text gs → NoneGives gs i → i < image_size → get_or after i 0 ≡ 0xFF
 not_given text image after gs i c f n l =
     ap (λ (m : List ℕ). get_or m i 0) (gives text image after gs c f) ∙ put_none gs blank i n ∙ get_or-replicate image_size i 0xFF 0 l
 
 -- THEOREM: an image that was read has its size
-pub read_size : (text image after : List ℕ) → ReadText text image reading.Read after → length after ≡ image_size
+pub read_size : (text image after : List ℕ) → ReadText text image (Ok tt) after → length after ≡ image_size
 read_size text image after c =
     let g = good_reading text image after c in
     ap length g.is ∙ put_length (lines_of false false text).given blank ∙ length-replicate {A = ℕ} image_size 0xFF

@@ -6,9 +6,9 @@ pub returns-then-more : goal.returns-then-more
 unfolding next_after
 returns-then-more c = search cases
 
-pub returns-then-text-eq0 : goal.returns-then-text-eq0
+pub returns-then-text-ne0 : goal.returns-then-text-ne0
 unfolding next_after
-returns-then-text-eq0 c = search cases
+returns-then-text-ne0 c = search cases
 
 pub returns : goal.returns
 unfolding next_after

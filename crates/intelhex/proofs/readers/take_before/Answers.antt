@@ -1,23 +1,15 @@
-use Rattle.std.proofs.Common.{false, sym, refl, ap, length-take-le, rules}
+use Rattle.std.proofs.Common.{false, sym, refl, length-take-le}
 use Rattle.intelhex.specs.Turning.{line_within, line_few, by_standing}
-use Rattle.intelhex.specs.Turns.{turned}
-use Rattle.intelhex.specs.declared.readers.Turn.TheVariants.{Stop}
 use Rattle.intelhex.proofs.readers.take_before.Goals as goal
 
 pub slice_bounds-take_line-end : goal.slice_bounds-take_line-end
-slice_bounds-take_line-end c = sym (length-take-le _ _ (line_within false c.args.text.now c.args.text.now _ _ _ c.standing_in-stands.ensures c.in-Line.is))
+slice_bounds-take_line-end c = sym (length-take-le _ _ (line_within false c.args.text.now c.args.text.now _ _ _ c.standing_in.ensures c.in-Line.is))
 
 pub take_line-requires : goal.take_line-requires
-take_line-requires c = (line_few false c.args.text.now c.args.text.now _ _ _ c.standing_in-stands.ensures c.in-Line.is, search rules)
-
-pub returns-in-Nothing : goal.returns-in-Nothing
-returns-in-Nothing c = by_standing _ _ _ _ _ _ c.standing_in-stands.ensures c.in-Nothing.is (ap (λ e. turned (Stop e) c.args.image.now) c.awaited.ensures)
-
-pub returns-in-Unended : goal.returns-in-Unended
-returns-in-Unended c = by_standing _ _ _ _ _ _ c.standing_in-stands.ensures c.in-Unended.is (ap (λ e. turned (Stop e) c.args.image.now) c.awaited-in-Unended.ensures)
+take_line-requires c = line_few false c.args.text.now c.args.text.now _ _ _ c.standing_in.ensures c.in-Line.is
 
 pub returns-in-Endless : goal.returns-in-Endless
-returns-in-Endless c = by_standing _ _ _ _ _ _ c.standing_in-stands.ensures c.in-Endless.is refl
+returns-in-Endless c = by_standing _ _ _ _ _ _ c.standing_in.ensures c.in-Endless.is refl
 
 pub returns-in-Line : goal.returns-in-Line
-returns-in-Line c = by_standing _ _ _ _ _ _ c.standing_in-stands.ensures c.in-Line.is c.take_line.ensures
+returns-in-Line c = by_standing _ _ _ _ _ _ c.standing_in.ensures c.in-Line.is c.take_line.ensures
