@@ -1,13 +1,13 @@
 -- Laws: digits read one after another, each number kept within a word.
 use Prim.Native.Char.{code as letter}
-use Rattle.std.specs.Prelude.{ℕ, ◌+◌, ◌-◌, ◌*◌, ◌<◌, ◌≤◌, Bool, true, false, List, [], ◌∷◌, ◌≡◌, refl, ltb, length, get_or, drop}
+use Rattle.std.specs.Prelude.{ℕ, ◌+◌, ◌-◌, ◌*◌, ◌<◌, ◌≤◌, min, Bool, true, false, List, [], ◌∷◌, ◌≡◌, refl, ltb, leb, length, get_or, drop, ◌&&◌, Option, Some, None}
 use Rattle.std.proofs.Common.{arith, add-one, ◌∙◌, ap, sym, drop_of_length-le, drop-cons, leb-true, lt-ltb, le-ltb, ltb-true, ltb-false}
+use Rattle.std.specs.Char.{is_ascii_digit}
+use Rattle.base.specs.Bits.{both}
 use Rattle.base.specs.Pick.{pick, pick_true, pick_false, pick_of, pick_if}
 use Rattle.base.specs.Both.{both_holds}
-use Rattle.numerals.specs.Numerals.{is_digit, digits_on, digits_in, most}
+use Rattle.numerals.specs.Numerals.{is_digit, digits_on, most}
 use Rattle.numerals.specs.Numerals.{kept, counted_by}
-use Rattle.numerals.specs.declared.Counted.{Counted}
-use Rattle.numerals.specs.declared.Counted.TheVariants.{Number, NoNumber}
 
 -- ---- a number that fits a word
 pub few : (n : ℕ) → n < most → n ≡ kept n
@@ -26,6 +26,10 @@ pub no_more : (n : ℕ) → n ≤ most → n ≡ kept n
 unfolding kept
 no_more n h = pick_if (λ (m : ℕ). n ≡ m) (ltb n most) n most (λ t. refl) (λ t. let k : most ≤ n = ltb-false n most t in omega arith)
 
+pub least_of : (n r : ℕ) → r ≡ min most n → r ≡ kept n
+unfolding kept
+least_of n r e = pick_if (λ (m : ℕ). r ≡ m) (ltb n most) n most (λ t. let h : n < most = ltb-true n most t in omega arith) (λ t. let h : most ≤ n = ltb-false n most t in omega arith)
+
 -- a digit more, of a number that was cut to fit
 cut_first : (n d : ℕ) → kept (10 * kept n + d) ≡ kept (10 * n + d)
 cut_first n d = by (ltb n most) refl
@@ -38,23 +42,26 @@ cut_first n d = by (ltb n most) refl
         sym (many (10 * kept n + d) (omega arith)) ∙ many (10 * n + d) (omega arith)
 
 pub cut_on : (n : ℕ) (cs : List ℕ) → counted_by (digits_on (kept n) cs) ≡ counted_by (digits_on n cs)
-cut_on n [] = ap (λ (m : ℕ). Number m) (sym (no_more (kept n) (kept_most n)))
+cut_on n [] = ap (λ (m : ℕ). Some m) (sym (no_more (kept n) (kept_most n)))
 cut_on n (c ∷ cs) =
     let d = c - letter "0" in
     let e : counted_by (digits_on (10 * kept n + d) cs) ≡ counted_by (digits_on (10 * n + d) cs)
     = sym (cut_on (10 * kept n + d) cs) ∙ ap (λ (m : ℕ). counted_by (digits_on m cs)) (cut_first n d) ∙ cut_on (10 * n + d) cs in
-    pick_of counted_by _ _ _ ∙ ap (λ (x : Counted). pick (is_digit c) x NoNumber) e ∙ sym (pick_of counted_by _ _ _)
+    pick_of counted_by _ _ _ ∙ ap (λ (x : Option ℕ). pick (is_digit c) x None) e ∙ sym (pick_of counted_by _ _ _)
 
 -- ---- the loop
+-- a digit, as the library tests it
+pub digit_test : (c : ℕ) → is_ascii_digit c ≡ is_digit c
+unfolding is_digit both pick
+digit_test c = by (leb (letter "0") c)
+  where
+    by : (t : Bool) → (t && leb c (letter "9")) ≡ pick t (leb c (letter "9")) false
+    by true = refl
+    by false = refl
+
 pub digit_from : (c : ℕ) → is_digit c ≡ true → letter "0" ≤ c
 unfolding is_digit
 digit_from c t = leb-true (letter "0") c (both_holds _ _ t).0
-
-pub no_digits : (text : List ℕ) (from : ℕ) → length text ≤ from → NoNumber ≡ counted_by (digits_in (drop from text))
-no_digits text from h = ap (λ (cs : List ℕ). counted_by (digits_in cs)) (sym (drop_of_length-le text h))
-
-pub first_digit : (text : List ℕ) (from : ℕ) → from < length text → counted_by (digits_on 0 (drop from text)) ≡ counted_by (digits_in (drop from text))
-first_digit text from h = let e = drop-cons text from 0 h in ap (λ (cs : List ℕ). counted_by (digits_on 0 cs)) e ∙ sym (ap (λ (cs : List ℕ). counted_by (digits_in cs)) e)
 
 module _ (text : List ℕ) (n i : ℕ) where
   pub next_digit : (r : ℕ) → i < length text → is_digit (get_or text i 0) ≡ true → r ≡ kept (10 * n + (get_or text i 0 - letter "0"))
@@ -65,8 +72,8 @@ module _ (text : List ℕ) (n i : ℕ) where
       ∙ ap (λ (k : ℕ). counted_by (digits_on m (drop k text))) (add-one i)
       ∙ sym (ap (λ (cs : List ℕ). counted_by (digits_on n cs)) (drop-cons text i 0 h) ∙ ap counted_by (pick_true _ _ _ t))
 
-  pub no_digit : i < length text → is_digit (get_or text i 0) ≡ false → NoNumber ≡ counted_by (digits_on n (drop i text))
+  pub no_digit : i < length text → is_digit (get_or text i 0) ≡ false → None ≡ counted_by (digits_on n (drop i text))
   no_digit h t = sym (ap (λ (cs : List ℕ). counted_by (digits_on n cs)) (drop-cons text i 0 h) ∙ ap counted_by (pick_false _ _ _ t))
 
-  pub last_digit : length text ≤ i → n ≤ most → Number n ≡ counted_by (digits_on n (drop i text))
-  last_digit h l = ap (λ (k : ℕ). Number k) (no_more n l) ∙ ap (λ (cs : List ℕ). counted_by (digits_on n cs)) (sym (drop_of_length-le text h))
+  pub last_digit : length text ≤ i → n ≤ most → Some n ≡ counted_by (digits_on n (drop i text))
+  last_digit h l = ap (λ (k : ℕ). Some k) (no_more n l) ∙ ap (λ (cs : List ℕ). counted_by (digits_on n cs)) (sym (drop_of_length-le text h))

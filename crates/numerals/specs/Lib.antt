@@ -1,5 +1,4 @@
 pub mod Numerals
-pub mod Read
 pub mod Digits
 pub mod Signs
 pub mod Hex

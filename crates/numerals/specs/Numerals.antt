@@ -1,14 +1,10 @@
 -- M-109: "The value is decimal digits, with a minus sign or none; a number of any length is judged". What a text says of a whole number, and the
 -- number that is made of it.
 use Prim.Native.Char.{code as letter}
-use Rattle.std.specs.Prelude.{ℕ, ◌+◌, ◌-◌, ◌*◌, Bool, List, [], ◌∷◌, eqb, ltb, leb, ℤ, pos, neg_ℤ, get_or, drop}
+use Rattle.std.specs.Prelude.{ℕ, ◌+◌, ◌-◌, ◌*◌, Bool, List, [], ◌∷◌, eqb, ltb, leb, ℤ, pos, neg_ℤ, get_or, drop, Option, Some, None}
 use Rattle.std.specs.Int.Signed.{lt_z}
 use Rattle.base.specs.Pick.{pick}
 use Rattle.base.specs.Bits.{both}
-use Rattle.numerals.specs.declared.Numeral.{Numeral}
-use Rattle.numerals.specs.declared.Numeral.TheVariants.{Number, NoNumber}
-use Rattle.numerals.specs.declared.Counted.{Counted}
-use Rattle.numerals.specs.declared.Counted.TheVariants as counted
 
 -- ---- what a text says
 
@@ -58,18 +54,18 @@ unfoldable pub kept : ℕ → ℕ
 kept n = pick (ltb n most) n most
 
 -- what digits come to
-abbrev pub counted_by : Digits → Counted
-counted_by (digits n) = counted.Number (kept n)
-counted_by no_digits = counted.NoNumber
+abbrev pub counted_by : Digits → Option ℕ
+counted_by (digits n) = Some (kept n)
+counted_by no_digits = None
 
 -- so does one with a sign past that, or below its negative
 unfoldable pub capped : ℤ → ℤ
 capped z = pick (lt_z (pos most) z) (pos most) (pick (lt_z z (minus most)) (minus most) z)
 
-abbrev pub numeral_by : Says → Numeral
-numeral_by (number z) = Number (capped z)
-numeral_by nothing = NoNumber
+abbrev pub numeral_by : Says → Option ℤ
+numeral_by (number z) = Some (capped z)
+numeral_by nothing = None
 
 -- the number that is read of a text
-abbrev pub numeral_of : List ℕ → Numeral
+abbrev pub numeral_of : List ℕ → Option ℤ
 numeral_of text = numeral_by (said text)

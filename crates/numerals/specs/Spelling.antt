@@ -1,6 +1,6 @@
 -- Laws: bytes put into a text as digits.
 use Prim.Native.Nat.{ℕ, suc, ◌+◌, ◌*◌, ◌/◌, ◌%◌, ◌<◌, ◌≤◌}
-use Rattle.std.proofs.Common.{arith, add-one, ◌∙◌, sym, length-set, drop_of_length-le, drop-cons, ltb-false}
+use Rattle.std.proofs.Common.{arith, add-one, ◌∙◌, sym, length-set, drop-cons, ltb-false}
 use Rattle.std.specs.Prelude.{Bool, true, false, ◌≡◌, ltb, length, drop, set}
 use mathlib.Core.List.{List, [], ◌∷◌, ◌++◌}
 use Rattle.std.proofs.Math.Path.{refl, ap}
@@ -57,6 +57,3 @@ module _ (s : List ℕ) (to : ℕ) (bs : List ℕ) (i : ℕ) where
           let p : length s ≤ to = ltb-false to (length s) q in
           ap (λ (l : List ℕ). sets l (pick (ltb to (length s)) (to + 2) to) rest) (sets_past s to (digits_of (b ∷ [])) p) ∙ ap (λ (k : ℕ). sets s k rest) (pick_false _ _ _ q)
           ∙ sets_past s to rest p ∙ sym (sets_past s to (digits_of (b ∷ drop (suc i) bs)) p)
-
-  pub spelt_all : length bs ≤ i → s ≡ sets s to (digits_of (drop i bs))
-  spelt_all h = ap (λ (l : List ℕ). sets s to (digits_of l)) (sym (drop_of_length-le bs h))

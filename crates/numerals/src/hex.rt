@@ -34,9 +34,7 @@ pub fn put_digits(bytes: &[u8], text: &mut [u8], at: usize)
     ensures { text.new ≡ sets text.old at (digits_of bytes.now) }
 {
     let mut to = at;
-    let mut i: usize = 0;
-    while i < bytes.len() {
-        to = put_byte(bytes[i], text, to);
-        i += 1;
+    for b in bytes {
+        to = put_byte(*b, text, to);
     }
 }

@@ -1,64 +1,64 @@
 -- Calls of the readers and the writers of setpoint records: whoever makes one is told what its contract says.
-use Rattle.std.specs.Prelude.{ℕ, List, ◌≡◌, refl, ℤ}
+use Rattle.std.specs.Prelude.{ℕ, List, ◌≡◌, refl, ℤ, Result}
 use Rattle.std.proofs.Common.{◌∙◌, ap}
 use contract.Lifetimes.{Lfts}
 use Rattle.std.specs.Borrow.{Bor, MutBor}
 use denote.Triple.Clauses.{at_exit}
 use Rattle.base.specs.Lent.{lent_as}
 use Rattle.setpoints.specs.Pages.{read101, read102, read_either, wrote, write101, write102}
-use Rattle.setpoints.specs.declared.Reading.{Reading}
-use Rattle.setpoints.specs.declared.Writing.{Writing}
+use Rattle.setpoints.specs.declared.Kind.TheVariants.{Degrees, Tenths}
 use Rattle.setpoints.specs.contracts as setpoints
 use Rattle.setpoints.proofs as setpoints_proofs
+use Rattle.setpoints.specs.declared.Fault.{Fault}
 
 -- ---- readers
 
 -- a call of a reader: the page lies anywhere, and the reader's contract permits the answer
-pub record ReadCall (Permits : Lfts 1 → Bor (List ℕ) → Reading → Type 0) (page : List ℕ) (answer : Reading) : Type 2 where
+pub record ReadCall (Permits : Lfts 1 → Bor (List ℕ) → Result ℤ Fault → Type 0) (page : List ℕ) (answer : Result ℤ Fault) : Type 2 where
   pub κs : Lfts 1
   pub bytes : Bor (List ℕ)
   pub from_bytes : bytes.now ≡ page
   pub permits : Permits κs bytes answer
 
--- `setpoints::read_101`, `setpoints::read_102` and `setpoints::read_either`
-abbrev pub Read101 : List ℕ → Reading → Type 2
-Read101 = ReadCall (λ κs bytes r. setpoints_proofs.read_101.Reads.Learnt κs (bytes, tt) r (at_exit setpoints.read_101.ended κs (bytes, tt) (tt, tt)))
+-- `setpoints::read` of each kind, and `setpoints::read_either`
+abbrev pub Read101 : List ℕ → Result ℤ Fault → Type 2
+Read101 = ReadCall (λ κs bytes r. setpoints_proofs.read.Reads.Learnt κs (Degrees, (bytes, tt)) r (at_exit setpoints.read.ended κs (Degrees, (bytes, tt)) (tt, (tt, tt))))
 
-abbrev pub Read102 : List ℕ → Reading → Type 2
-Read102 = ReadCall (λ κs bytes r. setpoints_proofs.read_102.Reads.Learnt κs (bytes, tt) r (at_exit setpoints.read_102.ended κs (bytes, tt) (tt, tt)))
+abbrev pub Read102 : List ℕ → Result ℤ Fault → Type 2
+Read102 = ReadCall (λ κs bytes r. setpoints_proofs.read.Reads.Learnt κs (Tenths, (bytes, tt)) r (at_exit setpoints.read.ended κs (Tenths, (bytes, tt)) (tt, (tt, tt))))
 
-abbrev pub ReadEither : List ℕ → Reading → Type 2
+abbrev pub ReadEither : List ℕ → Result ℤ Fault → Type 2
 ReadEither = ReadCall (λ κs bytes r. setpoints_proofs.read_either.Reads.Learnt κs (bytes, tt) r (at_exit setpoints.read_either.ended κs (bytes, tt) (tt, tt)))
 
-pub told_101 : (page : List ℕ) (r : Reading) → Read101 page r → r ≡ read101 page
+pub told_101 : (page : List ℕ) (r : Result ℤ Fault) → Read101 page r → r ≡ read101 page
 told_101 page r c = c.permits ∙ ap read101 c.from_bytes
 
-pub told_102 : (page : List ℕ) (r : Reading) → Read102 page r → r ≡ read102 page
+pub told_102 : (page : List ℕ) (r : Result ℤ Fault) → Read102 page r → r ≡ read102 page
 told_102 page r c = c.permits ∙ ap read102 c.from_bytes
 
-pub told_either : (page : List ℕ) (r : Reading) → ReadEither page r → r ≡ read_either page
+pub told_either : (page : List ℕ) (r : Result ℤ Fault) → ReadEither page r → r ≡ read_either page
 told_either page r c = c.permits ∙ ap read_either c.from_bytes
 
 -- ---- writers
 
 -- a call of a writer: the page lies anywhere, and the writer's contract permits the answer and what the page holds then
-pub record WriteCall (Permits : Lfts 1 → MutBor (List ℕ) → ℤ → Writing → List ℕ → Type 0) (v : ℤ) (page : List ℕ) (answer : Writing) (after : List ℕ) : Type 2 where
+pub record WriteCall (Permits : Lfts 1 → MutBor (List ℕ) → ℤ → Result (Unit {0}) Fault → List ℕ → Type 0) (v : ℤ) (page : List ℕ) (answer : Result (Unit {0}) Fault) (after : List ℕ) : Type 2 where
   pub κs : Lfts 1
   pub bytes : MutBor (List ℕ)
   pub from_bytes : bytes.now ≡ page
   pub permits : Permits κs bytes v answer after
 
--- `setpoints::write_101` and `setpoints::write_102`
-abbrev pub Write101 : ℤ → List ℕ → Writing → List ℕ → Type 2
-Write101 = WriteCall (λ κs bytes v r after. setpoints_proofs.write_101.Reads.Learnt κs (bytes, (v, tt)) r (at_exit setpoints.write_101.ended κs (bytes, (v, tt)) (after, (tt, tt))))
+-- `setpoints::write` of each kind
+abbrev pub Write101 : ℤ → List ℕ → Result (Unit {0}) Fault → List ℕ → Type 2
+Write101 = WriteCall (λ κs bytes v r after. setpoints_proofs.write.Reads.Learnt κs (Degrees, (bytes, (v, tt))) r (at_exit setpoints.write.ended κs (Degrees, (bytes, (v, tt))) (tt, (after, (tt, tt)))))
 
-abbrev pub Write102 : ℤ → List ℕ → Writing → List ℕ → Type 2
-Write102 = WriteCall (λ κs bytes v r after. setpoints_proofs.write_102.Reads.Learnt κs (bytes, (v, tt)) r (at_exit setpoints.write_102.ended κs (bytes, (v, tt)) (after, (tt, tt))))
+abbrev pub Write102 : ℤ → List ℕ → Result (Unit {0}) Fault → List ℕ → Type 2
+Write102 = WriteCall (λ κs bytes v r after. setpoints_proofs.write.Reads.Learnt κs (Tenths, (bytes, (v, tt))) r (at_exit setpoints.write.ended κs (Tenths, (bytes, (v, tt))) (tt, (after, (tt, tt)))))
 
-pub wrote_by_101 : (v : ℤ) (page : List ℕ) (a : Writing) (after : List ℕ) → Write101 v page a after → wrote a after ≡ write101 v page
+pub wrote_by_101 : (v : ℤ) (page : List ℕ) (a : Result (Unit {0}) Fault) (after : List ℕ) → Write101 v page a after → wrote a after ≡ write101 v page
 wrote_by_101 v page a after c = c.permits ∙ ap (write101 v) c.from_bytes
 
-pub wrote_by_102 : (v : ℤ) (page : List ℕ) (a : Writing) (after : List ℕ) → Write102 v page a after → wrote a after ≡ write102 v page
+pub wrote_by_102 : (v : ℤ) (page : List ℕ) (a : Result (Unit {0}) Fault) (after : List ℕ) → Write102 v page a after → wrote a after ≡ write102 v page
 wrote_by_102 v page a after c = c.permits ∙ ap (write102 v) c.from_bytes
 
 -- ---- there are such calls

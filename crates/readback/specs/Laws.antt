@@ -1,5 +1,5 @@
 -- Laws: what a writer leaves, and what is read of it.
-use Rattle.std.specs.Prelude.{ℕ, ◌+◌, ◌*◌, ◌/◌, ◌%◌, ◌^◌, ◌<◌, ◌≤◌, Bool, true, false, List, [], ◌∷◌, ◌++◌, ◌≡◌, refl, eqb, ℤ, pos, nat_abs, ◌*ℤ◌, length, drop}
+use Rattle.std.specs.Prelude.{ℕ, ◌+◌, ◌*◌, ◌/◌, ◌%◌, ◌^◌, ◌<◌, ◌≤◌, Bool, true, false, List, [], ◌∷◌, ◌++◌, ◌≡◌, refl, eqb, ℤ, pos, nat_abs, ◌*ℤ◌, length, drop, Result, Ok, Err}
 use Rattle.std.proofs.Common.{arith, ◌∙◌, ap, sym, subst, length-drop, eqb-true, lt-ltb}
 use Rattle.base.specs.Pick.{pick, pick_true}
 use Rattle.setpoints.specs.Signed.{signed}
@@ -11,21 +11,18 @@ use Rattle.setpoints.specs.declared.Fault.{Fault}
 use Rattle.setpoints.specs.declared.Fault.TheVariants.{WrongLength, OutOfRange}
 use Rattle.setpoints.specs.declared.Kind.{Kind}
 use Rattle.setpoints.specs.declared.Kind.TheVariants.{Degrees, Tenths}
-use Rattle.setpoints.specs.declared.Reading.TheVariants.{Setpoint}
-use Rattle.setpoints.specs.declared.Writing.{Writing}
-use Rattle.setpoints.specs.declared.Writing.TheVariants.{Written, Refused}
 
 -- what a writer did: it wrote an allowed value on a page, or refused and left all as it was
-pub data Did (f : Form) (v : ℤ) (page : List ℕ) : Writing → List ℕ → Type 0 where
-  wrote_it : length page ≡ page_size → allowed f v ≡ true → Did f v page Written (record_of f v ++ drop (4 + f.bytes) page)
-  left_it : (fault : Fault) → Did f v page (Refused fault) page
+pub data Did (f : Form) (v : ℤ) (page : List ℕ) : Result (Unit {0}) Fault → List ℕ → Type 0 where
+  wrote_it : length page ≡ page_size → allowed f v ≡ true → Did f v page (Ok tt) (record_of f v ++ drop (4 + f.bytes) page)
+  left_it : (fault : Fault) → Did f v page (Err fault) page
 
 pub did : (f : Form) (v : ℤ) (page : List ℕ) → Did f v page (write_page f v page).answer (write_page f v page).page
 unfolding write_page pick
 did f v page = by (eqb (length page) page_size) (allowed f v) refl refl
   where
     out : Bool → Bool → Wrote
-    out s a = pick s (pick a (wrote Written (record_of f v ++ drop (4 + f.bytes) page)) (wrote (Refused OutOfRange) page)) (wrote (Refused WrongLength) page)
+    out s a = pick s (pick a (wrote (Ok tt) (record_of f v ++ drop (4 + f.bytes) page)) (wrote (Err OutOfRange) page)) (wrote (Err WrongLength) page)
 
     by : (s a : Bool) → eqb (length page) page_size ≡ s → allowed f v ≡ a → Did f v page (out s a).answer (out s a).page
     by true true e t = wrote_it (eqb-true _ _ e) t
@@ -33,7 +30,7 @@ did f v page = by (eqb (length page) page_size) (allowed f v) refl refl
     by false a e t = left_it WrongLength
 
 -- so of whatever comes to what is written
-pub did_by : (f : Form) (v : ℤ) (page : List ℕ) (a : Writing) (after : List ℕ) → wrote a after ≡ write_page f v page → Did f v page a after
+pub did_by : (f : Form) (v : ℤ) (page : List ℕ) (a : Result (Unit {0}) Fault) (after : List ℕ) → wrote a after ≡ write_page f v page → Did f v page a after
 did_by f v page a after e = subst (λ (w : Wrote). Did f v page w.answer w.page) (sym e) (did f v page)
 
 -- ---- a record that was written
@@ -76,7 +73,7 @@ value_written kind v rest t =
 
 -- so its own reader gives the setpoint back
 pub read_written : (kind : Kind) (v : ℤ) (page : List ℕ) → length page ≡ page_size → allowed (form_of kind) v ≡ true
-    → read_page (form_of kind ∷ []) (written kind v (drop (4 + (form_of kind).bytes) page)) ≡ Setpoint (v *ℤ pos (form_of kind).worth)
+    → read_page (form_of kind ∷ []) (written kind v (drop (4 + (form_of kind).bytes) page)) ≡ Ok (v *ℤ pos (form_of kind).worth)
 unfolding judged
 read_written kind v page e t =
     let rest = drop (4 + (form_of kind).bytes) page in

@@ -1,5 +1,5 @@
 -- Document 02, M-109: 13, 14 and 15 exactly when, in their order, by calls of the readers and the writers.
-use Rattle.std.specs.Prelude.{ℕ, Bool, true, false, List, [], ◌∷◌, ◌⊎◌, ◌≡◌, refl, eqb, ℤ, pos, ◌*ℤ◌, length}
+use Rattle.std.specs.Prelude.{ℕ, Bool, true, false, List, [], ◌∷◌, ◌⊎◌, ◌≡◌, refl, eqb, ℤ, pos, ◌*ℤ◌, length, Result}
 use Rattle.std.proofs.Common.{arith, inl, inr, ◌∙◌, sym, subst, eqb-true}
 use Rattle.std.proofs.Math.Path.{ap}
 use Rattle.std.proofs.lemmas.Bool.{eqb-false}
@@ -8,8 +8,7 @@ use Rattle.base.specs.Pick.{pick, pick_of}
 use Rattle.setpoints.specs.Kinds.{Form, degrees, tenths, allowed}
 use Rattle.setpoints.specs.Pages.{page_size, length_in, kind_in, length_of, value_in, judged, read_record, read_among, read_page, Wrote, wrote, write_page, Answered, refused, answered_by, written_by}
 use Rattle.setpoints.specs.Readers.{own_101, other_than_101}
-use Rattle.setpoints.specs.declared.Reading.{Reading}
-use Rattle.setpoints.specs.declared.Writing.{Writing}
+use Rattle.setpoints.specs.declared.Fault.{Fault}
 use Rattle.readback.specs.Calls.{Read101, Read102, ReadEither, told_101, told_102, told_either, Write101, Write102, wrote_by_101, wrote_by_102}
 use Rattle.readback.specs.Refusals.{Own, ReadAs, ReadAsEither, WroteAs}
 use Rattle.readback.specs.Tests.{chain, is_13, is_14, is_15, is_given, writes, wrote_13, wrote_14, wrote_15, wrote_well}
@@ -60,14 +59,14 @@ module _ (f : Form) (page : List ℕ) where
         given = λ z. then_exactly (is_given sized own whole fine given z) (both_exactly is_page (both_exactly is_own (both_exactly is_whole itself)));
       }
 
-  reads_as : (r : Reading) → r ≡ read_page (f ∷ []) page → ReadAs f page (answered_by r)
+  reads_as : (r : Result ℤ Fault) → r ≡ read_page (f ∷ []) page → ReadAs f page (answered_by r)
   reads_as r e = subst (ReadAs f page) (sym (ap answered_by e ∙ reads_by)) by_chain
 
 -- THEOREM: 13, 14 and 15 of the reader of kind 101, and of that of kind 102
-pub refused_101 : (page : List ℕ) (r : Reading) → Read101 page r → ReadAs degrees page (answered_by r)
+pub refused_101 : (page : List ℕ) (r : Result ℤ Fault) → Read101 page r → ReadAs degrees page (answered_by r)
 refused_101 page r c = reads_as degrees page r (told_101 page r c)
 
-pub refused_102 : (page : List ℕ) (r : Reading) → Read102 page r → ReadAs tenths page (answered_by r)
+pub refused_102 : (page : List ℕ) (r : Result ℤ Fault) → Read102 page r → ReadAs tenths page (answered_by r)
 refused_102 page r c = reads_as tenths page r (told_102 page r c)
 
 -- ---- the common reader
@@ -107,7 +106,7 @@ of_102 page a n q =
         back (inr p) = p
 
 -- THEOREM: 13, 14 and 15 of the common reader
-pub refused_either : (page : List ℕ) (r : Reading) → ReadEither page r → ReadAsEither page (answered_by r)
+pub refused_either : (page : List ℕ) (r : Result ℤ Fault) → ReadEither page r → ReadAsEither page (answered_by r)
 refused_either page r c = by (eqb (kind_in page) 101) refl
   where
     by : (t : Bool) → eqb (kind_in page) 101 ≡ t → ReadAsEither page (answered_by r)
@@ -126,7 +125,7 @@ module _ (f : Form) (v : ℤ) (page : List ℕ) where
       pick_of (λ (w : Wrote). written_by w.answer) _ _ _
       ∙ ap (λ (x : Answered). pick (eqb (length page) page_size) x (refused 14)) (pick_of (λ (w : Wrote). written_by w.answer) _ _ _)
 
-  wrote_as : (a : Writing) (after : List ℕ) → wrote a after ≡ write_page f v page → WroteAs f v page (written_by a)
+  wrote_as : (a : Result (Unit {0}) Fault) (after : List ℕ) → wrote a after ≡ write_page f v page → WroteAs f v page (written_by a)
   wrote_as a after e = subst (WroteAs f v page) (sym (ap (λ (w : Wrote). written_by w.answer) e ∙ writes_by)) by_writes
     where
       by_writes : WroteAs f v page (writes (eqb (length page) page_size) (allowed f v))
@@ -140,8 +139,8 @@ module _ (f : Form) (v : ℤ) (page : List ℕ) where
           }
 
 -- THEOREM: 14 and 15 of the writers
-pub refused_write_101 : (d : ℤ) (page after : List ℕ) (a : Writing) → Write101 d page a after → WroteAs degrees d page (written_by a)
+pub refused_write_101 : (d : ℤ) (page after : List ℕ) (a : Result (Unit {0}) Fault) → Write101 d page a after → WroteAs degrees d page (written_by a)
 refused_write_101 d page after a c = wrote_as degrees d page a after (wrote_by_101 d page a after c)
 
-pub refused_write_102 : (z : ℤ) (page after : List ℕ) (a : Writing) → Write102 z page a after → WroteAs tenths z page (written_by a)
+pub refused_write_102 : (z : ℤ) (page after : List ℕ) (a : Result (Unit {0}) Fault) → Write102 z page a after → WroteAs tenths z page (written_by a)
 refused_write_102 z page after a c = wrote_as tenths z page a after (wrote_by_102 z page a after c)

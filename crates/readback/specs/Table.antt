@@ -1,26 +1,26 @@
 -- The table of M-109: six pages by their beginnings, whatever follows, and what each reader answers.
-use Rattle.std.specs.Prelude.{ℕ, true, false, List, [], ◌∷◌, ◌++◌, ◌≡◌, refl, ℤ, pos, length}
+use Rattle.std.specs.Prelude.{ℕ, true, false, List, [], ◌∷◌, ◌++◌, ◌≡◌, refl, ℤ, pos, length, Result}
 use Rattle.std.proofs.Common.{◌∙◌, ap, eq-eqb}
 use Rattle.base.specs.Bits.{both}
 use Rattle.base.specs.Pick.{pick, pick_true}
 use Rattle.setpoints.specs.Signed.{signed}
-use Rattle.setpoints.specs.declared.Reading.{Reading}
 use Rattle.readback.specs.Calls.{Read101, Read102, ReadEither, told_101, told_102, told_either}
 use Rattle.setpoints.specs.Kinds.{Form, degrees, tenths, between, allowed}
 use Rattle.setpoints.specs.Pages.{page_size, judged, read_record, read_among, read_page, Answered, setpoint, refused, answered_by}
+use Rattle.setpoints.specs.declared.Fault.{Fault}
 
 -- what `read`, `read101` and `read102` answer of a page that begins so, by calls of the three readers
 abbrev pub Row : List ℕ → Answered → Answered → Answered → Type 2
-Row begins either old new = (rest : List ℕ) → length (begins ++ rest) ≡ page_size → (x y z : Reading)
+Row begins either old new = (rest : List ℕ) → length (begins ++ rest) ≡ page_size → (x y z : Result ℤ Fault)
     → ReadEither (begins ++ rest) x → Read101 (begins ++ rest) y → Read102 (begins ++ rest) z
     → (answered_by x ≡ either) × ((answered_by y ≡ old) × (answered_by z ≡ new))
 
 -- what a reader answers on a page is what its record gives
-on_page : (fs : List Form) (page : List ℕ) (r : Reading) → length page ≡ page_size → r ≡ read_page fs page → answered_by r ≡ answered_by (read_among fs page)
+on_page : (fs : List Form) (page : List ℕ) (r : Result ℤ Fault) → length page ≡ page_size → r ≡ read_page fs page → answered_by r ≡ answered_by (read_among fs page)
 unfolding read_page
 on_page fs page r e h = ap answered_by (h ∙ pick_true _ _ _ (eq-eqb (length page) page_size e))
 
-row : (page : List ℕ) → length page ≡ page_size → (x y z : Reading) → ReadEither page x → Read101 page y → Read102 page z
+row : (page : List ℕ) → length page ≡ page_size → (x y z : Result ℤ Fault) → ReadEither page x → Read101 page y → Read102 page z
     → (answered_by x ≡ answered_by (read_among (degrees ∷ tenths ∷ []) page))
     × ((answered_by y ≡ answered_by (read_among (degrees ∷ []) page)) × (answered_by z ≡ answered_by (read_among (tenths ∷ []) page)))
 row page e x y z a b c =

@@ -5,10 +5,9 @@
 mod words;
 
 use console::{Outputs, input};
-use numerals::Numeral;
-use setpoints::{Reading, Writing};
+use setpoints::{Fault, Kind};
 use std::io::{Stderr, Stdin};
-use words::{Command, Reader, Writer};
+use words::Command;
 
 // The most that is read: one byte more than a page has, so that a page is told from what only begins with one.
 const BYTES_MOST: usize = setpoints::PAGE_SIZE + 1;
@@ -22,31 +21,28 @@ fn say_usage(errors: Stderr) {
 }
 
 // Writes what a reader answered.
-fn say_reading(to: Outputs, answer: Reading) {
+fn say_reading(to: Outputs, answer: Result<i64, Fault>) {
     match answer {
-        Reading::Setpoint(tenths) => {
-            if tenths < 0 {
-                console::say_line(to, b"-", numerals::magnitude(tenths));
-            } else {
-                console::say_line(to, b"", numerals::magnitude(tenths));
-            }
+        Ok(tenths) => {
+            let sign: &[u8] = if tenths < 0 { b"-" } else { b"" };
+            console::say_line(to, sign, numerals::magnitude(tenths));
         }
-        Reading::Refused(fault) => console::say_refused(to, setpoints::number_of(fault)),
+        Err(fault) => console::say_refused(to, setpoints::number_of(fault)),
     }
 }
 
 // Writes what a writer answered: the page that it left, or the refusal.
-fn say_page(to: Outputs, answer: Writing, page: &[u8]) {
+fn say_page(to: Outputs, answer: Result<(), Fault>, page: &[u8]) {
     match answer {
-        Writing::Written => {
+        Ok(()) => {
             console::is_written(to, page);
         }
-        Writing::Refused(fault) => console::say_refused(to, setpoints::number_of(fault)),
+        Err(fault) => console::say_refused(to, setpoints::number_of(fault)),
     }
 }
 
-// Reads the page, and writes what its reader answers.
-fn read(mut input: Stdin, to: Outputs, reader: Reader) {
+// Reads the page, and writes what its reader answers: the one of a kind, or the one of either.
+fn read(mut input: Stdin, to: Outputs, kind: Option<Kind>) {
     let mut bytes = [0u8; BYTES_MOST];
     let hand = input::fill(&mut input, to.errors, b"standard input", &mut bytes);
     if hand.failed {
@@ -54,16 +50,15 @@ fn read(mut input: Stdin, to: Outputs, reader: Reader) {
     }
     let n = input::within(hand.bytes, &bytes);
     let page = &bytes[..n];
-    let answer = match reader {
-        Reader::Either => setpoints::read_either(page),
-        Reader::Kind101 => setpoints::read_101(page),
-        Reader::Kind102 => setpoints::read_102(page),
+    let answer = match kind {
+        Some(kind) => setpoints::read(kind, page),
+        None => setpoints::read_either(page),
     };
     say_reading(to, answer);
 }
 
 // Reads the page, and writes what its writer answers.
-fn write(mut input: Stdin, to: Outputs, writer: Writer, value: i64) {
+fn write(mut input: Stdin, to: Outputs, kind: Kind, value: i64) {
     let mut bytes = [0u8; BYTES_MOST];
     let hand = input::fill(&mut input, to.errors, b"standard input", &mut bytes);
     if hand.failed {
@@ -71,10 +66,7 @@ fn write(mut input: Stdin, to: Outputs, writer: Writer, value: i64) {
     }
     let n = input::within(hand.bytes, &bytes);
     let page = &mut bytes[..n];
-    let answer = match writer {
-        Writer::Kind101 => setpoints::write_101(page, value),
-        Writer::Kind102 => setpoints::write_102(page, value),
-    };
+    let answer = setpoints::write(kind, page, value);
     say_page(to, answer, page);
 }
 
@@ -86,28 +78,17 @@ fn main(rt: HostRuntime) {
     };
     let mut word = [0u8; words::WORD_MOST];
     let n = console::argument(&rt, 1, &mut word);
-    let command = words::command_of(&word[..n]);
-    match command {
-        Command::Read(reader) => {
-            if console::argument_count(&rt) == 2 {
-                read(input, to, reader);
-            } else {
-                say_usage(to.errors);
+    let count = console::argument_count(&rt);
+    match words::command_of(&word[..n]) {
+        Some(Command::Read(kind)) if count == 2 => read(input, to, kind),
+        Some(Command::Write(kind)) if count == 3 => {
+            let mut text = console::argument_room();
+            let m = console::argument(&rt, 2, &mut text);
+            match numerals::read_number(&text[..m]) {
+                Some(value) => write(input, to, kind, value),
+                None => say_usage(to.errors),
             }
         }
-        Command::Write(writer) => {
-            if console::argument_count(&rt) == 3 {
-                let mut text = console::argument_room();
-                let m = console::argument(&rt, 2, &mut text);
-                let said = numerals::read_number(&text[..m]);
-                match said {
-                    Numeral::Number(value) => write(input, to, writer, value),
-                    Numeral::NoNumber => say_usage(to.errors),
-                }
-            } else {
-                say_usage(to.errors);
-            }
-        }
-        Command::Unknown => say_usage(to.errors),
+        _ => say_usage(to.errors),
     }
 }

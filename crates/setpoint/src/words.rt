@@ -1,47 +1,25 @@
 // The words of the command line.
-
-// Which records are read.
-#[derive(Clone, Copy)]
-pub enum Reader {
-    Either,
-    Kind101,
-    Kind102,
-}
-
-// Which records are written.
-#[derive(Clone, Copy)]
-pub enum Writer {
-    Kind101,
-    Kind102,
-}
+use setpoints::Kind;
 
 // What the program is asked to do.
-#[derive(Clone, Copy)]
+#[derive(Clone, Copy, Debug, PartialEq, Eq)]
 pub enum Command {
-    Read(Reader),
-    Write(Writer),
-    Unknown,
+    // with records of one kind alone, or of either
+    Read(Option<Kind>),
+    Write(Kind),
 }
 
 // Room for a word: what does not fit is none.
 pub const WORD_MOST: usize = 8;
 
 // The command that a word names.
-pub fn command_of(word: &[u8]) -> Command {
-    if base::same_bytes(word, b"read") {
-        return Command::Read(Reader::Either);
+pub fn command_of(word: &[u8]) -> Option<Command> {
+    match word {
+        b"read" => Some(Command::Read(None)),
+        b"read101" => Some(Command::Read(Some(Kind::Degrees))),
+        b"read102" => Some(Command::Read(Some(Kind::Tenths))),
+        b"write101" => Some(Command::Write(Kind::Degrees)),
+        b"write102" => Some(Command::Write(Kind::Tenths)),
+        _ => None,
     }
-    if base::same_bytes(word, b"read101") {
-        return Command::Read(Reader::Kind101);
-    }
-    if base::same_bytes(word, b"read102") {
-        return Command::Read(Reader::Kind102);
-    }
-    if base::same_bytes(word, b"write101") {
-        return Command::Write(Writer::Kind101);
-    }
-    if base::same_bytes(word, b"write102") {
-        return Command::Write(Writer::Kind102);
-    }
-    Command::Unknown
 }

@@ -1,11 +1,13 @@
 -- Laws: values that are allowed, as words of 64 bits hold them, and their setpoints.
-use Rattle.std.specs.Prelude.{ℕ, suc, ◌*◌, ◌≤◌, Bool, true, false, ◌≡◌, refl, T, ℤ, pos, negsuc, neg_ℤ, nat_abs, ◌*ℤ◌}
-use Rattle.std.proofs.Common.{arith, true≢false, ◌∙◌, subst, leb-true, Fits, SFits, to_z, of_z}
+use Rattle.std.specs.Prelude.{ℕ, suc, ◌*◌, ◌≤◌, ◌&&◌, cond, leb, ltb, Bool, true, false, ◌≡◌, refl, T, ℤ, pos, negsuc, neg_ℤ, nat_abs, ◌*ℤ◌, Ok, Err}
+use Rattle.std.proofs.Common.{Less, Equal, Greater, arith, true≢false, ◌∙◌, subst, leb-true, Fits, SFits, to_z, of_z}
 use Rattle.std.proofs.Math.Path.{ap, sym}
-use Rattle.std.specs.Int.Signed.{non_neg, le_z}
+use Rattle.std.specs.Int.Signed.{non_neg, le_z, lt_z}
 use Rattle.std.specs.Int.{w16, w64}
+use Rattle.std.specs.Ordering.{is_le, int_cmp}
+use Rattle.std.proofs.lemmas.Bool.Decides.{nat_tests}
 use Rattle.std.proofs.lemmas.Int.{to_z-of_z}
-use Rattle.base.specs.Pick.{pick_true, pick_false}
+use Rattle.base.specs.Pick.{pick, pick_true, pick_false}
 use Rattle.base.specs.Bits.{both}
 use Rattle.base.specs.Both.{both_holds}
 use Rattle.setpoints.specs.Kinds.{form_of, between, allowed}
@@ -13,21 +15,24 @@ use Rattle.setpoints.specs.Pages.{judged}
 use Rattle.setpoints.specs.declared.Fault.TheVariants.{OutOfRange}
 use Rattle.setpoints.specs.declared.Kind.{Kind}
 use Rattle.setpoints.specs.declared.Kind.TheVariants.{Degrees, Tenths}
-use Rattle.setpoints.specs.declared.Reading.TheVariants.{Setpoint, Refused}
 
--- a test of two numbers by their words
-pub word_test : (a b : ℤ) → SFits w64 a → SFits w64 b → le_z (to_z w64 (of_z w64 a)) (to_z w64 (of_z w64 b)) ≡ le_z a b
-word_test a b f g = λ j. le_z (to_z-of_z w64 a f j) (to_z-of_z w64 b g j)
+-- a number between two others, as the library tests it: by order
+le_nat : (a b : ℕ) → is_le (cond (ltb a b) Less (cond (ltb b a) Greater Equal)) ≡ leb a b
+le_nat a b = grind (arith, nat_tests)
 
--- a number between two others, by the two tests
-module _ (least v most : ℤ) (f : SFits w64 least) (g : SFits w64 v) where
-  pub between_yes : SFits w64 most → le_z (to_z w64 (of_z w64 least)) (to_z w64 (of_z w64 v)) ≡ true → le_z (to_z w64 (of_z w64 v)) (to_z w64 (of_z w64 most)) ≡ between least v most
-  unfolding between both
-  between_yes h t = word_test v most g h ∙ sym (pick_true _ _ _ (sym (word_test least v f g) ∙ t))
+le_int : (a b : ℤ) → is_le (cond (lt_z a b) Less (cond (lt_z b a) Greater Equal)) ≡ le_z a b
+le_int (pos a) (pos b) = le_nat a b
+le_int (pos a) (negsuc b) = refl
+le_int (negsuc a) (pos b) = refl
+le_int (negsuc a) (negsuc b) = le_nat b a
 
-  pub between_no : le_z (to_z w64 (of_z w64 least)) (to_z w64 (of_z w64 v)) ≡ false → false ≡ between least v most
-  unfolding between both
-  between_no t = sym (pick_false _ _ _ (sym (word_test least v f g) ∙ t))
+pub in_range : (least v most : ℤ) → (is_le (int_cmp least v) && is_le (int_cmp v most)) ≡ between least v most
+unfolding between both pick
+in_range least v most = rw (le_int least v, le_int v most) (by (le_z least v))
+  where
+    by : (t : Bool) → (t && le_z v most) ≡ pick t (le_z v most) false
+    by true = refl
+    by false = refl
 
 -- a number from one that is not negative on is itself not negative
 pub at_least : (least most : ℕ) (v : ℤ) → between (pos least) v (pos most) ≡ true → (pos (nat_abs v) ≡ v) × ((least ≤ nat_abs v) × (nat_abs v ≤ most))
@@ -60,19 +65,19 @@ module _ (kind : Kind) (v : ℤ) (r : Bool) (f : SFits w64 v) (a : r ≡ allowed
   pub is_allowed : allowed (form_of kind) v ≡ r
   is_allowed = sym (a ∙ ap (allowed (form_of kind)) (to_z-of_z w64 v f))
 
-  yes : (z : ℤ) → r ≡ true → z ≡ v *ℤ pos (form_of kind).worth → Setpoint z ≡ judged (form_of kind) v
+  yes : (z : ℤ) → r ≡ true → z ≡ v *ℤ pos (form_of kind).worth → Ok z ≡ judged (form_of kind) v
   unfolding judged
-  yes z t e = ap (λ (x : ℤ). Setpoint x) e ∙ sym (pick_true _ _ _ (is_allowed ∙ t))
+  yes z t e = ap (λ (x : ℤ). Ok x) e ∙ sym (pick_true _ _ _ (is_allowed ∙ t))
 
   pub judged_degrees : kind ≡ Degrees → r ≡ true → SFits w64 (to_z w64 (of_z w64 v) *ℤ pos 10)
-      → Setpoint (to_z w64 (of_z w64 (to_z w64 (of_z w64 v) *ℤ pos 10))) ≡ judged (form_of kind) v
+      → Ok (to_z w64 (of_z w64 (to_z w64 (of_z w64 v) *ℤ pos 10))) ≡ judged (form_of kind) v
   judged_degrees e t g =
       yes _ t
       (to_z-of_z w64 _ g ∙ ap (λ (x : ℤ). x *ℤ pos 10) (to_z-of_z w64 v f) ∙ ap (λ (k : Kind). v *ℤ pos (form_of k).worth) (sym e))
 
-  pub judged_tenths : kind ≡ Tenths → r ≡ true → Setpoint (to_z w64 (of_z w64 v)) ≡ judged (form_of kind) v
+  pub judged_tenths : kind ≡ Tenths → r ≡ true → Ok (to_z w64 (of_z w64 v)) ≡ judged (form_of kind) v
   judged_tenths e t = yes _ t (to_z-of_z w64 v f ∙ sym (times_one v) ∙ ap (λ (k : Kind). v *ℤ pos (form_of k).worth) (sym e))
 
-  pub judged_none : r ≡ false → Refused OutOfRange ≡ judged (form_of kind) v
+  pub judged_none : r ≡ false → Err OutOfRange ≡ judged (form_of kind) v
   unfolding judged
   judged_none t = sym (pick_false _ _ _ (is_allowed ∙ t))

@@ -1,5 +1,5 @@
 -- Laws: a record put byte by byte at the start of a page.
-use Rattle.std.specs.Prelude.{ℕ, zero, suc, ◌+◌, ◌/◌, ◌%◌, ◌<◌, Bool, true, false, List, [], ◌∷◌, ◌++◌, ◌≡◌, refl, ℤ, nat_abs, length, set}
+use Rattle.std.specs.Prelude.{ℕ, zero, suc, ◌+◌, ◌/◌, ◌%◌, ◌<◌, Bool, true, false, List, [], ◌∷◌, ◌++◌, ◌≡◌, refl, ℤ, nat_abs, length, set, Ok, Err}
 use Rattle.std.proofs.Common.{arith, ◌∙◌, eq-eqb, ne_eqb, SFits, to_z, of_z}
 use Rattle.std.proofs.Math.Path.{ap, sym}
 use Rattle.std.proofs.Math.IntN.{pos}
@@ -13,7 +13,6 @@ use Rattle.setpoints.specs.Judging.{allowed_few, is_allowed}
 use Rattle.setpoints.specs.declared.Fault.TheVariants.{WrongLength, OutOfRange}
 use Rattle.setpoints.specs.declared.Kind.{Kind}
 use Rattle.setpoints.specs.declared.Kind.TheVariants.{Degrees, Tenths}
-use Rattle.setpoints.specs.declared.Writing.TheVariants.{Written, Refused}
 
 -- so many bytes of a number put from an offset on
 abbrev pub put_bytes : ℕ → ℕ → ℕ → List ℕ → List ℕ
@@ -58,19 +57,19 @@ put_is kind n [] h = absurd (let z : 0 ≡ 32 = h in omega arith)
 
 -- ---- what a writer leaves
 module _ (kind : Kind) (v : ℤ) (page : List ℕ) where
-  pub wrote_nothing : (length page ≡ page_size → ⊥) → wrote (Refused WrongLength) page ≡ write_page (form_of kind) v page
+  pub wrote_nothing : (length page ≡ page_size → ⊥) → wrote (Err WrongLength) page ≡ write_page (form_of kind) v page
   unfolding write_page
   wrote_nothing n = sym (pick_false _ _ _ (ne_eqb (length page) page_size n))
 
   module _ (r : Bool) (f : SFits w64 v) (e : length page ≡ page_size) (a : r ≡ allowed (form_of kind) (to_z w64 (of_z w64 v))) where
-    pub wrote_none : r ≡ false → wrote (Refused OutOfRange) page ≡ write_page (form_of kind) v page
+    pub wrote_none : r ≡ false → wrote (Err OutOfRange) page ≡ write_page (form_of kind) v page
     unfolding write_page
     wrote_none t = sym (pick_true _ _ _ (eq-eqb (length page) page_size e) ∙ pick_false _ _ _ (is_allowed kind v r f a ∙ t))
 
-    pub wrote_record : (q : List ℕ) → r ≡ true → q ≡ put_record (form_of kind) (nat_abs (to_z w64 (of_z w64 v))) page → wrote Written q ≡ write_page (form_of kind) v page
+    pub wrote_record : (q : List ℕ) → r ≡ true → q ≡ put_record (form_of kind) (nat_abs (to_z w64 (of_z w64 v))) page → wrote (Ok tt) q ≡ write_page (form_of kind) v page
     unfolding write_page
     wrote_record q t h =
         let p = allowed_few kind v (is_allowed kind v r f a ∙ t) in
         let z : pos (nat_abs (to_z w64 (of_z w64 v))) ≡ v = ap (λ (x : ℤ). pos (nat_abs x)) (to_z-of_z w64 v f) ∙ p.0 in
-        ap (wrote Written) (h ∙ put_is kind _ page e ∙ ap (λ (x : ℤ). record_of (form_of kind) x ++ drop (4 + (form_of kind).bytes) page) z)
+        ap (wrote (Ok tt)) (h ∙ put_is kind _ page e ∙ ap (λ (x : ℤ). record_of (form_of kind) x ++ drop (4 + (form_of kind).bytes) page) z)
         ∙ sym (pick_true _ _ _ (eq-eqb (length page) page_size e) ∙ pick_true _ _ _ (is_allowed kind v r f a ∙ t))

@@ -1,6 +1,6 @@
 // What each kind of setpoint record says of its records.
 ghost use Rattle.std.specs.Prelude.{◌≡◌};
-ghost use Rattle.setpoints.specs.Kinds.{form_of, allowed, between};
+ghost use Rattle.setpoints.specs.Kinds.{form_of, allowed};
 ghost use Rattle.setpoints.specs.Pages.{length_of};
 
 use crate::Kind;
@@ -25,19 +25,12 @@ pub fn length(kind: Kind) -> u16
     }
 }
 
-// A number lies between two others, or is one of them.
-fn is_between(least: i64, v: i64, most: i64) -> bool
-    ensures { result ≡ between least v most }
-{
-    if least <= v { v <= most } else { false }
-}
-
 // A value is allowed.
-pub fn is_allowed(kind: Kind, v: i64) -> bool
-    ensures { result ≡ allowed (form_of kind) v }
+pub fn is_allowed(kind: Kind, value: i64) -> bool
+    ensures { result ≡ allowed (form_of kind) value }
 {
     match kind {
-        Kind::Degrees => is_between(10, v, 35),
-        Kind::Tenths => is_between(180, v, 270),
+        Kind::Degrees => (10..=35).contains(&value),
+        Kind::Tenths => (180..=270).contains(&value),
     }
 }

@@ -1,5 +1,5 @@
-// Setpoint records, old and new: page 0 of a unit holds one, of kind 101 in whole degrees or of kind 102 in tenths. A reader of each kind and
-// one of either, and a writer of each.
+// Setpoint records, old and new: page 0 of a unit holds one, of kind 101 in whole degrees or of kind 102 in tenths. A reader of records of one
+// kind and one of either, and a writer of records of one kind.
 #![tactic(auto)]
 
 mod kinds;
@@ -10,15 +10,15 @@ mod writers;
 ghost use Rattle.std.specs.Prelude.{◌≡◌};
 ghost use Rattle.setpoints.specs.Kinds.{number_of_fault};
 
-pub use readers::{read_101, read_102, read_either};
+pub use readers::{read, read_either};
 pub use signed::{signed_byte, signed_pair};
-pub use writers::{write_101, write_102};
+pub use writers::write;
 
 // The bytes of a page.
 pub const PAGE_SIZE: usize = 32;
 
 // A kind of setpoint record.
-#[derive(Clone, Copy)]
+#[derive(Clone, Copy, Debug, PartialEq, Eq)]
 pub enum Kind {
     // kind 101, whole degrees Celsius
     Degrees,
@@ -26,38 +26,18 @@ pub enum Kind {
     Tenths,
 }
 
-// Why a page or a value is refused.
-#[derive(Clone, Copy)]
+// Why a page or a value is refused, by the number of the refusal.
+#[derive(Clone, Copy, Debug, PartialEq, Eq)]
 pub enum Fault {
-    // refusal 13
-    AnotherKind,
-    // refusal 14, of the page or of its record
-    WrongLength,
-    // refusal 15
-    OutOfRange,
-}
-
-// What a reader answers: the setpoint in tenths, or a refusal.
-#[derive(Clone, Copy)]
-pub enum Reading {
-    Setpoint(i64),
-    Refused(Fault),
-}
-
-// What a writer answers.
-#[derive(Clone, Copy)]
-pub enum Writing {
-    Written,
-    Refused(Fault),
+    AnotherKind = 13,
+    // of the page or of its record
+    WrongLength = 14,
+    OutOfRange = 15,
 }
 
 // The number of a refusal.
-pub fn number_of(f: Fault) -> u8
-    ensures { result ≡ number_of_fault f }
+pub fn number_of(fault: Fault) -> u8
+    ensures { result ≡ number_of_fault fault }
 {
-    match f {
-        Fault::AnotherKind => 13,
-        Fault::WrongLength => 14,
-        Fault::OutOfRange => 15,
-    }
+    fault as u8
 }

@@ -1,17 +1,18 @@
 // A setpoint record written to a page.
 ghost use Rattle.std.specs.Prelude.{◌≡◌};
 ghost use Rattle.setpoints.specs.Kinds.{form_of};
-ghost use Rattle.setpoints.specs.Pages.{wrote, write_page, write101, write102};
+ghost use Rattle.setpoints.specs.Pages.{wrote, write_page};
 ghost use Rattle.setpoints.specs.Puts.{put_bytes, put_record};
 
-use crate::{Fault, Kind, PAGE_SIZE, Writing, kinds};
+use crate::{Fault, Kind, PAGE_SIZE, kinds};
 
 // A number put as two bytes, low byte first.
 fn put_pair(page: &mut [u8], at: u8, n: u16)
     ensures { page.new ≡ put_bytes 2 at n page.old }
 {
-    base::put_at(page, at as usize, (n % 256) as u8);
-    base::put_at(page, (at as usize) + 1, (n / 256) as u8);
+    let [low, high] = n.to_le_bytes();
+    base::put_at(page, usize::from(at), low);
+    base::put_at(page, usize::from(at) + 1, high);
 }
 
 // The record with a value, put at the start of a page.
@@ -26,30 +27,16 @@ fn put_record(page: &mut [u8], kind: Kind, n: u16)
     }
 }
 
-// The page with a record of that kind, where the value is allowed.
-fn write_as(kind: Kind, page: &mut [u8], v: i64) -> Writing
-    ensures { wrote result page.new ≡ write_page (form_of kind) v page.old }
+// The page with a record of that kind, where the value is allowed: whole degrees or tenths.
+pub fn write(kind: Kind, page: &mut [u8], value: i64) -> Result<(), Fault>
+    ensures { wrote result page.new ≡ write_page (form_of kind) value page.old }
 {
     if page.len() != PAGE_SIZE {
-        return Writing::Refused(Fault::WrongLength);
+        return Err(Fault::WrongLength);
     }
-    if kinds::is_allowed(kind, v) {
-        put_record(page, kind, v as u16);
-        return Writing::Written;
+    if !kinds::is_allowed(kind, value) {
+        return Err(Fault::OutOfRange);
     }
-    Writing::Refused(Fault::OutOfRange)
-}
-
-// A page with a record of kind 101, of whole degrees.
-pub fn write_101(page: &mut [u8], degrees: i64) -> Writing
-    ensures { wrote result page.new ≡ write101 degrees page.old }
-{
-    write_as(Kind::Degrees, page, degrees)
-}
-
-// A page with a record of kind 102, of tenths.
-pub fn write_102(page: &mut [u8], tenths: i64) -> Writing
-    ensures { wrote result page.new ≡ write102 tenths page.old }
-{
-    write_as(Kind::Tenths, page, tenths)
+    put_record(page, kind, value as u16);
+    Ok(())
 }

@@ -1,23 +1,35 @@
-use lib.ListN.{drop}
-use mathlib.Core.Path.{◌∙◌, ap, sym}
-use borrow.Author.Tests.{eq-eqb, ne_eqb}
-use lib.IntN.{pos}
-use Rattle.base.specs.Pick.{pick_true, pick_false}
-use Rattle.numerals.specs.Numerals.{digits_in, minus, said, numeral_by}
-use Rattle.numerals.specs.Read.{with_sign}
-use Rattle.numerals.specs.Signs.{read_plain, read_minus}
+use Rattle.std.proofs.Common.{◌≡◌, ◌≤◌, ◌∙◌, ap, sym, ℤ, Some}
+use Rattle.numerals.specs.Numerals.{most}
+use Rattle.numerals.specs.Signs.{some_most, minus_number, minus_none, plain_number, plain_none, number_fits, number_word, minus_fits, minus_word}
 use Rattle.numerals.proofs.read_number.Goals as goal
 
-pub returns-then-byte_at-eq45 : goal.returns-then-byte_at-eq45
-unfolding said
-returns-then-byte_at-eq45 c =
-    let e = sym c.byte_at.ensures ∙ c.if-byte_at-eq45.true in
-    c.negative.ensures ∙ ap (with_sign minus) c.digits_from-found.ensures ∙ read_minus (digits_in (drop 1 c.args.text.now))
-    ∙ ap numeral_by (sym (pick_true _ _ _ (eq-eqb _ _ e)))
+pub returns-in_err-n-in-Some : goal.returns-in_err-n-in-Some
+returns-in_err-n-in-Some c =
+    let s = c.in-Some.ensures.cases in
+    c.from_residual.ensures ∙ minus_none _ s.0 _ s.1 (sym c.in_err-n-in-Some.was ∙ c.read_digits.ensures)
 
-pub returns : goal.returns
-unfolding said
-returns c =
-    let n = c.byte_at.ensures in
-    c.plain.ensures ∙ ap (with_sign pos) c.digits_from-found-2.ensures
-    ∙ read_plain (digits_in c.args.text.now) ∙ ap numeral_by (sym (pick_false _ _ _ (ne_eqb _ _ (λ q. c.if-byte_at-eq45.false (n ∙ q)))))
+few-minus : (c : goal.In_ok-n-in-Some) → c.in_ok-n-in-Some.n ≤ most
+few-minus c = some_most _ _ (sym c.in_ok-n-in-Some.was ∙ c.read_digits.ensures)
+
+pub overflow_cast-result : goal.overflow_cast-result
+overflow_cast-result c = number_fits _ (some_most _ _ (sym c.in_ok-n-in-Some.was ∙ c.read_digits.ensures))
+
+pub overflow_sub-result : goal.overflow_sub-result
+overflow_sub-result c = minus_fits _ (some_most _ _ (sym c.in_ok-n-in-Some.was ∙ c.read_digits.ensures))
+
+pub returns-in_ok-n-in-Some : goal.returns-in_ok-n-in-Some
+returns-in_ok-n-in-Some c =
+    let s = c.in-Some.ensures.cases in
+    ap (λ (z : ℤ). Some z) (minus_word _ (few-minus c)) ∙ minus_number _ s.0 _ s.1 _ (sym c.in_ok-n-in-Some.was ∙ c.read_digits.ensures)
+
+pub returns-in_err-n-in-None : goal.returns-in_err-n-in-None
+returns-in_err-n-in-None c =
+    c.from_residual-in_err-n-in-None.ensures ∙ plain_none _ c.in-None.ensures.cases (sym c.in_err-n-in-None.was ∙ c.read_digits-in-None.ensures)
+
+pub overflow_cast-result-in-None : goal.overflow_cast-result-in-None
+overflow_cast-result-in-None c = number_fits _ (some_most _ _ (sym c.in_ok-n-in-None.was ∙ c.read_digits-in-None.ensures))
+
+pub returns-in_ok-n-in-None : goal.returns-in_ok-n-in-None
+returns-in_ok-n-in-None c =
+    let q : Some c.in_ok-n-in-None.n ≡ _ = sym c.in_ok-n-in-None.was ∙ c.read_digits-in-None.ensures in
+    ap (λ (z : ℤ). Some z) (number_word _ (some_most _ _ q)) ∙ plain_number _ c.in-None.ensures.cases _ q

@@ -1,13 +1,10 @@
-use Rattle.setpoints.specs.Heads.{either_101, either_102}
-use mathlib.Core.Path.{◌∙◌, sym}
+use Rattle.std.proofs.Common.{◌∙◌, sym}
+use Rattle.setpoints.specs.Readers.{own_101, other_than_101}
 use Rattle.setpoints.proofs.readers.read_either.Goals as goal
 
-pub returns-then-said-number : goal.returns-then-said-number
-returns-then-said-number c =
-    let a = c.args in
-    c.read_101.ensures ∙ either_101 a.page.now _ c.said_in-said.ensures (c.if-said-number.true ∙ c.number.ensures)
+pub returns-then-pair_at-number : goal.returns-then-pair_at-number
+returns-then-pair_at-number c = c.read.ensures ∙ own_101 _ (sym c.pair_at.ensures ∙ c.if-pair_at-number.true ∙ c.number.ensures)
 
-pub returns : goal.returns
-returns c =
-    let a = c.args in
-    c.read_102.ensures ∙ either_102 a.page.now _ c.said_in-said.ensures (λ q. c.if-said-number.false (q ∙ sym c.number.ensures))
+pub returns-else-pair_at-number : goal.returns-else-pair_at-number
+returns-else-pair_at-number c =
+    c.read-else-pair_at-number.ensures ∙ other_than_101 _ (λ q. c.if-pair_at-number.false (c.pair_at.ensures ∙ q ∙ sym c.number.ensures))

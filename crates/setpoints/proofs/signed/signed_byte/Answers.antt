@@ -1,13 +1,10 @@
-use native.Mathlib.Omega.{arith}
-use Rattle.setpoints.specs.Words.{word_less_fits, below_middle, from_middle}
-use borrow.Author.Rules.{rules}
+use Rattle.std.proofs.Common.{rules, ◌≡◌, ◌∙◌, to_z, of_z}
+use Rattle.std.specs.Int.{w8, w64}
+use Rattle.setpoints.specs.Words.{byte_word}
 use Rattle.setpoints.proofs.signed.signed_byte.Goals as goal
 
-pub returns-then-b-lt128 : goal.returns-then-b-lt128
-returns-then-b-lt128 c = below_middle 1 c.args.b (search rules) (search rules)
-
-pub overflow_sub-result : goal.overflow_sub-result
-overflow_sub-result c = word_less_fits c.args.b 255 (search rules) (omega arith)
-
 pub returns : goal.returns
-returns c = from_middle 1 c.args.b (search rules) (search rules) (overflow_sub-result c)
+returns c =
+    let e : to_z w64 (of_z w64 c.from.result) ≡ c.from.result = search rules in
+    let f : to_z w8 (of_z w8 c.cast_signed.result) ≡ c.cast_signed.result = search rules in
+    e ∙ c.from.ensures ∙ f ∙ c.cast_signed.ensures ∙ byte_word c.args.b (search rules)

@@ -1,13 +1,10 @@
-use native.Mathlib.Omega.{arith}
-use Rattle.setpoints.specs.Words.{word_less_fits, below_middle, from_middle}
-use borrow.Author.Rules.{rules}
+use Rattle.std.proofs.Common.{rules, ◌≡◌, ◌∙◌, to_z, of_z}
+use Rattle.std.specs.Int.{w16, w64}
+use Rattle.setpoints.specs.Words.{pair_word}
 use Rattle.setpoints.proofs.signed.signed_pair.Goals as goal
 
-pub returns-then-n-lt32768 : goal.returns-then-n-lt32768
-returns-then-n-lt32768 c = below_middle 2 c.args.n (search rules) (search rules)
-
-pub overflow_sub-result : goal.overflow_sub-result
-overflow_sub-result c = word_less_fits c.args.n 65535 (search rules) (omega arith)
-
 pub returns : goal.returns
-returns c = from_middle 2 c.args.n (search rules) (search rules) (overflow_sub-result c)
+returns c =
+    let e : to_z w64 (of_z w64 c.from.result) ≡ c.from.result = search rules in
+    let f : to_z w16 (of_z w16 c.cast_signed.result) ≡ c.cast_signed.result = search rules in
+    e ∙ c.from.ensures ∙ f ∙ c.cast_signed.ensures ∙ pair_word c.args.n (search rules)
