@@ -121,11 +121,8 @@ numerals_hex_put_digits κs a x y v w p q = (refl, λ i. (tt, ((p ∙ sym q) i, 
 pub setpoints_number_of : Settled setpoints.number_of.ended setpoints_proofs.number_of.Reads.Learnt
 setpoints_number_of κs a x y v w p q = (p ∙ sym q, refl)
 
-pub setpoints_read_101 : Settled setpoints.read_101.ended setpoints_proofs.read_101.Reads.Learnt
-setpoints_read_101 κs a x y v w p q = (p ∙ sym q, refl)
-
-pub setpoints_read_102 : Settled setpoints.read_102.ended setpoints_proofs.read_102.Reads.Learnt
-setpoints_read_102 κs a x y v w p q = (p ∙ sym q, refl)
+pub setpoints_read : Settled setpoints.read.ended setpoints_proofs.read.Reads.Learnt
+setpoints_read κs a x y v w p q = (p ∙ sym q, refl)
 
 pub setpoints_read_either : Settled setpoints.read_either.ended setpoints_proofs.read_either.Reads.Learnt
 setpoints_read_either κs a x y v w p q = (p ∙ sym q, refl)

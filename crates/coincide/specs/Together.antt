@@ -88,11 +88,8 @@ card_set_up κs a x y v w p q =
     (λ i. record { answer = s i; table = record { n = (r i).count; chips = (r i).table } }, refl)
 
 -- answer and page
-pub setpoints_write_101 : Settled setpoints.write_101.ended setpoints_proofs.write_101.Reads.Learnt
-setpoints_write_101 κs a x y v w p q = let r = p ∙ sym q in (λ i. (r i).answer, λ i. ((r i).page, w.1))
-
-pub setpoints_write_102 : Settled setpoints.write_102.ended setpoints_proofs.write_102.Reads.Learnt
-setpoints_write_102 κs a x y v w p q = let r = p ∙ sym q in (λ i. (r i).answer, λ i. ((r i).page, w.1))
+pub setpoints_write : Settled setpoints.write.ended setpoints_proofs.write.Reads.Learnt
+setpoints_write κs a x y v w p q = let r = p ∙ sym q in (λ i. (r i).answer, λ i. (tt, ((r i).page, w.1.1)))
 
 -- answer and text; answer and image; where it ended, and the image
 pub intelhex_write_text : Settled intelhex.write_text.ended intelhex_proofs.write_text.Reads.Learnt
