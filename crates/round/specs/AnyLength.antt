@@ -1,5 +1,5 @@
 -- A number of any length is judged, though no more than the least number of 19 digits is kept of it.
-use Rattle.std.specs.Prelude.{ℕ, ◌≤◌, Bool, ◌≡◌}
+use Rattle.std.specs.Prelude.{ℕ, ◌≤◌, Bool, ◌≡◌, Some}
 use Rattle.std.proofs.Common.{arith, ◌∙◌}
 use Rattle.std.proofs.Math.Bool.{true, false}
 use Rattle.std.proofs.Math.Path.{refl, ap, sym}
@@ -10,13 +10,12 @@ use Rattle.line.specs.Layout.{capped}
 use Rattle.numerals.specs.Numerals.{digits, most}
 use Rattle.numerals.specs.Numerals.{kept, counted_by}
 use Rattle.numerals.specs.Digits.{few, many}
-use Rattle.round.specs.Words.{choice_by, with_pages, given_or}
-use Rattle.round.specs.declared.words.Choice.TheVariants.{Given}
+use Rattle.round.specs.Words.{with_pages, given_or}
 use Rattle.round.specs.declared.words.Request.{Request}
 
 module _ (n : ℕ) where
   -- THEOREM: "16 places (more count as 16)"
-  pub places_any : capped (given_or (choice_by (counted_by (digits n))) 16) ≡ capped n
+  pub places_any : capped (given_or (counted_by (digits n)) 16) ≡ capped n
   unfolding capped
   places_any = by (ltb n most) refl
     where
@@ -28,11 +27,11 @@ module _ (n : ℕ) where
           pick_false _ _ _ (le-ltb (kept n) 16 (omega arith)) ∙ sym (pick_false _ _ _ (le-ltb n 16 (omega arith)))
 
   -- THEOREM: "(0 to 1,024 may be given)"
-  pub pages_any : (r : Request) → with_pages r (choice_by (counted_by (digits n))) ≡ with_pages r (Given n)
+  pub pages_any : (r : Request) → with_pages r (counted_by (digits n)) ≡ with_pages r (Some n)
   pages_any r = by (ltb n most) refl
     where
-      by : (t : Bool) → ltb n most ≡ t → with_pages r (Given (kept n)) ≡ with_pages r (Given n)
-      by true e = ap (λ (k : ℕ). with_pages r (Given k)) (sym (few n (ltb-true n most e)))
+      by : (t : Bool) → ltb n most ≡ t → with_pages r (Some (kept n)) ≡ with_pages r (Some n)
+      by true e = ap (λ (k : ℕ). with_pages r (Some k)) (sym (few n (ltb-true n most e)))
       by false e =
           let h : most ≤ n = ltb-false n most e in
           let k : most ≡ kept n = many n h in

@@ -11,7 +11,7 @@ use console::{Outputs, input};
 use line::Table;
 use std::io::{Stderr, Stdin};
 use std::rt::{Env, Files};
-use words::{Asked, Choice, Request};
+use words::Request;
 
 // Says how the program is used.
 fn say_usage(errors: Stderr) {
@@ -33,27 +33,24 @@ fn make_round(
     let powered = line::take_event(t, line::events::power_on(), images, pads);
     let table = powered.table;
     let found = rounds::make_round(table, list, pages, images, pads);
-    let answer = found.answer;
-    let resets = found.resets;
-    let slots = found.slots;
-    answer::write(to, answer, found.listed, resets, slots, list, pages);
+    answer::write(to, found, list, pages);
 }
 
 // Makes the round with the places, pages and images that are asked for, or else those that the line needs.
 fn with_table(
     to: Outputs,
     t: Table,
-    places: Choice,
-    pages: Choice,
-    bytes: Choice,
+    places: Option<usize>,
+    pages: Option<usize>,
+    bytes: Option<usize>,
     images: &mut [u8],
 ) {
     let mut list = [0u64; 16];
     let mut room = [0u8; words::PAGES_GIVEN_MOST];
     let mut pads = terminal::pad_room();
-    let n = line::used_places(words::given_or(places, 16));
-    let p = input::within(words::given_or(pages, rounds::pages_asked(t)), &room);
-    let m = input::within(words::given_or(bytes, line::images_asked(t)), images);
+    let n = line::used_places(places.unwrap_or(16));
+    let p = input::within(pages.unwrap_or(rounds::pages_asked(t)), &room);
+    let m = input::within(bytes.unwrap_or(line::images_asked(t)), images);
     let s = line::pads_asked(t);
     make_round(
         to,
@@ -70,14 +67,10 @@ const CARD_MOST: usize = 4096;
 
 // Reads the images, if a file of them is named, then the card, and makes the round on the line that it sets up. What cannot be read is told already.
 fn go<R: Env + Files>(rt: &R, mut stdin: Stdin, to: Outputs, r: Request) {
-    let file = r.images;
-    let places = r.places;
-    let pages = r.pages;
     let mut images = [0xFFu8; images::ROOM];
-    let loaded = images::load(rt, to.errors, file, &mut images);
-    if loaded.failed {
+    let Ok(bytes) = images::load(rt, to.errors, r.images, &mut images) else {
         return;
-    }
+    };
     let mut card = [0u8; CARD_MOST];
     let hand = input::fill(&mut stdin, to.errors, b"standard input", &mut card);
     if hand.failed {
@@ -90,8 +83,7 @@ fn go<R: Env + Files>(rt: &R, mut stdin: Stdin, to: Outputs, r: Request) {
     if terminal::refused_card(to.out, answer) {
         return;
     }
-    let bytes = loaded.bytes;
-    with_table(to, table, places, pages, bytes, &mut images);
+    with_table(to, table, r.places, r.pages, bytes, &mut images);
 }
 
 fn main(rt: HostRuntime) {
@@ -99,9 +91,8 @@ fn main(rt: HostRuntime) {
         out: rt.stdout(),
         errors: rt.stderr(),
     };
-    let asked = arguments::read(&rt);
-    match asked {
-        Asked::Round(r) => go(&rt, rt.stdin(), to, r),
-        Asked::Usage => say_usage(to.errors),
+    match arguments::read(&rt) {
+        Some(r) => go(&rt, rt.stdin(), to, r),
+        None => say_usage(to.errors),
     }
 }
