@@ -4,7 +4,6 @@ pub mod Bits
 pub mod Low
 pub mod Rules
 pub mod Parts
-pub mod Fill
 pub mod Both
 pub mod Same
 pub mod Bytes

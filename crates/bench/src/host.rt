@@ -1,5 +1,6 @@
 // The host at the terminal: what it does on a line, and what it writes out of that.
 use crate::text;
+use base::Register;
 use line::{Answer, Event, Table};
 use std::io::Stdout;
 
@@ -38,7 +39,7 @@ fn read_byte(out: Stdout, table: Table, shown: bool, images: &mut [u8], pads: &m
     while place < 8 {
         let heard = search::slot(current, true, images, pads);
         current = heard.table;
-        byte = base::filled8(byte, heard.value);
+        byte = byte.filled(heard.value);
         place += 1;
     }
     if shown {

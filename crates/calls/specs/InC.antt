@@ -4,7 +4,7 @@ use Rattle.std.proofs.Common.{◌∙◌, ap}
 use contract.Lifetimes.{Lfts}
 use Rattle.std.specs.Borrow.{Bor, MutBor}
 use denote.Triple.Clauses.{at_exit}
-use Rattle.base.specs.Lent.{lent_as}
+use Rattle.base.specs.Lent.{lent_as, lent_to_change}
 use Rattle.base.specs.Pick.{pick_true}
 use Rattle.line.specs.Slots.{RunOutcome}
 use Rattle.line.specs.declared.Event.{Event}
@@ -18,7 +18,6 @@ use Rattle.toemsakun.specs.contracts.tk_search as tk-search
 use Rattle.toemsakun.proofs.tk_search.Reads as tk-search-reads
 use Rattle.toemsakun.specs.contracts.tk_slots as tk-slots
 use Rattle.toemsakun.proofs.tk_slots.Reads as tk-slots-reads
-use Rattle.histories.specs.Lent.{lent_to_change}
 use Rattle.histories.specs.Slots.{slots_on, left_by_run}
 use Rattle.histories.specs.Calls.{event_call, search_call, slots_call}
 use Rattle.histories.specs.Below.{Codes}

@@ -5,7 +5,7 @@ use Rattle.std.proofs.Common.{◌∙◌, ap, sym}
 use contract.Lifetimes.{Lfts}
 use Rattle.std.specs.Borrow.{Bor, MutBor}
 use denote.Triple.Clauses.{at_exit}
-use Rattle.base.specs.Lent.{lent_as}
+use Rattle.base.specs.Lent.{lent_as, lent_to_change}
 use Rattle.base.specs.Pick.{pick}
 use Rattle.chip.specs.declared.Chip.{Chip}
 use Rattle.line.specs.Event.{Answered, answered, Outcome, outcome, plan_of, done_of, event_of}
@@ -31,7 +31,6 @@ use Rattle.search.specs.Search.{searched, Search, outcome as found, complete_or4
 use Rattle.search.specs.declared.SearchAnswer.{SearchAnswer}
 use Rattle.search.specs.declared.SearchAnswer.TheVariants as search
 use Rattle.search.specs.declared.Found.{Found}
-use Rattle.histories.specs.Lent.{lent_to_change}
 use Rattle.histories.specs.Slots.{slots_on, left_by_run}
 use Rattle.calls.specs.Told.{Told, told, ToldSlots, told_slots}
 use Rattle.calls.specs.Form.{Meets, Form}

@@ -8,6 +8,7 @@ ghost use Rattle.chip.specs.Kinds.{has_registers, has_switch, takes_outside};
 ghost use Rattle.chip.specs.Chip.{chip_map, left, level_of, rom_slot, after_memory, after_switch, function_in, function_slot, memory_look, memory_sight, memory_slot, switch_slot, power_on_pad};
 
 use crate::{Chip, ChipAfter, Level, kinds};
+use base::Register;
 use ds2413::{Switch, SwitchAfter, SwitchPhase};
 use memory::{Look, Seen};
 use rom::{RomNext, RomStep};
@@ -119,7 +120,7 @@ pub fn function_in(c: Chip, b: u8) -> ChipAfter
 pub fn function_slot(c: Chip, count: u8, bits: u8, v: bool) -> ChipAfter
     ensures { result ≡ function_slot c count bits v }
 {
-    let b = base::filled8(bits, v);
+    let b = bits.filled(v);
     if count < 7 {
         return still(Chip {
             level: Level::FunctionCommand {

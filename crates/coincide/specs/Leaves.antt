@@ -29,11 +29,11 @@ base_is_same κs a x y v w p q = (p ∙ sym q, refl)
 pub base_are_both : Settled base.are_both.ended base_proofs.are_both.Reads.Learnt
 base_are_both κs a x y v w p q = (p ∙ sym q, refl)
 
-pub base_filled8 : Settled base.filled8.ended base_proofs.filled8.Reads.Learnt
-base_filled8 κs a x y v w p q = (p ∙ sym q, refl)
+pub base_U8Register_filled : Settled base.U8Register.filled.ended base_proofs.U8Register.filled.Reads.Learnt
+base_U8Register_filled κs a x y v w p q = (p ∙ sym q, refl)
 
-pub base_filled16 : Settled base.filled16.ended base_proofs.filled16.Reads.Learnt
-base_filled16 κs a x y v w p q = (p ∙ sym q, refl)
+pub base_U16Register_filled : Settled base.U16Register.filled.ended base_proofs.U16Register.filled.Reads.Learnt
+base_U16Register_filled κs a x y v w p q = (p ∙ sym q, refl)
 
 pub base_byte_at : Settled base.byte_at.ended base_proofs.byte_at.Reads.Learnt
 base_byte_at κs a x y v w p q = (p ∙ sym q, refl)

@@ -9,6 +9,8 @@
 ghost use Rattle.std.specs.Prelude.{◌≡◌};
 ghost use Rattle.crc.specs.Figure4.{cleared, drawn_bit, drawn_byte, as_byte, stages_of};
 
+use base::Register;
+
 // The eight stages.
 #[derive(Clone, Copy)]
 pub struct ShiftRegister {
@@ -74,14 +76,14 @@ pub fn take_byte(r: ShiftRegister, b: u8) -> ShiftRegister
 pub fn as_byte(r: ShiftRegister) -> u8
     ensures { result ≡ as_byte r }
 {
-    let x1 = base::filled8(0, r.stage8);
-    let x2 = base::filled8(x1, r.stage7);
-    let x3 = base::filled8(x2, r.stage6);
-    let x4 = base::filled8(x3, r.stage5);
-    let x5 = base::filled8(x4, r.stage4);
-    let x6 = base::filled8(x5, r.stage3);
-    let x7 = base::filled8(x6, r.stage2);
-    base::filled8(x7, r.stage1)
+    0u8.filled(r.stage8)
+        .filled(r.stage7)
+        .filled(r.stage6)
+        .filled(r.stage5)
+        .filled(r.stage4)
+        .filled(r.stage3)
+        .filled(r.stage2)
+        .filled(r.stage1)
 }
 
 // The register that reads as this byte.

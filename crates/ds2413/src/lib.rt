@@ -5,6 +5,8 @@ ghost use Rattle.std.specs.Prelude.{◌≡◌, ◌≤◌};
 ghost use Rattle.base.specs.Pick.{pick};
 ghost use Rattle.ds2413.specs.Switch.{switch_after, switch_power_on, switch_set_up, switch_outside, pin_of, status_of, switch_function, switch_begins, status_sent, pair_in, pair_bit, confirmed, shown, switch_takes, switch_sends, phase_in_range, switch_in_range};
 
+use base::Register;
+
 // The latches and the outside levels, bit 0 for PIOA and bit 1 for PIOB.
 #[derive(Clone, Copy)]
 pub struct Switch {
@@ -158,7 +160,7 @@ pub fn pair_in(c: Switch, pair: u16) -> SwitchAfter
 pub fn pair_bit(c: Switch, count: u8, bits: u16, v: bool) -> SwitchAfter
     ensures { result ≡ pair_bit c count bits v }
 {
-    let b = base::filled16(bits, v);
+    let b = bits.filled(v);
     if count < 15 {
         return SwitchAfter {
             switch: c,

@@ -4,6 +4,7 @@ use Rattle.std.proofs.Common.{sym, ◌∙◌, subst}
 use contract.Lifetimes.{Lfts}
 use Rattle.std.specs.Borrow.{MutBor}
 use denote.Triple.Clauses.{at_exit}
+use Rattle.base.specs.Lent.{lent_to_change}
 use Rattle.base.specs.Pick.{pick}
 use Rattle.line.specs.Attached.{Attached, attached, Stands, line_from}
 use Rattle.line.specs.declared.Table.{Table}
@@ -18,7 +19,6 @@ use Rattle.rounds.specs.Host.{round_host}
 use Rattle.rounds.specs.Round.{Round, round, borne_on, round_verdict, round_by, round_of}
 use Rattle.rounds.specs.contracts as rounds
 use Rattle.rounds.proofs as rounds_proofs
-use Rattle.histories.specs.Lent.{lent_to_change}
 use Rattle.histories.specs.Below.{Codes, Bytes}
 use Rattle.histories.specs.Histories.{codes_of, stores_of}
 use Rattle.histories.specs.Calls.{events_of}

@@ -3,13 +3,14 @@ ghost use Rattle.std.specs.Prelude.{◌≡◌};
 ghost use Rattle.packed.specs.Takes.{taken, filled_at, word_filled, of_code, count_in, byte_in, word_in, code_in};
 
 use crate::{fields, taking};
+use base::Register;
 
 // A bit enters the byte at a place, and another byte is its new count.
 pub fn fill_byte(r: &mut [u8], counter: usize, count: u8, place: usize, v: bool)
     ensures { r.new ≡ filled_at counter count place v r.old }
 {
     let before = base::byte_at(r, place);
-    let bits = base::filled8(before, v);
+    let bits = before.filled(v);
     base::put_at(r, counter, count);
     base::put_at(r, place, bits);
 }
@@ -19,7 +20,7 @@ fn fill_word(r: &mut [u8], count: u8, v: bool)
     ensures { r.new ≡ word_filled count v r.old }
 {
     let before = fields::word_of(r);
-    let w = base::filled16(before, v);
+    let w = before.filled(v);
     base::put_at(r, 16, (w % 256) as u8);
     base::put_at(r, 17, (w / 256) as u8);
     base::put_at(r, 18, count);

@@ -4,6 +4,7 @@ ghost use Rattle.scratchpad.specs.Registers.{with_e};
 ghost use Rattle.packed.specs.Takes.{taken, put_step, offset_next, address_next, memory_end, memory_out, pad_end, pad_out, ruled_in, whole_in, data_end, data_in};
 
 use crate::{counting, fields};
+use base::Register;
 
 // A step put in its place, with b and c 0.
 fn put_step(r: &mut [u8], number: u8, w: u16, a: u8)
@@ -134,7 +135,7 @@ fn end_data(r: &mut [u8], image: usize, pad: usize, v: bool, ms: &[u8], ss: &mut
     ensures { taken r.new ms.now ss.new ≡ data_end v image pad r.old ms.now ss.old }
 {
     let before = base::byte_at(r, 20);
-    let sent = base::filled8(before, v);
+    let sent = before.filled(v);
     take_whole(r, image, pad, sent, ms, ss)
 }
 

@@ -3,7 +3,7 @@ use Rattle.std.specs.Prelude.{ℕ, ◌*◌, Bool, true, false, List, [], ◌∷�
 use Rattle.std.proofs.Common.{ap}
 use contract.Lifetimes.{Lfts}
 use Rattle.std.proofs.lemmas.List.{length-replicate}
-use Rattle.base.specs.Lent.{lent_as}
+use Rattle.base.specs.Lent.{lent_as, lent_to_change}
 use Rattle.base.specs.Pick.{pick_both}
 use Rattle.line.specs.Attached.{Attached}
 use Rattle.line.specs.Tables.{blank_table}
@@ -20,7 +20,6 @@ use Rattle.recording.specs.declared.Ending.TheVariants as ending
 use Rattle.recording.specs.declared.Fault.TheVariants as fault
 use Rattle.recording.specs.declared.Found.{Found}
 use Rattle.recording.specs.declared.Found.TheVariants as found
-use Rattle.histories.specs.Lent.{lent_to_change}
 use Rattle.played.specs.Handed.{Stage, carding, playing, over, Hand, hand}
 use Rattle.played.specs.LineRefusals.{RefusalFor, record_refusal}
 use Rattle.played.specs.Stops.{StopsBy, Stops, play_stops}

@@ -4,7 +4,7 @@ use Rattle.std.proofs.Common.{◌∙◌, ap}
 use contract.Lifetimes.{Lfts}
 use Rattle.std.specs.Borrow.{Bor, MutBor}
 use denote.Triple.Clauses.{at_exit}
-use Rattle.base.specs.Lent.{lent_as}
+use Rattle.base.specs.Lent.{lent_as, lent_to_change}
 use Rattle.setpoints.specs.Pages.{read101, read102, read_either, wrote, write101, write102}
 use Rattle.setpoints.specs.declared.Kind.TheVariants.{Degrees, Tenths}
 use Rattle.setpoints.specs.contracts as setpoints
@@ -62,10 +62,6 @@ pub wrote_by_102 : (v : ℤ) (page : List ℕ) (a : Result (Unit {0}) Fault) (af
 wrote_by_102 v page a after c = c.permits ∙ ap (write102 v) c.from_bytes
 
 -- ---- there are such calls
-
--- what is lent to be changed: something behind a `&mut`, wherever it lies
-abbrev pub lent_to_change : {X : Type 0} → X → MutBor X
-lent_to_change x = record { ref_ptr = (0, 0); ghost_name = 0; now = x }
 
 -- THEOREM: every call has an outcome that its contract permits, whatever is lent and however long it lives
 pub some_read_101 : Lfts 1 → (page : List ℕ) → Read101 page (read101 page)

@@ -4,6 +4,8 @@
 ghost use Rattle.std.specs.Prelude.{◌≡◌};
 ghost use Rattle.rom.specs.Rom.{command_of, command_bit, read_bit, match_bit, search_bit, rom_takes, search_sends, rom_sends, rom_in_range};
 
+use base::Register;
+
 // A step of the ROM level, with what it needs to go on.
 #[derive(Clone, Copy)]
 pub enum RomStep {
@@ -89,7 +91,7 @@ pub fn command(knows: Knows, rc: bool, b: u8) -> RomResult
 pub fn command_bit(knows: Knows, rc: bool, count: u8, bits: u8, v: bool) -> RomResult
     ensures { result ≡ command_bit knows rc count bits v }
 {
-    let b = base::filled8(bits, v);
+    let b = bits.filled(v);
     if count < 7 {
         return RomResult {
             next: RomNext::Step(RomStep::Command {

@@ -8,6 +8,7 @@ ghost use Rattle.rounds.specs.Borne.{borne_in, only_borne, page_size, pages_most
 ghost use Rattle.rounds.specs.Host.{read_bits, read_bytes, read_page, read_pages};
 
 use crate::{PAGE_SIZE, borne};
+use base::Register;
 use line::Table;
 
 // A byte that the host read, and the table that its slots leave.
@@ -35,7 +36,7 @@ fn read_byte(t: Table, ms: &mut [u8], ss: &mut [u8]) -> ByteHeard
     while i < 8 {
         let h = search::slot(table, true, ms, ss);
         table = h.table;
-        byte = base::filled8(byte, h.value);
+        byte = byte.filled(h.value);
         i += 1;
     }
     ByteHeard {

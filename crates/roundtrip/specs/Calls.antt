@@ -4,7 +4,7 @@ use Rattle.std.proofs.Common.{◌∙◌}
 use contract.Lifetimes.{Lfts}
 use Rattle.std.specs.Borrow.{Bor, MutBor}
 use denote.Triple.Clauses.{at_exit}
-use Rattle.base.specs.Lent.{lent_as}
+use Rattle.base.specs.Lent.{lent_as, lent_to_change}
 use Rattle.intelhex.specs.Written.{wrote, write_text}
 use Rattle.intelhex.specs.Reading.{went, read_lines, read, read_text}
 use Rattle.intelhex.specs.declared.Taken.{Taken}
@@ -52,10 +52,6 @@ pub went-by : (over more : Bool) (text image : List ℕ) (back : Taken) (after :
 went-by over more text image back after c = c.permits ∙ λ j. read_lines over more (c.from_characters j) (c.from_bytes j)
 
 -- ---- there are such calls
-
--- what is lent to be changed: something behind a `&mut`, wherever it lies
-abbrev pub lent_to_change : {X : Type 0} → X → MutBor X
-lent_to_change x = record { ref_ptr = (0, 0); ghost_name = 0; now = x }
 
 -- THEOREM: every call has an outcome that its contract permits, whatever is lent and however long it lives
 pub some_write_text : Lfts 2 → (image text : List ℕ) → WriteText image text (write_text image text).answer (write_text image text).text

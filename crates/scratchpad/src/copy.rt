@@ -3,12 +3,13 @@ ghost use Rattle.std.specs.Prelude.{◌≡◌};
 ghost use Rattle.scratchpad.specs.Scratchpad.{copy_address, carried_out, three_bytes_in, copy_end};
 
 use crate::{Deed, MemoryAfter, MemoryPhase, Registers, Sight, fields};
+use base::Register;
 
 // A bit of TA1 and TA2.
 pub fn copy_address(count: u8, bits: u16, v: bool) -> MemoryPhase
     ensures { result ≡ copy_address count bits v }
 {
-    let b = base::filled16(bits, v);
+    let b = bits.filled(v);
     if count < 15 {
         return MemoryPhase::CopyAddress {
             count: count + 1,
@@ -54,7 +55,7 @@ pub fn three_bytes_in(r: Registers, address: u16, es: u8, see: Sight) -> MemoryA
 pub fn copy_end(r: Registers, address: u16, count: u8, bits: u8, v: bool, see: Sight) -> MemoryAfter
     ensures { result ≡ copy_end r address count bits v see }
 {
-    let b = base::filled8(bits, v);
+    let b = bits.filled(v);
     if count < 7 {
         return crate::goes_on(
             r,

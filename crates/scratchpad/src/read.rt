@@ -4,6 +4,7 @@ ghost use Rattle.base.specs.Bits.{bit_of};
 ghost use Rattle.scratchpad.specs.Scratchpad.{pad_from, pad_begins, register_sent, pad_byte_sent, pad_sent, read_from, read_address, memory_sent};
 
 use crate::{MemoryPhase, Registers, Sight, write};
+use base::Register;
 
 // A bit of TA1, TA2 and E/S.
 pub fn register_bit(r: Registers, place: u8) -> bool
@@ -92,7 +93,7 @@ pub fn read_from(address: u16, last: u16) -> MemoryPhase
 pub fn read_address(count: u8, bits: u16, v: bool, see: Sight) -> MemoryPhase
     ensures { result ≡ read_address count bits v see }
 {
-    let b = base::filled16(bits, v);
+    let b = bits.filled(v);
     if count < 15 {
         return MemoryPhase::ReadAddress {
             count: count + 1,

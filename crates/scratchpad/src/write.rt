@@ -3,6 +3,7 @@ ghost use Rattle.std.specs.Prelude.{◌≡◌};
 ghost use Rattle.scratchpad.specs.Scratchpad.{crc_of_address, address_in, write_address, after_byte, byte_in, write_data, crc_sent, cut_of};
 
 use crate::{Deed, MemoryAfter, MemoryPhase, Registers, Sight, fields};
+use base::Register;
 
 // The CRC-16 of a command and the two bytes of an address.
 pub fn crc_of_address(command: u8, address: u16) -> u16
@@ -36,7 +37,7 @@ pub fn address_in(bits: u16) -> MemoryAfter
 pub fn write_address(r: Registers, count: u8, bits: u16, v: bool) -> MemoryAfter
     ensures { result ≡ write_address r count bits v }
 {
-    let b = base::filled16(bits, v);
+    let b = bits.filled(v);
     if count < 15 {
         return crate::goes_on(
             r,
@@ -95,7 +96,7 @@ pub fn write_data(
 ) -> MemoryAfter
     ensures { result ≡ write_data r offset count bits crc v see }
 {
-    let b = base::filled8(bits, v);
+    let b = bits.filled(v);
     if count < 7 {
         return crate::goes_on(
             r,

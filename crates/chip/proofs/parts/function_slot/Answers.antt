@@ -4,8 +4,8 @@ use Rattle.chip.proofs.parts.function_slot.Goals as goal
 
 pub returns-then-count-lt7 : goal.returns-then-count-lt7
 unfolding function_slot
-returns-then-count-lt7 c = search (cases, c.still.ensures, ← c.filled8-b.ensures)
+returns-then-count-lt7 c = search (cases, c.still.ensures, ← c.filled-b.ensures)
 
 pub returns : goal.returns
 unfolding function_slot
-returns c = search (cases, c.function_in.ensures, ← c.filled8-b.ensures)
+returns c = search (cases, c.function_in.ensures, ← c.filled-b.ensures)

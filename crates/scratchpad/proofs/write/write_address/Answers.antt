@@ -4,8 +4,8 @@ use Rattle.scratchpad.proofs.write.write_address.Goals as goal
 
 pub returns-then-count-lt15 : goal.returns-then-count-lt15
 unfolding write_address
-returns-then-count-lt15 c = search (cases, c.goes_on.ensures, ← c.filled16-b.ensures)
+returns-then-count-lt15 c = search (cases, c.goes_on.ensures, ← c.filled-b.ensures)
 
 pub returns : goal.returns
 unfolding write_address
-returns c = search (cases, c.address_in.ensures, ← c.filled16-b.ensures)
+returns c = search (cases, c.address_in.ensures, ← c.filled-b.ensures)
