@@ -8,6 +8,7 @@ pub mod Both
 pub mod Same
 pub mod Bytes
 pub mod BytesLaw
+pub mod Turns
 pub mod Along
 pub mod Lent
 pub mod Once
