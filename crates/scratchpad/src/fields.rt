@@ -3,6 +3,7 @@ ghost use Rattle.std.specs.Prelude.{◌≡◌};
 ghost use Rattle.scratchpad.specs.Registers.{pf, with_e, with_pf, with_aa, target_of};
 
 // PF of E/S.
+#[tactic(auto, unfolding(crate::specs::Registers::pf))]
 pub fn pf_of(es: u8) -> bool
     ensures { result ≡ pf es }
 {
@@ -10,6 +11,7 @@ pub fn pf_of(es: u8) -> bool
 }
 
 // E/S with E set to an offset.
+#[tactic(auto, unfolding(crate::specs::Registers::with_e))]
 pub fn with_e(es: u8, offset: u8) -> u8
     ensures { result ≡ with_e es offset }
 {
@@ -17,6 +19,7 @@ pub fn with_e(es: u8, offset: u8) -> u8
 }
 
 // E/S with PF = 1.
+#[tactic(auto, unfolding(crate::specs::Registers::with_pf))]
 pub fn with_pf(es: u8) -> u8
     ensures { result ≡ with_pf es }
 {
@@ -24,6 +27,7 @@ pub fn with_pf(es: u8) -> u8
 }
 
 // E/S with AA = 1.
+#[tactic(auto, unfolding(crate::specs::Registers::with_aa))]
 pub fn with_aa(es: u8) -> u8
     ensures { result ≡ with_aa es }
 {
@@ -31,6 +35,7 @@ pub fn with_aa(es: u8) -> u8
 }
 
 // T, of the 16 bits taken.
+#[tactic(auto, unfolding(crate::specs::Registers::target_of))]
 pub fn target(bits: u16) -> u16
     ensures { result ≡ target_of bits }
 {

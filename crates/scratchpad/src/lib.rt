@@ -12,14 +12,14 @@ ghost use Rattle.scratchpad.specs.Scratchpad.{memory_after, memory_function, mem
 ghost use Rattle.scratchpad.specs.Registers.{power_on_registers, mark, rule_of_byte};
 
 // The registers: T, and E/S with E in bits 0 to 4, PF bit 5 and AA bit 7.
-#[derive(Clone, Copy)]
+#[derive(Clone, Copy, PartialEq, Eq)]
 pub struct Registers {
     pub t: u16,
     pub es: u8,
 }
 
 // A phase of the function level, with what it needs to go on.
-#[derive(Clone, Copy)]
+#[derive(Clone, Copy, PartialEq, Eq)]
 pub enum MemoryPhase {
     // nothing more to send
     Ones,
@@ -80,7 +80,7 @@ pub enum MemoryPhase {
 // What a slot sees: the memory byte at hand and whether it is held or only falls, whether T's page is closed to
 // copying, the scratchpad byte at hand, the last address that Read Memory reads, and the last offset that Read
 // Scratchpad sends.
-#[derive(Clone, Copy)]
+#[derive(Clone, Copy, PartialEq, Eq)]
 pub struct Sight {
     pub memory: u8,
     pub held: bool,
@@ -93,7 +93,7 @@ pub struct Sight {
 
 // What a slot goes by, beside the registers: nothing for a bit that only counts or fills; the memory byte at an
 // address, with its control byte; a page; a byte of the scratchpad; or a memory byte that is sent.
-#[derive(Clone, Copy)]
+#[derive(Clone, Copy, PartialEq, Eq)]
 pub enum Hand {
     Nothing,
     Byte { address: usize },
@@ -104,7 +104,7 @@ pub enum Hand {
 
 // What a slot does to memory and scratchpad: nothing, a byte put into the scratchpad, or a copy carried out,
 // in T's page from T mod 32 to E.
-#[derive(Clone, Copy)]
+#[derive(Clone, Copy, PartialEq, Eq)]
 pub enum Deed {
     Nothing,
     Put { offset: u8, byte: u8 },
@@ -112,7 +112,7 @@ pub enum Deed {
 }
 
 // Where a slot leaves the part, and its deed.
-#[derive(Clone, Copy)]
+#[derive(Clone, Copy, PartialEq, Eq)]
 pub struct MemoryAfter {
     pub registers: Registers,
     pub phase: MemoryPhase,
@@ -127,45 +127,39 @@ pub fn power_on() -> Registers
 }
 
 // 55h or AAh.
+#[tactic(auto, using(base::specs::Rules::cases), unfolding(crate::specs::Registers::mark, base::specs::Pick::pick))]
 pub fn is_mark(b: u8) -> bool
     ensures { result ≡ mark b }
 {
-    if b == 0x55 {
-        return true;
-    }
-    b == 0xAA
+    b == 0x55 || b == 0xAA
 }
 
 // The rule of a byte.
+#[tactic(auto, using(base::specs::Rules::cases), unfolding(crate::specs::Registers::rule_of_byte))]
 pub fn rule_of_byte(held: bool, falls: bool, memory: u8, sent: u8) -> u8
     ensures { result ≡ rule_of_byte held falls memory sent }
 {
     if held {
-        return memory;
+        memory
+    } else if falls {
+        memory & sent
+    } else {
+        sent
     }
-    if falls {
-        return memory & sent;
-    }
-    sent
 }
 
 // The phase that a function command begins.
+#[tactic(auto, using(base::specs::Rules::cases), unfolding(crate::specs::Scratchpad::memory_function))]
 pub fn function(b: u8) -> MemoryPhase
     ensures { result ≡ memory_function b }
 {
-    if b == 0x0F {
-        return MemoryPhase::WriteAddress { count: 0, bits: 0 };
+    match b {
+        0x0F => MemoryPhase::WriteAddress { count: 0, bits: 0 },
+        0xAA => MemoryPhase::ReadRegisters { place: 0 },
+        0x55 => MemoryPhase::CopyAddress { count: 0, bits: 0 },
+        0xF0 => MemoryPhase::ReadAddress { count: 0, bits: 0 },
+        _ => MemoryPhase::Ones,
     }
-    if b == 0xAA {
-        return MemoryPhase::ReadRegisters { place: 0 };
-    }
-    if b == 0x55 {
-        return MemoryPhase::CopyAddress { count: 0, bits: 0 };
-    }
-    if b == 0xF0 {
-        return MemoryPhase::ReadAddress { count: 0, bits: 0 };
-    }
-    MemoryPhase::Ones
 }
 
 // Another phase, and nothing done.
@@ -180,48 +174,40 @@ pub fn goes_on(r: Registers, p: MemoryPhase) -> MemoryAfter
 }
 
 // Where a function command leaves the part at its eighth bit, and its deed.
+#[tactic(auto, unfolding(crate::specs::Scratchpad::memory_begins))]
 pub fn begins(r: Registers, b: u8) -> MemoryAfter
     ensures { result ≡ memory_begins r b }
 {
-    let p = function(b);
-    goes_on(r, p)
+    goes_on(r, function(b))
 }
 
 // What a slot of the value v does at a phase.
 pub fn takes(r: Registers, v: bool, see: Sight, p: MemoryPhase) -> MemoryAfter
     ensures { result ≡ memory_takes r v see p }
 {
-    match p {
-        MemoryPhase::Ones => goes_on(r, MemoryPhase::Ones),
-        MemoryPhase::WriteAddress { count, bits } => write::write_address(r, count, bits, v),
+    let next = match p {
+        MemoryPhase::Ones => MemoryPhase::Ones,
+        MemoryPhase::WriteAddress { count, bits } => return write::write_address(r, count, bits, v),
         MemoryPhase::WriteData {
             offset,
             count,
             bits,
             crc,
-        } => write::write_data(r, offset, count, bits, crc, v, see),
-        MemoryPhase::SendCrc { place, crc } => goes_on(r, write::crc_sent(place, crc)),
-        MemoryPhase::ReadRegisters { place } => goes_on(r, read::register_sent(r, place, see)),
-        MemoryPhase::ReadPad { offset, count, crc } => goes_on(
-            r,
-            read::pad_sent(offset, count, crc, see),
-        ),
-        MemoryPhase::CopyAddress { count, bits } => goes_on(r, copy::copy_address(count, bits, v)),
+        } => return write::write_data(r, offset, count, bits, crc, v, see),
+        MemoryPhase::SendCrc { place, crc } => write::crc_sent(place, crc),
+        MemoryPhase::ReadRegisters { place } => read::register_sent(r, place, see),
+        MemoryPhase::ReadPad { offset, count, crc } => read::pad_sent(offset, count, crc, see),
+        MemoryPhase::CopyAddress { count, bits } => copy::copy_address(count, bits, v),
         MemoryPhase::CopyEnd {
             address,
             count,
             bits,
-        } => copy::copy_end(r, address, count, bits, v, see),
-        MemoryPhase::Copied { answer } => goes_on(r, MemoryPhase::Copied { answer: !answer }),
-        MemoryPhase::ReadAddress { count, bits } => goes_on(
-            r,
-            read::read_address(count, bits, v, see),
-        ),
-        MemoryPhase::ReadMemory { address, count } => goes_on(
-            r,
-            read::memory_sent(address, count, see),
-        ),
-    }
+        } => return copy::copy_end(r, address, count, bits, v, see),
+        MemoryPhase::Copied { answer } => MemoryPhase::Copied { answer: !answer },
+        MemoryPhase::ReadAddress { count, bits } => read::read_address(count, bits, v, see),
+        MemoryPhase::ReadMemory { address, count } => read::memory_sent(address, count, see),
+    };
+    goes_on(r, next)
 }
 
 // What a chip sends in a slot at a phase.
@@ -229,30 +215,17 @@ pub fn sends(r: Registers, see: Sight, p: MemoryPhase) -> bool
     ensures { result ≡ memory_sends r see p }
 {
     match p {
-        MemoryPhase::Ones => true,
-        MemoryPhase::WriteAddress { count: _, bits: _ } => true,
-        MemoryPhase::WriteData {
-            offset: _,
-            count: _,
-            bits: _,
-            crc: _,
-        } => true,
         MemoryPhase::SendCrc { place, crc } => !base::bit_of(crc as u64, place),
         MemoryPhase::ReadRegisters { place } => read::register_bit(r, place),
-        MemoryPhase::ReadPad {
-            offset: _,
-            count,
-            crc: _,
-        } => base::bit_of(see.pad as u64, count),
-        MemoryPhase::CopyAddress { count: _, bits: _ } => true,
-        MemoryPhase::CopyEnd {
-            address: _,
-            count: _,
-            bits: _,
-        } => true,
+        MemoryPhase::ReadPad { count, .. } => base::bit_of(see.pad as u64, count),
         MemoryPhase::Copied { answer } => answer,
-        MemoryPhase::ReadAddress { count: _, bits: _ } => true,
-        MemoryPhase::ReadMemory { address: _, count } => base::bit_of(see.memory as u64, count),
+        MemoryPhase::ReadMemory { count, .. } => base::bit_of(see.memory as u64, count),
+        MemoryPhase::Ones
+        | MemoryPhase::WriteAddress { .. }
+        | MemoryPhase::WriteData { .. }
+        | MemoryPhase::CopyAddress { .. }
+        | MemoryPhase::CopyEnd { .. }
+        | MemoryPhase::ReadAddress { .. } => true,
     }
 }
 
@@ -261,69 +234,41 @@ pub fn reset(r: Registers, cut: bool, p: MemoryPhase) -> Registers
     ensures { result ≡ memory_reset r cut p }
 {
     match p {
-        MemoryPhase::Ones => r,
-        MemoryPhase::WriteAddress { count: _, bits: _ } => write::cut(r, cut),
-        MemoryPhase::WriteData {
-            offset: _,
-            count,
-            bits: _,
-            crc: _,
-        } => write::cut(r, 0 < count),
-        MemoryPhase::SendCrc { place: _, crc: _ } => r,
-        MemoryPhase::ReadRegisters { place: _ } => r,
-        MemoryPhase::ReadPad {
-            offset: _,
-            count: _,
-            crc: _,
-        } => r,
-        MemoryPhase::CopyAddress { count: _, bits: _ } => r,
-        MemoryPhase::CopyEnd {
-            address: _,
-            count: _,
-            bits: _,
-        } => r,
-        MemoryPhase::Copied { answer: _ } => r,
-        MemoryPhase::ReadAddress { count: _, bits: _ } => r,
-        MemoryPhase::ReadMemory {
-            address: _,
-            count: _,
-        } => r,
+        MemoryPhase::WriteAddress { .. } => write::cut(r, cut),
+        MemoryPhase::WriteData { count, .. } => write::cut(r, 0 < count),
+        MemoryPhase::Ones
+        | MemoryPhase::SendCrc { .. }
+        | MemoryPhase::ReadRegisters { .. }
+        | MemoryPhase::ReadPad { .. }
+        | MemoryPhase::CopyAddress { .. }
+        | MemoryPhase::CopyEnd { .. }
+        | MemoryPhase::Copied { .. }
+        | MemoryPhase::ReadAddress { .. }
+        | MemoryPhase::ReadMemory { .. } => r,
     }
 }
 
 // Whether a phase's counts and places lie inside it.
+#[tactic(auto, unfolding(base::specs::Bits::both, base::specs::Pick::pick))]
 pub fn in_range(last: u16, p: MemoryPhase) -> bool
     ensures { result ≡ memory_in_range last p }
 {
     match p {
-        MemoryPhase::Ones => true,
-        MemoryPhase::WriteAddress { count, bits: _ } => count < 16,
-        MemoryPhase::WriteData {
-            offset,
-            count,
-            bits: _,
-            crc: _,
-        } => base::are_both(offset < 32, count < 8),
-        MemoryPhase::SendCrc { place, crc: _ } => place < 16,
+        MemoryPhase::Ones | MemoryPhase::Copied { .. } => true,
+        MemoryPhase::WriteAddress { count, .. }
+        | MemoryPhase::CopyAddress { count, .. }
+        | MemoryPhase::ReadAddress { count, .. } => count < 16,
+        MemoryPhase::WriteData { offset, count, .. } | MemoryPhase::ReadPad { offset, count, .. } =>
+            offset < 32 && count < 8,
+        MemoryPhase::SendCrc { place, .. } => place < 16,
         MemoryPhase::ReadRegisters { place } => place < 24,
-        MemoryPhase::ReadPad {
-            offset,
-            count,
-            crc: _,
-        } => base::are_both(offset < 32, count < 8),
-        MemoryPhase::CopyAddress { count, bits: _ } => count < 16,
-        MemoryPhase::CopyEnd {
-            address: _,
-            count,
-            bits: _,
-        } => count < 8,
-        MemoryPhase::Copied { answer: _ } => true,
-        MemoryPhase::ReadAddress { count, bits: _ } => count < 16,
-        MemoryPhase::ReadMemory { address, count } => base::are_both(address <= last, count < 8),
+        MemoryPhase::CopyEnd { count, .. } => count < 8,
+        MemoryPhase::ReadMemory { address, count } => address <= last && count < 8,
     }
 }
 
 // Whether the registers are in range.
+#[tactic(auto, unfolding(crate::specs::Scratchpad::registers_in_range))]
 pub fn registers_in_range(r: Registers) -> bool
     ensures { result ≡ registers_in_range r }
 {
@@ -331,6 +276,7 @@ pub fn registers_in_range(r: Registers) -> bool
 }
 
 // The address of an offset in T's page.
+#[tactic(auto, unfolding(crate::specs::Scratchpad::in_page))]
 pub fn in_page(t: u16, offset: u8) -> usize
     ensures { result ≡ in_page t offset }
 {
@@ -338,25 +284,31 @@ pub fn in_page(t: u16, offset: u8) -> usize
 }
 
 // What a slot goes by at a data byte.
+#[tactic(auto, using(base::specs::Rules::cases), unfolding(crate::specs::Scratchpad::byte_at_hand))]
 pub fn byte_at_hand(t: u16, offset: u8, count: u8) -> Hand
     ensures { result ≡ byte_at_hand t offset count }
 {
-    let address = in_page(t, offset);
     if count < 7 {
-        return Hand::Nothing;
+        Hand::Nothing
+    } else {
+        Hand::Byte {
+            address: in_page(t, offset),
+        }
     }
-    Hand::Byte { address: address }
 }
 
 // What a slot goes by at the third byte of Copy.
+#[tactic(auto, using(base::specs::Rules::cases), unfolding(crate::specs::Scratchpad::page_at_hand))]
 pub fn page_at_hand(t: u16, count: u8) -> Hand
     ensures { result ≡ page_at_hand t count }
 {
-    let start = in_page(t, 0);
     if count < 7 {
-        return Hand::Nothing;
+        Hand::Nothing
+    } else {
+        Hand::Page {
+            start: in_page(t, 0),
+        }
     }
-    Hand::Page { start: start }
 }
 
 // What a slot goes by at a phase, beside the registers.
@@ -364,33 +316,20 @@ pub fn at_hand(t: u16, p: MemoryPhase) -> Hand
     ensures { result ≡ hand_of t p }
 {
     match p {
-        MemoryPhase::Ones => Hand::Nothing,
-        MemoryPhase::WriteAddress { count: _, bits: _ } => Hand::Nothing,
-        MemoryPhase::WriteData {
-            offset,
-            count,
-            bits: _,
-            crc: _,
-        } => byte_at_hand(t, offset, count),
-        MemoryPhase::SendCrc { place: _, crc: _ } => Hand::Nothing,
-        MemoryPhase::ReadRegisters { place: _ } => Hand::Nothing,
-        MemoryPhase::ReadPad {
-            offset,
-            count: _,
-            crc: _,
-        } => Hand::Pad {
+        MemoryPhase::WriteData { offset, count, .. } => byte_at_hand(t, offset, count),
+        MemoryPhase::CopyEnd { count, .. } => page_at_hand(t, count),
+        MemoryPhase::ReadPad { offset, .. } => Hand::Pad {
             offset: offset as usize,
         },
-        MemoryPhase::CopyAddress { count: _, bits: _ } => Hand::Nothing,
-        MemoryPhase::CopyEnd {
-            address: _,
-            count,
-            bits: _,
-        } => page_at_hand(t, count),
-        MemoryPhase::Copied { answer: _ } => Hand::Nothing,
-        MemoryPhase::ReadAddress { count: _, bits: _ } => Hand::Nothing,
-        MemoryPhase::ReadMemory { address, count: _ } => Hand::Memory {
+        MemoryPhase::ReadMemory { address, .. } => Hand::Memory {
             address: address as usize,
         },
+        MemoryPhase::Ones
+        | MemoryPhase::WriteAddress { .. }
+        | MemoryPhase::SendCrc { .. }
+        | MemoryPhase::ReadRegisters { .. }
+        | MemoryPhase::CopyAddress { .. }
+        | MemoryPhase::Copied { .. }
+        | MemoryPhase::ReadAddress { .. } => Hand::Nothing,
     }
 }

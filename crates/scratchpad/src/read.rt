@@ -14,111 +14,113 @@ pub fn register_bit(r: Registers, place: u8) -> bool
 }
 
 // The scratchpad from an offset on, as far as it is sent.
+#[tactic(auto, using(base::specs::Rules::cases), unfolding(crate::specs::Scratchpad::pad_from))]
 pub fn pad_from(offset: u8, crc: u16, end: u8) -> MemoryPhase
     ensures { result ≡ pad_from offset crc end }
 {
     if offset <= end {
-        return MemoryPhase::ReadPad {
-            offset: offset,
+        MemoryPhase::ReadPad {
+            offset,
             count: 0,
-            crc: crc,
-        };
+            crc,
+        }
+    } else {
+        MemoryPhase::SendCrc { place: 0, crc }
     }
-    MemoryPhase::SendCrc { place: 0, crc: crc }
 }
 
 // The registers were sent, and the scratchpad comes next.
+#[tactic(auto, using(base::specs::Rules::cases), unfolding(crate::specs::Scratchpad::pad_begins))]
 pub fn pad_begins(r: Registers, see: Sight) -> MemoryPhase
     ensures { result ≡ pad_begins r see }
 {
-    let t = r.t;
-    let first = write::crc_of_address(0xAA, t);
-    let crc = crc::byte16(first, r.es);
-    pad_from((t % 32) as u8, crc, see.end)
+    let crc = crc::byte16(write::crc_of_address(0xAA, r.t), r.es);
+    pad_from((r.t % 32) as u8, crc, see.end)
 }
 
 // A bit of TA1, TA2 and E/S was sent.
+#[tactic(auto, using(base::specs::Rules::cases), unfolding(crate::specs::Scratchpad::register_sent))]
 pub fn register_sent(r: Registers, place: u8, see: Sight) -> MemoryPhase
     ensures { result ≡ register_sent r place see }
 {
     if place < 23 {
-        return MemoryPhase::ReadRegisters { place: place + 1 };
+        MemoryPhase::ReadRegisters { place: place + 1 }
+    } else {
+        pad_begins(r, see)
     }
-    pad_begins(r, see)
 }
 
 // A byte of the scratchpad was sent.
+#[tactic(auto, using(base::specs::Rules::cases), unfolding(crate::specs::Scratchpad::pad_byte_sent))]
 pub fn pad_byte_sent(offset: u8, crc: u16, end: u8) -> MemoryPhase
     ensures { result ≡ pad_byte_sent offset crc end }
 {
     if offset < end {
-        return MemoryPhase::ReadPad {
+        MemoryPhase::ReadPad {
             offset: offset + 1,
             count: 0,
-            crc: crc,
-        };
+            crc,
+        }
+    } else {
+        MemoryPhase::SendCrc { place: 0, crc }
     }
-    MemoryPhase::SendCrc { place: 0, crc: crc }
 }
 
 // A bit of the scratchpad was sent.
+#[tactic(auto, using(base::specs::Rules::cases), unfolding(crate::specs::Scratchpad::pad_sent))]
 pub fn pad_sent(offset: u8, count: u8, crc: u16, see: Sight) -> MemoryPhase
     ensures { result ≡ pad_sent offset count crc see }
 {
     if count < 7 {
-        return MemoryPhase::ReadPad {
-            offset: offset,
-            count: count + 1,
-            crc: crc,
-        };
+        let count = count + 1;
+        MemoryPhase::ReadPad { offset, count, crc }
+    } else {
+        pad_byte_sent(offset, crc::byte16(crc, see.pad), see.end)
     }
-    let sum = crc::byte16(crc, see.pad);
-    pad_byte_sent(offset, sum, see.end)
 }
 
 // Reading begins at an address, if it can be read.
+#[tactic(auto, using(base::specs::Rules::cases), unfolding(crate::specs::Scratchpad::read_from))]
 pub fn read_from(address: u16, last: u16) -> MemoryPhase
     ensures { result ≡ read_from address last }
 {
     if address <= last {
-        return MemoryPhase::ReadMemory {
-            address: address,
-            count: 0,
-        };
+        MemoryPhase::ReadMemory { address, count: 0 }
+    } else {
+        MemoryPhase::Ones
     }
-    MemoryPhase::Ones
 }
 
 // A bit of the address of Read Memory.
+#[tactic(auto, using(base::specs::Rules::cases), unfolding(crate::specs::Scratchpad::read_address))]
 pub fn read_address(count: u8, bits: u16, v: bool, see: Sight) -> MemoryPhase
     ensures { result ≡ read_address count bits v see }
 {
-    let b = bits.filled(v);
+    let bits = bits.filled(v);
     if count < 15 {
-        return MemoryPhase::ReadAddress {
+        MemoryPhase::ReadAddress {
             count: count + 1,
-            bits: b,
-        };
+            bits,
+        }
+    } else {
+        read_from(bits, see.last)
     }
-    read_from(b, see.last)
 }
 
 // A bit of a memory byte was sent.
+#[tactic(auto, using(base::specs::Rules::cases), unfolding(crate::specs::Scratchpad::memory_sent))]
 pub fn memory_sent(address: u16, count: u8, see: Sight) -> MemoryPhase
     ensures { result ≡ memory_sent address count see }
 {
-    let last = see.last;
     if count < 7 {
-        return MemoryPhase::ReadMemory {
-            address: address,
-            count: count + 1,
-        };
-    }
-    if address < last {
-        return MemoryPhase::ReadMemory {
+        let count = count + 1;
+        MemoryPhase::ReadMemory { address, count }
+    } else if address < see.last {
+        MemoryPhase::ReadMemory {
             address: address + 1,
             count: 0,
-        };
+        }
+    } else {
+        MemoryPhase::Ones
     }
-    MemoryPhase::Ones
 }

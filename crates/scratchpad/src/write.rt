@@ -6,6 +6,7 @@ use crate::{Deed, MemoryAfter, MemoryPhase, Registers, Sight, fields};
 use base::Register;
 
 // The CRC-16 of a command and the two bytes of an address.
+#[tactic(auto, unfolding(crate::specs::Scratchpad::crc_of_address, crc::specs::Crc::crc_of))]
 pub fn crc_of_address(command: u8, address: u16) -> u16
     ensures { result ≡ crc_of_address command address }
 {
@@ -15,76 +16,74 @@ pub fn crc_of_address(command: u8, address: u16) -> u16
 }
 
 // The 16 bits of the address are in: T is set, and the data begin.
+#[tactic(auto, using(base::specs::Rules::cases), unfolding(crate::specs::Scratchpad::address_in))]
 pub fn address_in(bits: u16) -> MemoryAfter
     ensures { result ≡ address_in bits }
 {
     let t = fields::target(bits);
     let e = (t % 32) as u8;
-    let crc = crc_of_address(0x0F, bits);
-    let r = Registers { t: t, es: e };
     crate::goes_on(
-        r,
+        Registers { t, es: e },
         MemoryPhase::WriteData {
             offset: e,
             count: 0,
             bits: 0,
-            crc: crc,
+            crc: crc_of_address(0x0F, bits),
         },
     )
 }
 
 // A bit of the address.
+#[tactic(auto, using(base::specs::Rules::cases), unfolding(crate::specs::Scratchpad::write_address))]
 pub fn write_address(r: Registers, count: u8, bits: u16, v: bool) -> MemoryAfter
     ensures { result ≡ write_address r count bits v }
 {
-    let b = bits.filled(v);
+    let bits = bits.filled(v);
     if count < 15 {
-        return crate::goes_on(
-            r,
-            MemoryPhase::WriteAddress {
-                count: count + 1,
-                bits: b,
-            },
-        );
+        let count = count + 1;
+        crate::goes_on(r, MemoryPhase::WriteAddress { count, bits })
+    } else {
+        address_in(bits)
     }
-    address_in(b)
 }
 
 // The phase after a whole byte.
+#[tactic(auto, using(base::specs::Rules::cases), unfolding(crate::specs::Scratchpad::after_byte))]
 pub fn after_byte(offset: u8, crc: u16) -> MemoryPhase
     ensures { result ≡ after_byte offset crc }
 {
     if offset < 31 {
-        return MemoryPhase::WriteData {
+        MemoryPhase::WriteData {
             offset: offset + 1,
             count: 0,
             bits: 0,
-            crc: crc,
-        };
+            crc,
+        }
+    } else {
+        MemoryPhase::SendCrc { place: 0, crc }
     }
-    MemoryPhase::SendCrc { place: 0, crc: crc }
 }
 
 // A whole byte: through the rule into the scratchpad.
+#[tactic(auto, using(base::specs::Rules::cases), unfolding(crate::specs::Scratchpad::byte_in))]
 pub fn byte_in(r: Registers, offset: u8, b: u8, crc: u16, see: Sight) -> MemoryAfter
     ensures { result ≡ byte_in r offset b crc see }
 {
-    let es = fields::with_e(r.es, offset);
-    let sum = crc::byte16(crc, b);
-    let phase = after_byte(offset, sum);
-    let put = crate::rule_of_byte(see.held, see.falls, see.memory, b);
-    let after = Registers { t: r.t, es: es };
     MemoryAfter {
-        registers: after,
-        phase: phase,
+        registers: Registers {
+            es: fields::with_e(r.es, offset),
+            ..r
+        },
+        phase: after_byte(offset, crc::byte16(crc, b)),
         deed: Deed::Put {
-            offset: offset,
-            byte: put,
+            offset,
+            byte: crate::rule_of_byte(see.held, see.falls, see.memory, b),
         },
     }
 }
 
 // A bit of a data byte.
+#[tactic(auto, using(base::specs::Rules::cases), unfolding(crate::specs::Scratchpad::write_data))]
 pub fn write_data(
     r: Registers,
     offset: u8,
@@ -96,41 +95,45 @@ pub fn write_data(
 ) -> MemoryAfter
     ensures { result ≡ write_data r offset count bits crc v see }
 {
-    let b = bits.filled(v);
+    let bits = bits.filled(v);
     if count < 7 {
-        return crate::goes_on(
+        let count = count + 1;
+        crate::goes_on(
             r,
             MemoryPhase::WriteData {
-                offset: offset,
-                count: count + 1,
-                bits: b,
-                crc: crc,
+                offset,
+                count,
+                bits,
+                crc,
             },
-        );
+        )
+    } else {
+        byte_in(r, offset, bits, crc, see)
     }
-    byte_in(r, offset, b, crc, see)
 }
 
 // A reset in a write, where it counts as a cut.
+#[tactic(auto, using(base::specs::Rules::cases), unfolding(crate::specs::Scratchpad::cut_of))]
 pub fn cut(r: Registers, counts: bool) -> Registers
     ensures { result ≡ cut_of r counts }
 {
-    let es = fields::with_pf(r.es);
     if counts {
-        return Registers { t: r.t, es: es };
+        let es = fields::with_pf(r.es);
+        Registers { es, ..r }
+    } else {
+        r
     }
-    r
 }
 
 // A bit of a CRC-16 was sent.
+#[tactic(auto, using(base::specs::Rules::cases), unfolding(crate::specs::Scratchpad::crc_sent))]
 pub fn crc_sent(place: u8, crc: u16) -> MemoryPhase
     ensures { result ≡ crc_sent place crc }
 {
     if place < 15 {
-        return MemoryPhase::SendCrc {
-            place: place + 1,
-            crc: crc,
-        };
+        let place = place + 1;
+        MemoryPhase::SendCrc { place, crc }
+    } else {
+        MemoryPhase::Ones
     }
-    MemoryPhase::Ones
 }
