@@ -1,16 +1,17 @@
 // What is at hand of an input: the bytes that were read and not taken yet, at the start of a buffer.
-ghost use Rattle.std.specs.Prelude.{◌≡◌, ◌-◌, ◌≤◌, min, length};
-ghost use Rattle.console.specs.Input.{IsPrefixLen, nothing_yet, moved_down, holding, taken_of};
+ghost use Rattle.std.specs.Prelude.{◌≡◌, ◌-◌, ◌≤◌, min, length, take, drop, IfOk, MatchResult};
+ghost use Rattle.std.specs.Io.KnownBytes.{Consumes, Keeps};
+ghost use Rattle.console.specs.Input.{IsPrefixLen, nothing_yet, moved_down, holding, taken_of, HasFetched};
 
+use crate::Told;
 use std::io::{Read, Stderr};
 
-// So many bytes, the offset of the first of them in the input, whether more may come, and whether a read failed.
-#[derive(Clone, Copy)]
+// So many bytes, the offset of the first of them in the input, and whether more may come.
+#[derive(Clone, Copy, PartialEq, Eq)]
 pub struct Hand {
     pub bytes: usize,
     pub offset: u64,
     pub more: bool,
-    pub failed: bool,
 }
 
 // Nothing yet.
@@ -21,7 +22,6 @@ pub fn nothing() -> Hand
         bytes: 0,
         offset: 0,
         more: true,
-        failed: false,
     }
 }
 
@@ -30,7 +30,7 @@ pub fn within(n: usize, bytes: &[u8]) -> usize
     ensures value { result ≡ min n (length bytes.now) }
     ensures prefix_len { IsPrefixLen result bytes.now }
 {
-    if n <= bytes.len() { n } else { bytes.len() }
+    n.min(bytes.len())
 }
 
 // What is at hand after one read more of an input. It waits for input where there is none yet; a full buffer takes nothing, as at the end of
@@ -41,62 +41,61 @@ pub fn fetch<R: Read>(
     errors: Stderr,
     name: &[u8],
     bytes: &mut [u8],
-) -> Hand {
+) -> Result<Hand, Told>
+    ensures fetched { IfOk result (HasFetched h bytes.new) }
+    ensures kept { take (min h.bytes (length bytes.old)) bytes.new ≡ take (min h.bytes (length bytes.old)) bytes.old }
+    ensures known { MatchResult result (λ n. Consumes (R.remaining input.old) (R.remaining input.new) (drop (min h.bytes (length bytes.old)) (take n.bytes bytes.new))) (λ _. Keeps (R.remaining input.old) (R.remaining input.new)) }
+{
     let held = within(h.bytes, bytes);
     match input.read(&mut bytes[held..]) {
-        Ok(got) => {
-            let n = within(got, &bytes[held..]);
-            Hand {
-                bytes: held + n,
-                offset: h.offset,
-                more: 0 < n,
-                failed: false,
-            }
-        }
-        Err(why) => {
-            crate::tell_failed(errors, name, why);
-            Hand {
-                bytes: held,
-                offset: h.offset,
-                more: false,
-                failed: true,
-            }
-        }
+        Ok(got) => Ok(Hand {
+            bytes: held + got,
+            offset: h.offset,
+            more: 0 < got,
+        }),
+        Err(why) => Err(Told::failure(errors, name, why)),
     }
 }
 
-// What is at hand after reads until the buffer is full, the input ends or a read fails.
-pub fn fill<R: Read>(input: &mut R, errors: Stderr, name: &[u8], bytes: &mut [u8]) -> Hand {
+// Reads until the buffer is full or the input ends; how many bytes of it were read. A read that fails is told likewise.
+pub fn fill<R: Read>(
+    input: &mut R,
+    errors: Stderr,
+    name: &[u8],
+    bytes: &mut [u8],
+) -> Result<usize, Told>
+    ensures prefix_len { IfOk result (λ n. IsPrefixLen n bytes.new) }
+    ensures known { IfOk result (λ n. Consumes (R.remaining input.old) (R.remaining input.new) (take n bytes.new)) }
+{
     let mut h = nothing();
-    let mut turns = u64::MAX;
-    while 0 < turns {
-        h = fetch(h, input, errors, name, bytes);
-        turns = crate::turns_left(turns, base::are_both(h.more, h.bytes < bytes.len()));
+    for _ in 0..u64::MAX {
+        h = fetch(h, input, errors, name, bytes)?;
+        if !h.more || h.bytes == bytes.len() {
+            break;
+        }
     }
-    h
+    Ok(h.bytes)
 }
 
 // One read into a buffer; how many bytes of it were read, none where the input has ended or the read failed.
 pub fn read_some<R: Read>(input: &mut R, bytes: &mut [u8]) -> usize
-    ensures { IsPrefixLen result bytes.new }
+    ensures prefix_len { IsPrefixLen result bytes.new }
+    ensures known { Consumes (R.remaining input.old) (R.remaining input.new) (take result bytes.new) }
 {
-    match input.read(bytes) {
-        Ok(n) => within(n, bytes),
-        Err(_) => 0,
-    }
+    input.read(bytes).unwrap_or(0)
 }
 
 // Reads until a buffer is full, the input ends or a read fails; how many bytes of it were read.
 pub fn read_full<R: Read>(input: &mut R, bytes: &mut [u8]) -> usize
-    ensures { IsPrefixLen result bytes.new }
+    ensures prefix_len { IsPrefixLen result bytes.new }
+    ensures known { Consumes (R.remaining input.old) (R.remaining input.new) (take result bytes.new) }
 {
     let mut done: usize = 0;
     while done < bytes.len() {
-        let n = read_some(input, &mut bytes[done..]);
-        if n == 0 {
-            break;
+        match read_some(input, &mut bytes[done..]) {
+            0 => break,
+            n => done += n,
         }
-        done += n;
     }
     done
 }
@@ -107,19 +106,9 @@ fn move_down(at: usize, held: usize, bytes: &mut [u8]) -> usize
     ensures value { result ≡ held - at }
     ensures bytes_after { bytes.new ≡ moved_down at (held - at) bytes.old }
 {
-    if at == 0 {
-        return held;
-    }
-    if held <= at {
-        return 0;
-    }
-    let left = held - at;
-    let mut i: usize = 0;
-    while i < left {
-        bytes[i] = bytes[at + i];
-        i += 1;
-    }
-    left
+    let from = at.min(held);
+    bytes.copy_within(from..held, 0);
+    held - from
 }
 
 // What is at hand after so many bytes were taken: the rest, moved to the start of the buffer.
@@ -127,12 +116,9 @@ pub fn taken(h: Hand, at: usize, bytes: &mut [u8]) -> Hand
     ensures { holding result bytes.new ≡ taken_of h at bytes.old }
 {
     let held = within(h.bytes, bytes);
-    let left = move_down(at, held, bytes);
-    let offset = crate::count_on(h.offset, at);
     Hand {
-        bytes: left,
-        offset: offset,
-        more: h.more,
-        failed: h.failed,
+        bytes: move_down(at, held, bytes),
+        offset: crate::count_on(h.offset, at),
+        ..h
     }
 }

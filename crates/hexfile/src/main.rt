@@ -7,7 +7,7 @@ mod telling;
 mod words;
 mod writing;
 
-use console::Outputs;
+use console::{Outputs, Told};
 use std::io::{Read, Stderr};
 use std::rt::{Env, Files};
 use words::Way;
@@ -21,7 +21,7 @@ fn say_usage(errors: Stderr) {
 }
 
 // Goes one way with an input.
-fn go<R: Read>(way: Way, input: &mut R, name: &[u8], to: Outputs) {
+fn go<R: Read>(way: Way, input: &mut R, name: &[u8], to: Outputs) -> Result<(), Told> {
     match way {
         Way::Write => writing::write(input, name, to),
         Way::Read => reading::read(input, name, to),
@@ -29,13 +29,11 @@ fn go<R: Read>(way: Way, input: &mut R, name: &[u8], to: Outputs) {
 }
 
 // Goes one way with the file that an argument names; one that cannot be opened is told by its name and the system's words.
-fn go_with_file<R: Env + Files>(rt: &R, way: Way, to: Outputs) {
-    let mut path = console::argument_room();
-    let n = console::argument(rt, 2, &mut path);
-    match console::open(rt, &path[..n]) {
-        Ok(mut file) => go(way, &mut file, &path[..n], to),
-        Err(why) => console::tell_failed(to.errors, &path[..n], why),
-    }
+fn go_with_file<R: Env + Files>(rt: &R, way: Way, to: Outputs) -> Result<(), Told> {
+    let mut room = console::argument_room();
+    let path = console::argument(rt, 2, &mut room);
+    let mut file = console::open_or_tell(rt, to.errors, path)?;
+    go(way, &mut file, path, to)
 }
 
 fn main(rt: HostRuntime) {
@@ -44,15 +42,16 @@ fn main(rt: HostRuntime) {
         errors: rt.stderr(),
     };
     let mut word = [0u8; words::WORD_MOST];
-    let n = console::argument(&rt, 1, &mut word);
-    let way = words::way_of(&word[..n]);
+    let way = words::way_of(console::argument(&rt, 1, &mut word));
     let arguments = console::argument_count(&rt);
     match (way, arguments) {
         (Some(way), 2) => {
             let mut input = rt.stdin();
-            go(way, &mut input, b"standard input", to);
+            let _ = go(way, &mut input, b"standard input", to);
         }
-        (Some(way), 3) => go_with_file(&rt, way, to),
+        (Some(way), 3) => {
+            let _ = go_with_file(&rt, way, to);
+        }
         _ => say_usage(to.errors),
     }
 }

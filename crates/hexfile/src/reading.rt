@@ -1,7 +1,7 @@
 // A text as an image, in pieces: a line in form has few characters, so that no more than a buffer is at hand of a file of any length.
 use crate::telling;
 use console::input::Hand;
-use console::{Outputs, input};
+use console::{Outputs, Told, input};
 use intelhex::{Ending, Fault};
 use std::io::{Read, Stderr};
 
@@ -31,22 +31,22 @@ fn turn<R: Read>(
     name: &[u8],
     bytes: &mut [u8],
     image: &mut [u8],
-) -> Turned {
+) -> Result<Turned, Told> {
     let n = input::within(stand.hand.bytes, bytes);
     let taken = intelhex::read_lines(stand.over, &bytes[..n], stand.hand.more, image);
     let mut hand = input::taken(stand.hand, taken.at, bytes);
     if taken.ending == Ok(Ending::Part) {
-        hand = input::fetch(hand, input, errors, name, bytes);
+        hand = input::fetch(hand, input, errors, name, bytes)?;
     }
     let after = Stand {
         hand,
         over: taken.over,
         lines: console::count_on(stand.lines, taken.lines),
     };
-    Turned {
+    Ok(Turned {
         stand: after,
         ending: taken.ending,
-    }
+    })
 }
 
 // Reads a text to its end, or to what is wrong with it.
@@ -56,7 +56,7 @@ fn read_all<R: Read>(
     name: &[u8],
     bytes: &mut [u8],
     image: &mut [u8],
-) -> Turned {
+) -> Result<Turned, Told> {
     let mut turned = Turned {
         stand: Stand {
             hand: input::nothing(),
@@ -66,12 +66,12 @@ fn read_all<R: Read>(
         ending: Ok(Ending::Part),
     };
     for _ in 0..u64::MAX {
-        turned = turn(turned.stand, input, errors, name, bytes, image);
-        if turned.ending != Ok(Ending::Part) || turned.stand.hand.failed {
+        turned = turn(turned.stand, input, errors, name, bytes, image)?;
+        if turned.ending != Ok(Ending::Part) {
             break;
         }
     }
-    turned
+    Ok(turned)
 }
 
 // Tells the line at fault, of which so many stand before it, and what is wrong with it.
@@ -84,18 +84,17 @@ fn tell_refused(errors: Stderr, fault: Fault, before: u64) {
 }
 
 // Reads a text, and writes the image that it gives, or why it gives none. A read that failed is told already.
-pub fn read<R: Read>(input: &mut R, name: &[u8], to: Outputs) {
+pub fn read<R: Read>(input: &mut R, name: &[u8], to: Outputs) -> Result<(), Told> {
     let mut bytes = [0u8; BYTES_MOST];
     let mut image = intelhex::blank_image();
-    let turned = read_all(input, to.errors, name, &mut bytes, &mut image);
+    let turned = read_all(input, to.errors, name, &mut bytes, &mut image)?;
     match turned.ending {
-        Ok(Ending::Part) => {}
-        Ok(Ending::End) => {
-            console::is_written(to, &image);
-        }
+        Ok(Ending::Part) => Ok(()),
+        Ok(Ending::End) => to.write(&image),
         Err(fault) => {
             console::say_refused(to, intelhex::number_of(fault));
             tell_refused(to.errors, fault, turned.stand.lines);
+            Ok(())
         }
     }
 }

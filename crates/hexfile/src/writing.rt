@@ -1,6 +1,6 @@
 // An image as text.
 use crate::telling;
-use console::{Outputs, input};
+use console::{Outputs, Told, input};
 use intelhex::{Fault, IMAGE_SIZE, TEXT_SIZE};
 use std::io::{Read, Stderr};
 
@@ -21,21 +21,16 @@ fn tell_refused(errors: Stderr, fault: Fault, bytes: usize) {
 }
 
 // Reads an image, and writes it as text, or why not.
-pub fn write<R: Read>(input: &mut R, name: &[u8], to: Outputs) {
+pub fn write<R: Read>(input: &mut R, name: &[u8], to: Outputs) -> Result<(), Told> {
     let mut bytes = [0u8; BYTES_MOST];
-    let hand = input::fill(input, to.errors, name, &mut bytes);
-    if hand.failed {
-        return;
-    }
-    let n = input::within(hand.bytes, &bytes);
+    let n = input::fill(input, to.errors, name, &mut bytes)?;
     let mut text = [0u8; TEXT_SIZE];
     match intelhex::write_text(&bytes[..n], &mut text) {
-        Ok(()) => {
-            console::is_written(to, &text);
-        }
+        Ok(()) => to.write(&text),
         Err(fault) => {
             console::say_refused(to, intelhex::number_of(fault));
             tell_refused(to.errors, fault, n);
+            Ok(())
         }
     }
 }

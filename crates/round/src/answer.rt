@@ -3,7 +3,7 @@ ghost use Rattle.std.specs.Prelude.{◌≡◌, length};
 ghost use Rattle.rounds.specs.Borne.{page_size};
 ghost use Rattle.round.specs.Pages.{page_line};
 
-use console::Outputs;
+use console::{Outputs, Told};
 use numerals::hex;
 use rounds::PAGE_SIZE;
 use search::Found;
@@ -21,36 +21,24 @@ fn page_line(page: &[u8]) -> [u8; LINE_SIZE]
     text
 }
 
-// Whether the lines of all pages could be written.
-fn are_pages_written(to: Outputs, pages: &[u8]) -> bool {
-    for page in pages.chunks_exact(PAGE_SIZE) {
-        if !console::is_written(to, &page_line(page)) {
-            return false;
+// Writes the pages and the counts, and why the round was refused, if it was; then it has no pages.
+fn write_round(to: Outputs, found: Found, pages: &[u8]) -> Result<(), Told> {
+    let number = search::number_of(found.answer);
+    if number == 0 {
+        for page in pages.chunks_exact(PAGE_SIZE) {
+            to.write(&page_line(page))?;
         }
     }
-    true
-}
-
-// Whether a count could be written, and what it counts.
-fn is_count_written(to: Outputs, n: u64, what: &[u8]) -> bool {
-    console::is_number_written(to, n) && console::is_written(to, what)
-}
-
-// Whether the line of the counts could be written.
-fn are_counts_written(to: Outputs, found: Found) -> bool {
-    is_count_written(to, found.listed as u64, b" codes ")
-        && is_count_written(to, found.resets.0, b" resets ")
-        && is_count_written(to, found.slots.0, b" slots\n")
+    let (codes, resets, slots) = (found.listed, found.resets.0, found.slots.0);
+    to.print(format_args!("{codes} codes {resets} resets {slots} slots\n"))?;
+    if 0 < number {
+        console::say_refused(to, number);
+    }
+    Ok(())
 }
 
 // Writes the codes listed, the pages, the counts, and why the round was refused, if it was; then it has no pages. What cannot be written is told once.
 pub fn write(to: Outputs, found: Found, list: &[u64], pages: &[u8]) {
-    let number = search::number_of(found.answer);
     terminal::write_codes(to.out, list, found.listed);
-    if number == 0 && !are_pages_written(to, pages) {
-        return;
-    }
-    if are_counts_written(to, found) && 0 < number {
-        console::say_refused(to, number);
-    }
+    let _ = write_round(to, found, pages);
 }

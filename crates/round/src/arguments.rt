@@ -6,10 +6,13 @@ use std::rt::Env;
 // An option, which is the argument of that number, and its value behind it.
 fn take_option<E: Env>(env: &E, r: Request, at: usize, behind: usize) -> Option<Request> {
     let mut word = [0u8; words::WORD_MOST];
-    let n = console::argument(env, at, &mut word);
     let mut value = console::argument_room();
-    let m = console::argument(env, behind, &mut value);
-    words::take(r, &word[..n], &value[..m], behind)
+    words::take(
+        r,
+        console::argument(env, at, &mut word),
+        console::argument(env, behind, &mut value),
+        behind,
+    )
 }
 
 // What all arguments ask for. One that has nothing behind it asks for nothing.

@@ -7,7 +7,7 @@ mod arguments;
 mod images;
 mod words;
 
-use console::{Outputs, input};
+use console::{Outputs, Told, input};
 use line::Table;
 use std::io::{Stderr, Stdin};
 use std::rt::{Env, Files};
@@ -66,24 +66,19 @@ fn with_table(
 const CARD_MOST: usize = 4096;
 
 // Reads the images, if a file of them is named, then the card, and makes the round on the line that it sets up. What cannot be read is told already.
-fn go<R: Env + Files>(rt: &R, mut stdin: Stdin, to: Outputs, r: Request) {
+fn go<R: Env + Files>(rt: &R, mut stdin: Stdin, to: Outputs, r: Request) -> Result<(), Told> {
     let mut images = [0xFFu8; images::ROOM];
-    let Ok(bytes) = images::load(rt, to.errors, r.images, &mut images) else {
-        return;
-    };
+    let bytes = images::load(rt, to.errors, r.images, &mut images)?;
     let mut card = [0u8; CARD_MOST];
-    let hand = input::fill(&mut stdin, to.errors, b"standard input", &mut card);
-    if hand.failed {
-        return;
-    }
-    let n = input::within(hand.bytes, &card);
+    let n = input::fill(&mut stdin, to.errors, b"standard input", &mut card)?;
     let set_up = card::set_up(&card[..n], 16, line::tables::blank(0));
     let answer = set_up.answer;
     let table = set_up.table;
     if terminal::refused_card(to.out, answer) {
-        return;
+        return Ok(());
     }
     with_table(to, table, r.places, r.pages, bytes, &mut images);
+    Ok(())
 }
 
 fn main(rt: HostRuntime) {
@@ -92,7 +87,9 @@ fn main(rt: HostRuntime) {
         errors: rt.stderr(),
     };
     match arguments::read(&rt) {
-        Some(r) => go(&rt, rt.stdin(), to, r),
+        Some(r) => {
+            let _ = go(&rt, rt.stdin(), to, r);
+        }
         None => say_usage(to.errors),
     }
 }

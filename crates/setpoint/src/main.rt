@@ -4,7 +4,7 @@
 
 mod words;
 
-use console::{Outputs, input};
+use console::{Outputs, Told, input};
 use setpoints::{Fault, Kind};
 use std::io::{Stderr, Stdin};
 use words::Command;
@@ -31,43 +31,31 @@ fn say_reading(to: Outputs, answer: Result<i64, Fault>) {
     }
 }
 
-// Writes what a writer answered: the page that it left, or the refusal.
-fn say_page(to: Outputs, answer: Result<(), Fault>, page: &[u8]) {
-    match answer {
-        Ok(()) => {
-            console::is_written(to, page);
-        }
-        Err(fault) => console::say_refused(to, setpoints::number_of(fault)),
-    }
-}
-
 // Reads the page, and writes what its reader answers: the one of a kind, or the one of either.
-fn read(mut input: Stdin, to: Outputs, kind: Option<Kind>) {
+fn read(mut input: Stdin, to: Outputs, kind: Option<Kind>) -> Result<(), Told> {
     let mut bytes = [0u8; BYTES_MOST];
-    let hand = input::fill(&mut input, to.errors, b"standard input", &mut bytes);
-    if hand.failed {
-        return;
-    }
-    let n = input::within(hand.bytes, &bytes);
+    let n = input::fill(&mut input, to.errors, b"standard input", &mut bytes)?;
     let page = &bytes[..n];
     let answer = match kind {
         Some(kind) => setpoints::read(kind, page),
         None => setpoints::read_either(page),
     };
     say_reading(to, answer);
+    Ok(())
 }
 
-// Reads the page, and writes what its writer answers.
-fn write(mut input: Stdin, to: Outputs, kind: Kind, value: i64) {
+// Reads the page, and writes the page that its writer leaves, or the refusal.
+fn write(mut input: Stdin, to: Outputs, kind: Kind, value: i64) -> Result<(), Told> {
     let mut bytes = [0u8; BYTES_MOST];
-    let hand = input::fill(&mut input, to.errors, b"standard input", &mut bytes);
-    if hand.failed {
-        return;
-    }
-    let n = input::within(hand.bytes, &bytes);
+    let n = input::fill(&mut input, to.errors, b"standard input", &mut bytes)?;
     let page = &mut bytes[..n];
-    let answer = setpoints::write(kind, page, value);
-    say_page(to, answer, page);
+    match setpoints::write(kind, page, value) {
+        Ok(()) => to.write(page),
+        Err(fault) => {
+            console::say_refused(to, setpoints::number_of(fault));
+            Ok(())
+        }
+    }
 }
 
 fn main(rt: HostRuntime) {
@@ -77,15 +65,18 @@ fn main(rt: HostRuntime) {
         errors: rt.stderr(),
     };
     let mut word = [0u8; words::WORD_MOST];
-    let n = console::argument(&rt, 1, &mut word);
+    let command = words::command_of(console::argument(&rt, 1, &mut word));
     let count = console::argument_count(&rt);
-    match words::command_of(&word[..n]) {
-        Some(Command::Read(kind)) if count == 2 => read(input, to, kind),
+    match command {
+        Some(Command::Read(kind)) if count == 2 => {
+            let _ = read(input, to, kind);
+        }
         Some(Command::Write(kind)) if count == 3 => {
             let mut text = console::argument_room();
-            let m = console::argument(&rt, 2, &mut text);
-            match numerals::read_number(&text[..m]) {
-                Some(value) => write(input, to, kind, value),
+            match numerals::read_number(console::argument(&rt, 2, &mut text)) {
+                Some(value) => {
+                    let _ = write(input, to, kind, value);
+                }
                 None => say_usage(to.errors),
             }
         }

@@ -6,219 +6,132 @@
 mod runs;
 mod text;
 
-ghost use Rattle.std.specs.Prelude.{◌<◌, ◌≤◌, length, IfSome};
-ghost use Rattle.console.specs.Input.{IsPrefixLen};
+ghost use Rattle.std.specs.Prelude.{◌≡◌};
 
-use console::{Outputs, input};
-use line::Table;
-use std::io::{Read, Stderr};
+use console::{Outputs, Told, input};
+use line::{Answer, SlotsAnswer, Table};
+use runs::{Answers, BITS_SIZE, CHARACTERS_MOST, Run};
+use std::io::Stdin;
 use std::rt::{Env, Files};
-use text::{Given, Pending};
+use text::Begun;
 
-// Where the process stands: the table, what of event 4 is still to come, and how many answers wait to be written.
-#[derive(Clone, Copy)]
-struct Progress {
+// The line with what it was lent, what has come of an event, the run of slots that waits for its end, the
+// bits on the bus of the last one, and what was answered.
+#[derive(Drop)]
+struct Process<'a> {
     table: Table,
-    pending: Pending,
-    answers: usize,
+    images: &'a mut [u8],
+    pads: &'a mut [u8],
+    begun: Option<Begun>,
+    run: Run,
+    bus: [u8; BITS_SIZE],
+    answers: Answers,
 }
 
-// One character of input: at most one answer more.
-fn take(s: Progress, b: u8, out: &mut [u8], images: &mut [u8], pads: &mut [u8]) -> Progress {
-    let table = s.table;
-    let pending = s.pending;
-    let answers = s.answers;
-    let what = text::read_char(pending, b);
-    match what {
-        Given::Passed => s,
-        Given::Awaited(next) => Progress {
-            table: table,
-            pending: next,
-            answers: answers,
-        },
-        Given::Whole(e) => {
-            let happened = line::take_event(table, e, images, pads);
-            let answer = happened.answer;
-            let after = happened.table;
-            base::put_at(out, answers, text::letter(answer));
-            Progress {
-                table: after,
-                pending: Pending::Nothing,
-                answers: more(answers),
-            }
+impl Process<'_> {
+    // Puts the run that waits on the line, and answers each of its slots.
+    fn end_run(&mut self)
+        ensures { self.new.run.slots ≡ 0 }
+    {
+        let run = &self.run;
+        let slots = run.slots;
+        let bytes = line::bytes_asked(slots);
+        let bits = &run.bits[..bytes];
+        let bus = &mut self.bus[..];
+        let ran = line::take_slots(
+            self.table,
+            bits,
+            slots,
+            &mut bus[..bytes],
+            self.images,
+            self.pads,
+        );
+        self.table = ran.table;
+        for slot in 0..slots {
+            let answer = match ran.answer {
+                SlotsAnswer::Put(_) => Answer::Bit(line::slot_bit(&self.bus, slot)),
+                SlotsAnswer::Refused(r) => Answer::Refused(r),
+            };
+            self.answers.put(text::letter(answer));
+        }
+        self.run.slots = 0;
+    }
+
+    // One slot more of the run that waits; a run that is full ends first.
+    fn take_slot(&mut self, bit: bool) {
+        if self.run.is_full() {
+            self.end_run();
+        }
+        self.run.put(bit);
+    }
+
+    // One character that is no slot of a run.
+    fn take_other(&mut self, b: u8) {
+        self.end_run();
+        if let Some(e) = text::read_char(&mut self.begun, b) {
+            let happened = line::take_event(self.table, e, self.images, self.pads);
+            self.table = happened.table;
+            self.answers.put(text::letter(happened.answer));
         }
     }
-}
 
-// One more, up to the size of the output buffer.
-fn more(n: usize) -> usize {
-    if n < 65536 { n + 1 } else { n }
-}
-
-// A run of slots that was gathered: as many answers more.
-fn take_run(
-    s: Progress,
-    slots: usize,
-    bits: &[u8],
-    answers: &mut [u8],
-    out: &mut [u8],
-    images: &mut [u8],
-    pads: &mut [u8],
-) -> Progress
-    requires { (slots ≤ 65535) × (8192 ≤ length bits.now) × (8192 ≤ length answers.old) }
-{
-    if slots == 0 {
-        return s;
-    }
-    let table = s.table;
-    let pending = s.pending;
-    let bytes = line::bytes_asked(slots);
-    let ran = line::take_slots(
-        table,
-        &bits[..bytes],
-        slots,
-        &mut answers[..bytes],
-        images,
-        pads,
-    );
-    let answer = ran.answer;
-    let after = ran.table;
-    let place = runs::put_answers(answer, answers, slots, out, s.answers);
-    Progress {
-        table: after,
-        pending: pending,
-        answers: place,
+    // Every character that was read, with its answers; spaces and line ends are passed over.
+    fn take_all(&mut self, input: &[u8]) {
+        self.answers.clear();
+        for b in input {
+            if self.begun.is_none() && text::is_slot(*b) {
+                self.take_slot(*b == b'1');
+            } else if !text::is_space(*b) {
+                self.take_other(*b);
+            }
+        }
+        self.end_run();
     }
 }
 
-// The character at a place, if the text goes so far.
-fn take_at(
-    s: Progress,
-    input: &[u8],
-    at: usize,
-    out: &mut [u8],
-    images: &mut [u8],
-    pads: &mut [u8],
-) -> Progress {
-    if at < input.len() {
-        return take(s, input[at], out, images, pads);
+// Answers events until the input ends: each time all that has come, so that nothing is held back while the process waits for input. Where
+// nobody takes the answers it stops.
+fn serve(mut stdin: Stdin, to: Outputs, process: &mut Process) -> Result<(), Told> {
+    let mut input = [0u8; CHARACTERS_MOST];
+    for _ in 0..u64::MAX {
+        let n = input::read_some(&mut stdin, &mut input);
+        if n == 0 {
+            break;
+        }
+        process.take_all(&input[..n]);
+        to.write(process.answers.text())?;
     }
-    s
+    Ok(())
 }
-
-// Every character that was read, with its answers put into out: a run of slots, then what ends it, and so on.
-fn take_all(
-    t: Progress,
-    input: &[u8],
-    out: &mut [u8],
-    images: &mut [u8],
-    pads: &mut [u8],
-) -> Progress {
-    let mut bits = runs::room();
-    let mut answers = runs::room();
-    let mut s = t;
-    let mut i: usize = 0;
-    while i < input.len() {
-        let pending = s.pending;
-        let run = runs::gather(pending, input, i, &mut bits);
-        let slots = run.slots;
-        let next = run.next;
-        s = take_run(s, slots, &bits, &mut answers, out, images, pads);
-        s = take_at(s, input, next, out, images, pads);
-        i = next + 1;
-    }
-    s
-}
-
-// Whether the part of out that holds answers could be written; if not, that is told in the system's words.
-fn are_answers_written(to: Outputs, out: &[u8], n: usize) -> bool {
-    if n <= out.len() {
-        return console::is_written(to, &out[..n]);
-    }
-    true
-}
-
-// Where the process stands after a turn, and whether the input goes on.
-#[derive(Clone, Copy)]
-struct Served {
-    progress: Progress,
-    on: bool,
-}
-
-// Reads what has come and answers it, so that nothing is held back while the process waits for input. Where nobody takes the answers it stops.
-fn one_turn<R: Read>(
-    stdin: &mut R,
-    to: Outputs,
-    t: Progress,
-    input: &mut [u8],
-    out: &mut [u8],
-    images: &mut [u8],
-    pads: &mut [u8],
-) -> Served {
-    let n = input::read_some(stdin, input);
-    if n == 0 {
-        return Served {
-            progress: t,
-            on: false,
-        };
-    }
-    let s = take_all(t, &input[..n], out, images, pads);
-    let written = are_answers_written(to, out, s.answers);
-    let table = s.table;
-    let pending = s.pending;
-    let next = Progress {
-        table: table,
-        pending: pending,
-        answers: 0,
-    };
-    Served {
-        progress: next,
-        on: written,
-    }
-}
-
-// Answers events until the input ends.
-fn serve<R: Read>(
-    stdin: &mut R,
-    to: Outputs,
-    t: Table,
-    input: &mut [u8],
-    out: &mut [u8],
-    images: &mut [u8],
-    pads: &mut [u8],
-) {
-    let mut s = Progress {
-        table: t,
-        pending: Pending::Nothing,
-        answers: 0,
-    };
-    let mut turns = u64::MAX;
-    while 0 < turns {
-        let r = one_turn(stdin, to, s, input, out, images, pads);
-        s = r.progress;
-        turns = console::turns_left(turns, r.on);
-    }
-}
-
-// The most characters that are read in one turn, and the most answers that are written.
-const CHARACTERS_MOST: usize = 65536;
 
 // Powers the line on, and answers events.
-fn start<R: Read>(stdin: &mut R, to: Outputs, t: Table, images: &mut [u8], pads: &mut [u8]) {
-    let powered = line::take_event(t, line::events::power_on(), images, pads);
-    let table = powered.table;
-    let mut input = [0u8; CHARACTERS_MOST];
-    let mut out = [0u8; CHARACTERS_MOST];
-    serve(stdin, to, table, &mut input, &mut out, images, pads);
+fn start(
+    stdin: Stdin,
+    to: Outputs,
+    table: Table,
+    images: &mut [u8],
+    pads: &mut [u8],
+) -> Result<(), Told> {
+    let powered = line::take_event(table, line::events::power_on(), images, pads);
+    let mut process = Process {
+        table: powered.table,
+        images,
+        pads,
+        begun: None,
+        run: Run::new(),
+        bus: [0; BITS_SIZE],
+        answers: Answers::new(),
+    };
+    serve(stdin, to, &mut process)
 }
 
 // Sets the line up from the bytes of a card, or says why it is refused.
-fn run<R: Read>(stdin: &mut R, to: Outputs, card: &[u8]) {
+fn run(stdin: Stdin, to: Outputs, card: &[u8]) -> Result<(), Told> {
     let set_up = card::set_up(card, 16, line::tables::blank(0));
     let answer = set_up.answer;
     let table = set_up.table;
     if terminal::refused_card(to.out, answer) {
-        return;
+        return Ok(());
     }
     let mut images = terminal::image_room();
     let mut pads = terminal::pad_room();
@@ -230,26 +143,20 @@ fn run<R: Read>(stdin: &mut R, to: Outputs, card: &[u8]) {
         table,
         &mut images[..image_bytes],
         &mut pads[..pad_bytes],
-    );
+    )
 }
 
 // The most bytes of a card that are read, and of its file's name.
 const CARD_MOST: usize = 4096;
 
-// Puts the card that an argument names at the start of a buffer; how many bytes it has. A file that cannot be opened is told by its name and the
-// system's words.
-fn read_card<R: Env + Files>(rt: &R, errors: Stderr, card: &mut [u8]) -> Option<usize>
-    ensures { IfSome result (λ n. IsPrefixLen n card.new) }
-{
-    let mut path = [0u8; CARD_MOST];
-    let length = console::argument(rt, 1, &mut path);
-    match console::open(rt, &path[..length]) {
-        Ok(mut file) => Some(input::read_full(&mut file, card)),
-        Err(why) => {
-            console::tell_failed(errors, &path[..length], why);
-            None
-        }
-    }
+// Reads the card that an argument names, and answers events on the line that it sets up.
+fn go<R: Env + Files>(rt: &R, stdin: Stdin, to: Outputs) -> Result<(), Told> {
+    let mut room = [0u8; CARD_MOST];
+    let path = console::argument(rt, 1, &mut room);
+    let mut file = console::open_or_tell(rt, to.errors, path)?;
+    let mut card = [0u8; CARD_MOST];
+    let n = input::read_full(&mut file, &mut card);
+    run(stdin, to, &card[..n])
 }
 
 fn main(rt: HostRuntime) {
@@ -264,10 +171,5 @@ fn main(rt: HostRuntime) {
         );
         return;
     }
-    let mut card = [0u8; CARD_MOST];
-    let mut stdin = rt.stdin();
-    match read_card(&rt, to.errors, &mut card) {
-        Some(n) => run(&mut stdin, to, &card[..n]),
-        None => {}
-    }
+    let _ = go(&rt, rt.stdin(), to);
 }

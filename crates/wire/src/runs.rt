@@ -1,95 +1,79 @@
-// Runs of slots: gathered from the text with their host bits packed, and answered character by character.
-ghost use Rattle.std.specs.Prelude.{◌≡◌, ◌<◌, ◌≤◌, length};
+// Runs of slots, and the characters of what was answered, each in room of its own.
+ghost use Rattle.std.specs.Prelude.{◌≤◌, ◌<◌, ◌≡◌, nat_le};
 
-use crate::text;
-use crate::text::Pending;
-use line::{Answer, SLOTS_MOST, SlotsAnswer};
+use line::SLOTS_MOST;
 
-// A run that was gathered: how many slots it has, and where the text goes on.
-#[derive(Clone, Copy)]
-pub struct Gathered {
+// The bytes for the bits of the longest run.
+pub const BITS_SIZE: usize = SLOTS_MOST / 8 + 1;
+
+// A run of slots: how many, and the host's bits, packed as the line takes them.
+#[derive(Drop)]
+pub struct Run {
     pub slots: usize,
-    pub next: usize,
+    pub bits: [u8; BITS_SIZE],
+    ghost fits: { slots ≤ 65535 },
 }
 
-// Room for the bits of the longest run.
-pub fn room() -> [u8; 8192]
-    ensures { 8192 ≡ length result }
-{
-    [0; 8192]
-}
-
-// The slots of a run with the one that a character is, if it is one.
-fn with_slot(bits: &mut [u8], slots: usize, b: u8) -> usize
-    requires { slots ≤ 65534 }
-    ensures { result ≤ 65535 }
-{
-    if text::is_slot(b) {
-        line::put_slot_bit(bits, slots, b == b'1');
-        return slots + 1;
-    }
-    slots
-}
-
-// The run of slots that the text has from a place on, up to the most that a run has; spaces and line ends are passed over.
-fn gather_slots(input: &[u8], at: usize, bits: &mut [u8]) -> Gathered
-    requires { at ≤ length input.now }
-    ensures { (at ≤ result.next) × (result.next ≤ length input.now) × (result.slots ≤ 65535) × (result.next < 9223372036854775808) }
-{
-    let mut slots: usize = 0;
-    let mut next = at;
-    while next < input.len() {
-        if SLOTS_MOST <= slots {
-            break;
+impl Run {
+    // No slot.
+    pub fn new() -> Run {
+        Run {
+            slots: 0,
+            bits: [0; BITS_SIZE],
         }
-        let b = input[next];
-        if !text::is_in_run(b) {
-            break;
+    }
+
+    // Whether it has as many slots as a run can have.
+    pub fn is_full(&self) -> bool
+        ensures { result ≡ nat_le 65535 self.now.slots }
+    {
+        SLOTS_MOST <= self.slots
+    }
+
+    // One slot more, with the host's bit.
+    pub fn put(&mut self, bit: bool)
+        requires { self.old.slots < 65535 }
+    {
+        line::put_slot_bit(&mut self.bits, self.slots, bit);
+        self.slots += 1;
+    }
+}
+
+// The most characters that are read in one turn, each of which has one answer at most.
+pub const CHARACTERS_MOST: usize = 65536;
+
+// The characters of what was answered in a turn.
+#[derive(Drop)]
+pub struct Answers {
+    count: usize,
+    text: [u8; CHARACTERS_MOST],
+    ghost fits: { count ≤ 65536 },
+}
+
+impl Answers {
+    // None yet.
+    pub fn new() -> Answers {
+        Answers {
+            count: 0,
+            text: [0; CHARACTERS_MOST],
         }
-        slots = with_slot(bits, slots, b);
-        next += 1;
     }
-    Gathered {
-        slots: slots,
-        next: next,
-    }
-}
 
-// The run of slots at a place, by what is still to come: within event 4 there is none.
-pub fn gather(pending: Pending, input: &[u8], at: usize, bits: &mut [u8]) -> Gathered
-    requires { at ≤ length input.now }
-    ensures { (at ≤ result.next) × (result.next ≤ length input.now) × (result.slots ≤ 65535) × (result.next < 9223372036854775808) }
-{
-    match pending {
-        Pending::Nothing => gather_slots(input, at, bits),
-        Pending::Chip => Gathered { slots: 0, next: at },
-        Pending::Outside(_) => Gathered { slots: 0, next: at },
+    // None again.
+    pub fn clear(&mut self) {
+        self.count = 0;
     }
-}
 
-// What one slot of a run answers: its bit, or the refusal of the run.
-fn slot_answer(answer: SlotsAnswer, answers: &[u8], slot: usize) -> Answer {
-    match answer {
-        SlotsAnswer::Put(_) => Answer::Bit(line::slot_bit(answers, slot)),
-        SlotsAnswer::Refused(r) => Answer::Refused(r),
+    // One answer more. One for which there is no room is left out.
+    pub fn put(&mut self, letter: u8) {
+        if self.count < CHARACTERS_MOST {
+            self.text[self.count] = letter;
+            self.count += 1;
+        }
     }
-}
 
-// The characters of a run's answers put into out from a place on; the place after them.
-pub fn put_answers(
-    answer: SlotsAnswer,
-    answers: &[u8],
-    slots: usize,
-    out: &mut [u8],
-    at: usize,
-) -> usize {
-    let mut place = at;
-    let mut i: usize = 0;
-    while i < slots {
-        let one = slot_answer(answer, answers, i);
-        base::put_at(out, place, text::letter(one));
-        place = crate::more(place);
-        i += 1;
+    // All of them.
+    pub fn text(&self) -> &[u8] {
+        &self.text[..self.count]
     }
-    place
 }

@@ -1,5 +1,0 @@
-use mathlib.Core.Path.{refl}
-use Rattle.playback.proofs.play_events.Goals as goal
-
-pub loop-turns-init : goal.loop-turns-init
-loop-turns-init g c = (refl, refl, refl, refl)
