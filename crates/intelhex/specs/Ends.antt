@@ -1,53 +1,61 @@
 -- Laws: the end of a line sought, and its characters tried, one after the other; bytes of its digits.
 use Prim.Native.Char.{code as letter}
-use Rattle.std.specs.Prelude.{◌≡◌, ℕ, zero, suc, ◌+◌, ◌*◌, ◌/◌, ◌<◌, ◌≤◌, Bool, true, false, List, [], ◌∷◌, length, take, drop, ◌≢◌, slice_index, refl}
-use Rattle.std.proofs.Common.{arith, add-one, ◌∙◌, ap, drop_of_length-le, drop-cons, get_or-take, length-take-le, eq-eqb, ne_eqb}
+use Rattle.std.specs.Prelude.{◌≡◌, ℕ, zero, suc, ◌+◌, ◌*◌, ◌/◌, ◌<◌, ◌≤◌, Bool, true, false, List, [], ◌∷◌, length, take, drop, ◌≢◌, ◌==◌, nat_lt, slice_index, refl, Option, Some, None, unwrap_or, position, cond, ◌&&◌}
+use Rattle.std.specs.List.{list_all, position_or_len}
+use Rattle.std.proofs.lemmas.List.Recursion.{is_position_or_len}
+use Rattle.std.proofs.Common.{arith, add-one, ◌∙◌, ap, drop_of_length-le, drop-cons, ltb-true, ltb-false}
 use Rattle.std.proofs.Math.Path.{sym}
-use Rattle.base.specs.Pick.{pick_true, pick_false}
+use Rattle.base.specs.Pick.{pick, pick_true, pick_false}
 use Rattle.base.specs.Bits.{both}
 use Rattle.intelhex.specs.Bytes.{is_digit, byte_of, bytes_of}
 use Rattle.intelhex.specs.Written.{line_feed}
 use Rattle.intelhex.specs.Lines.{before, all_digits}
 
--- ---- the first LF among so many characters
-module _ (text : List ℕ) (most i : ℕ) (within : most ≤ length text) where
-  here : i < most → drop i (take most text) ≡ slice_index text i ∷ drop (i + 1) (take most text)
-  here h =
-      let l : length (take most text) ≡ most = length-take-le most text within in
-      drop-cons (take most text) i 0 (omega arith)
-      ∙ (λ j. get_or-take most text i 0 h j ∷ drop (sym (add-one i) j) (take most text))
+-- ---- the first LF
+abbrev tag : Option ℕ → ℕ
+tag (Some n) = 1
+tag None = 0
 
-  pub end_here : (n : ℕ) → i < most → slice_index text i ≡ line_feed → i + before (drop i (take most text)) ≡ n → i ≡ n
-  end_here n h c e =
-      let z : before (drop i (take most text)) ≡ 0 = ap before (here h) ∙ pick_true _ _ _ (eq-eqb (slice_index text i) line_feed c) in
-      omega arith
+pick_cond : (t : Bool) (a b : ℕ) → pick t a b ≡ cond t a b
+unfolding pick
+pick_cond true a b = refl
+pick_cond false a b = refl
 
-  pub end_later : (n : ℕ) → i < most → (slice_index text i ≢ line_feed) → i + before (drop i (take most text)) ≡ n → i + 1 + before (drop (i + 1) (take most text)) ≡ n
-  end_later n h c e =
-      let z : before (drop i (take most text)) ≡ suc (before (drop (i + 1) (take most text))) = ap before (here h) ∙ pick_false _ _ _ (ne_eqb (slice_index text i) line_feed c) in
-      omega arith
+before_is : (xs : List ℕ) → before xs ≡ position_or_len (λ c. c == line_feed) xs
+before_is = is_position_or_len before (λ c. c == line_feed) refl
+    (λ x xs. let e : suc (before xs) ≡ 1 + before xs = omega arith in pick_cond (x == line_feed) 0 (suc (before xs)) ∙ ap (cond (x == line_feed) 0) e)
 
-  pub no_end : (n : ℕ) → most ≤ i → i ≤ most → i + before (drop i (take most text)) ≡ n → most ≡ n
-  no_end n h k e =
-      let l : length (take most text) ≡ most = length-take-le most text within in
-      let z : before (drop i (take most text)) ≡ 0 = ap before (drop_of_length-le (take most text) {i = i} (omega arith)) in
-      omega arith
+-- where there is one, as many characters stand before it as `position` says, and where there is none, all
+pub ended_at : (xs : List ℕ) (k : ℕ) → position (λ c. c == line_feed) xs ≡ Some k → (k ≡ before xs) × (k < length xs)
+ended_at xs k h = by (nat_lt (position_or_len (λ c. c == line_feed) xs) (length xs)) refl
+  where
+    by : (t : Bool) → nat_lt (position_or_len (λ c. c == line_feed) xs) (length xs) ≡ t → (k ≡ before xs) × (k < length xs)
+    by true e =
+        let q = sym (ap (λ (t : Bool). unwrap_or (cond t (Some (position_or_len (λ c. c == line_feed) xs)) None) 0) e) ∙ ap (λ (o : Option ℕ). unwrap_or o 0) h in
+        let b = before_is xs in
+        let l = ltb-true _ _ e in
+        (omega arith, omega arith)
+    by false e = absurd (let z : 0 ≡ 1 = sym (ap (λ (t : Bool). tag (cond t (Some (position_or_len (λ c. c == line_feed) xs)) None)) e) ∙ ap tag h in omega arith)
+
+pub unended : (xs : List ℕ) → position (λ c. c == line_feed) xs ≡ None → length xs ≤ before xs
+unended xs h = by (nat_lt (position_or_len (λ c. c == line_feed) xs) (length xs)) refl
+  where
+    by : (t : Bool) → nat_lt (position_or_len (λ c. c == line_feed) xs) (length xs) ≡ t → length xs ≤ before xs
+    by true e = absurd (let z : 1 ≡ 0 = sym (ap (λ (t : Bool). tag (cond t (Some (position_or_len (λ c. c == line_feed) xs)) None)) e) ∙ ap tag h in omega arith)
+    by false e =
+        let b = before_is xs in
+        let l = ltb-false _ _ e in
+        omega arith
 
 -- ---- are all characters digits?
-module _ (line : List ℕ) (i : ℕ) (r : Bool) where
-  ahead : i < length line → all_digits (drop i line) ≡ both (is_digit (slice_index line i)) (all_digits (drop (i + 1) line))
-  ahead h = ap all_digits (drop-cons line i 0 h) ∙ ap (λ (k : ℕ). both (is_digit (slice_index line i)) (all_digits (drop k line))) (sym (add-one i))
+both_and : (a b : Bool) → both a b ≡ (a && b)
+unfolding both pick
+both_and true b = refl
+both_and false b = refl
 
-  pub digit_next : i < length line → r ≡ is_digit (slice_index line i) → r ≡ true → all_digits (drop (i + 1) line) ≡ all_digits (drop i line)
-  unfolding both
-  digit_next h e t = sym (ahead h ∙ pick_true _ _ _ (sym e ∙ t))
-
-  pub no_digit : i < length line → r ≡ is_digit (slice_index line i) → r ≡ false → false ≡ all_digits (drop i line)
-  unfolding both
-  no_digit h e t = sym (ahead h ∙ pick_false _ _ _ (sym e ∙ t))
-
-pub digits_end : (line : List ℕ) (i : ℕ) → length line ≤ i → true ≡ all_digits (drop i line)
-digits_end line i h = ap all_digits (sym (drop_of_length-le line h))
+pub digits_all : (cs : List ℕ) → all_digits cs ≡ list_all (λ c. is_digit c) cs
+digits_all [] = refl
+digits_all (c ∷ cs) = both_and (is_digit c) (all_digits cs) ∙ ap (λ (t : Bool). is_digit c && t) (digits_all cs)
 
 -- a line that begins with a colon has a character
 pub colon_some : (line : List ℕ) → slice_index line 0 ≡ letter ":" → 1 ≤ length line

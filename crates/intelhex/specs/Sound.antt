@@ -1,15 +1,18 @@
 -- Laws: what a line that stands in a text, its form and its record keep to.
 use Prim.Native.Char.{code as letter}
-use Rattle.std.specs.Prelude.{◌≡◌, ℕ, ◌+◌, ◌-◌, ◌*◌, ◌/◌, ◌%◌, ◌<◌, ◌≤◌, Bool, true, false, List, length, take, drop, ◌==◌, ◌≢◌, nat_lt, slice_index, slice_index_or, refl, Result, Ok, Err}
-use Rattle.std.proofs.Common.{arith, ◌∙◌, ap, take-append-drop, length-take, take_all, length-take-le, eqb-true, eq-eqb, ne_eqb, ltb-true, ltb-false, lt-ltb, le-ltb}
+use Rattle.std.specs.Prelude.{◌≡◌, ℕ, ◌+◌, ◌-◌, ◌*◌, ◌/◌, ◌%◌, ◌<◌, ◌≤◌, Bool, true, false, List, length, take, drop, ◌==◌, ◌≢◌, nat_lt, slice_index, slice_index_or, refl, Result, Ok, Err, Option, Some, None, min, position}
+use Rattle.std.specs.List.{list_all}
+use Rattle.std.proofs.lemmas.List.{take_min}
+use Rattle.std.proofs.Common.{arith, ◌∙◌, ap, take-append-drop, length-drop, length-take, take_all, length-take-le, eqb-true, eq-eqb, ne_eqb, ltb-true, ltb-false, lt-ltb, le-ltb}
 use Rattle.std.proofs.Math.Path.{sym}
 use Rattle.std.proofs.Math.Seq.{take-append_seam}
 use Rattle.base.specs.Pick.{pick, pick_true, pick_false, pick_if, pick_both}
 use Rattle.intelhex.specs.Faults.{line_most}
-use Rattle.intelhex.specs.Bytes.{sum_of}
+use Rattle.intelhex.specs.Bytes.{is_digit, sum_of}
+use Rattle.intelhex.specs.Written.{line_feed}
 use Rattle.intelhex.specs.Lines.{before, carriage_return, without_return, standing, all_digits, form_of, count_in, address_in, type_in, is_bad_end, is_above, judged}
-use Rattle.intelhex.specs.Ends.{colon_some}
-use Rattle.intelhex.specs.declared.Fault.TheVariants.{NoDigit, OddDigits, FewBytes}
+use Rattle.intelhex.specs.Ends.{colon_some, ended_at, unended, digits_all}
+use Rattle.intelhex.specs.declared.Fault.TheVariants.{NoColon, NoDigit, OddDigits, FewBytes}
 use Rattle.intelhex.specs.declared.lines.Standing.{Standing}
 use Rattle.intelhex.specs.declared.lines.Standing.TheVariants.{Nothing, Unended, Endless, Line}
 use Rattle.intelhex.specs.declared.record.Judged.{Judged}
@@ -18,45 +21,44 @@ use Rattle.intelhex.specs.declared.Fault.{Fault}
 
 -- ---- lines
 
--- how many characters can be those of a line
-pub most_few : (text : List ℕ) → length text < line_most → length text ≡ length (take line_most text)
-most_few text h = ap length (sym (take_all line_most text (omega arith)))
-
-pub most_many : (text : List ℕ) → line_most ≤ length text → line_most ≡ length (take line_most text)
-most_many text h = sym (length-take-le line_most text h)
-
 pub most_within : (text : List ℕ) → (length (take line_most text) ≤ length text) × (length (take line_most text) ≤ line_most)
 most_within text = let e = length-take line_most text in (omega arith, omega arith)
 
--- these characters are the first of the text
-cut : (text : List ℕ) → take (length (take line_most text)) text ≡ take line_most text
-cut text = ap (λ (x : List ℕ). take (length (take line_most text)) x) (sym (take-append-drop line_most text)) ∙ take-append_seam (take line_most text) (drop line_most text)
+-- what a text begins with, by the first of its characters that can be those of a line, and by where an LF stands among them
+module _ (text : List ℕ) (most : ℕ) (m : most ≡ min (length text) line_most) where
+  first_is : take most text ≡ take line_most text
+  first_is = let e : most ≡ min line_most (length text) = omega arith in ap (λ (n : ℕ). take n text) e ∙ take_min line_most text
 
--- what a text begins with, by how many characters can be those of a line and how many stand before an LF
-module _ (text : List ℕ) where
   pub stands_nothing : length text ≡ 0 → Nothing ≡ standing text
   unfolding standing
   stands_nothing e = sym (pick_true _ _ _ (eq-eqb (length text) 0 e))
 
-  module _ (most n : ℕ) (some : length text ≡ 0 → ⊥) (e : most ≡ length (take line_most text)) (f : n ≡ before (take most text)) where
-    n_is : n ≡ before (take line_most text)
-    n_is = f ∙ ap (λ (k : ℕ). before (take k text)) e ∙ ap before (cut text)
-
-    pub stands_line : (characters size : ℕ) → n < most → characters ≡ without_return text n → size ≡ n + 1 → Line characters size ≡ standing text
+  module _ (end : Option ℕ) (p : end ≡ position (λ c. c == line_feed) (take most text)) where
+    pub stands_line : (n characters size : ℕ) → end ≡ Some n → characters ≡ without_return text n → size ≡ n + 1 → Line characters size ≡ standing text
     unfolding standing
-    stands_line characters size h c s =
-        (λ j. Line (c j) (s j)) ∙ (λ j. Line (without_return text (n_is j)) (n_is j + 1))
-        ∙ sym (pick_false _ _ _ (ne_eqb (length text) 0 some) ∙ pick_true _ _ _ (lt-ltb (before (take line_most text)) (length (take line_most text)) (let k = n_is in omega arith)))
+    stands_line n characters size h c s =
+        let b = ended_at (take line_most text) n (ap (position (λ c. c == line_feed)) (sym first_is) ∙ sym p ∙ h) in
+        let k = b.1 in
+        let f = b.0 in
+        let l = length-take line_most text in
+        (λ j. Line (c j) (s j)) ∙ (λ j. Line (without_return text (f j)) (f j + 1))
+        ∙ sym (
+        pick_false _ _ _ (ne_eqb (length text) 0 (λ z. omega arith))
+        ∙ pick_true _ _ _ (lt-ltb (before (take line_most text)) (length (take line_most text)) (omega arith)))
 
-    none : most ≤ n → pick (nat_lt (length text) line_most) Unended Endless ≡ standing text
+    none : end ≡ None → (length text ≡ 0 → ⊥) → pick (nat_lt (length text) line_most) Unended Endless ≡ standing text
     unfolding standing
-    none h = sym (pick_false _ _ _ (ne_eqb (length text) 0 some) ∙ pick_false _ _ _ (le-ltb (before (take line_most text)) (length (take line_most text)) (let k = n_is in omega arith)))
+    none h some =
+        let u = unended (take line_most text) (ap (position (λ c. c == line_feed)) (sym first_is) ∙ sym p ∙ h) in
+        sym (
+        pick_false _ _ _ (ne_eqb (length text) 0 some)
+        ∙ pick_false _ _ _ (le-ltb (before (take line_most text)) (length (take line_most text)) u))
 
-    pub stands_unended : most ≤ n → length text < line_most → Unended ≡ standing text
-    stands_unended h k = sym (pick_true _ _ _ (lt-ltb (length text) line_most k)) ∙ none h
+    pub stands_unended : end ≡ None → (length text ≡ 0 → ⊥) → length text < line_most → Unended ≡ standing text
+    stands_unended h some k = sym (pick_true _ _ _ (lt-ltb (length text) line_most k)) ∙ none h some
 
-    pub stands_endless : most ≤ n → line_most ≤ length text → Endless ≡ standing text
-    stands_endless h k = sym (pick_false _ _ _ (le-ltb (length text) line_most k)) ∙ none h
+    pub stands_endless : end ≡ None → line_most ≤ length text → Endless ≡ standing text
+    stands_endless h k = sym (pick_false _ _ _ (le-ltb (length text) line_most k)) ∙ none h (λ z. omega arith)
 
 -- a line lies in the text
 abbrev pub LineLies : List ℕ → Standing → Type 0
@@ -107,25 +109,48 @@ form_fits line =
     tt)
     (λ t. tt)
 
--- a line's form, by what was found of it
-module _ (line : List ℕ) (c : slice_index_or line 0 0 ≡ letter ":") (good : Bool) (g : good ≡ all_digits (drop 1 line)) where
-  pub form_no_digit : good ≡ false → Err NoDigit ≡ form_of line
+-- a line's form, by its first character, and by what was found of those after it
+module _ (line : List ℕ) where
+  pub form_no_colon : (slice_index_or line 0 0 ≢ letter ":") → Err NoColon ≡ form_of line
   unfolding form_of
-  form_no_digit n = sym (pick_true _ _ _ (eq-eqb (slice_index line 0) (letter ":") c) ∙ pick_false _ _ _ (sym g ∙ n))
+  form_no_colon n = sym (pick_false _ _ _ (ne_eqb (slice_index line 0) (letter ":") n))
 
-  module _ (t : good ≡ true) where
-    of_digits : (f : Result ℕ Fault) → f ≡ pick ((length line - 1) % 2 == 0) (pick (nat_lt ((length line - 1) / 2) 5) (Err FewBytes) (Ok ((length line - 1) / 2))) (Err OddDigits) → f ≡ form_of line
+  pub form_empty : length line < 1 → Err NoColon ≡ form_of line
+  form_empty h = form_no_colon (λ z. let k = colon_some line z in omega arith)
+
+  module _ (cs : List ℕ) (colon : slice_index_or line 0 0 ≡ letter ":") (e : cs ≡ take (length line - 1) (drop 1 line)) (good : Bool) (g : good ≡ list_all (λ c. is_digit c) cs) where
+    rest : cs ≡ drop 1 line
+    rest = let l = length-drop 1 line in e ∙ take_all (length line - 1) (drop 1 line) (omega arith)
+
+    many : length cs ≡ length line - 1
+    many = ap length rest ∙ length-drop 1 line
+
+    digits : good ≡ all_digits (drop 1 line)
+    digits = g ∙ sym (digits_all cs) ∙ ap all_digits rest
+
+    pub form_no_digit : good ≡ false → Err NoDigit ≡ form_of line
     unfolding form_of
-    of_digits f e = e ∙ sym (pick_true _ _ _ (eq-eqb (slice_index line 0) (letter ":") c) ∙ pick_true _ _ _ (sym g ∙ t))
+    form_no_digit n = sym (pick_true _ _ _ (eq-eqb (slice_index line 0) (letter ":") colon) ∙ pick_false _ _ _ (sym digits ∙ n))
 
-    pub form_odd : ((length line - 1) % 2 ≢ 0) → Err OddDigits ≡ form_of line
-    form_odd n = of_digits _ (sym (pick_false _ _ _ (ne_eqb ((length line - 1) % 2) 0 n)))
+    module _ (t : good ≡ true) where
+      of_digits : (f : Result ℕ Fault) → f ≡ pick ((length line - 1) % 2 == 0) (pick (nat_lt ((length line - 1) / 2) 5) (Err FewBytes) (Ok ((length line - 1) / 2))) (Err OddDigits) → f ≡ form_of line
+      unfolding form_of
+      of_digits f q = q ∙ sym (pick_true _ _ _ (eq-eqb (slice_index line 0) (letter ":") colon) ∙ pick_true _ _ _ (sym digits ∙ t))
 
-    pub form_few : (length line - 1) % 2 ≡ 0 → (length line - 1) / 2 < 5 → Err FewBytes ≡ form_of line
-    form_few e h = of_digits _ (sym (pick_true _ _ _ (eq-eqb ((length line - 1) % 2) 0 e) ∙ pick_true _ _ _ (lt-ltb ((length line - 1) / 2) 5 h)))
+      pub form_odd : (length cs % 2 ≢ 0) → Err OddDigits ≡ form_of line
+      form_odd n = of_digits _ (sym (pick_false _ _ _ (ne_eqb ((length line - 1) % 2) 0 (λ z. let l = many in n (omega arith)))))
 
-    pub form_bytes : (length line - 1) % 2 ≡ 0 → 5 ≤ (length line - 1) / 2 → Ok ((length line - 1) / 2) ≡ form_of line
-    form_bytes e h = of_digits _ (sym (pick_true _ _ _ (eq-eqb ((length line - 1) % 2) 0 e) ∙ pick_false _ _ _ (le-ltb ((length line - 1) / 2) 5 h)))
+      pub form_few : length cs % 2 ≡ 0 → length cs < 10 → Err FewBytes ≡ form_of line
+      form_few q h =
+          let l = many in
+          of_digits _ (sym (pick_true _ _ _ (eq-eqb ((length line - 1) % 2) 0 (omega arith)) ∙ pick_true _ _ _ (lt-ltb ((length line - 1) / 2) 5 (omega arith))))
+
+      pub form_bytes : length cs % 2 ≡ 0 → 10 ≤ length cs → Ok (length cs / 2) ≡ form_of line
+      form_bytes q h =
+          let l = many in
+          let b : length cs / 2 ≡ (length line - 1) / 2 = omega arith in
+          ap Ok b
+          ∙ of_digits _ (sym (pick_true _ _ _ (eq-eqb ((length line - 1) % 2) 0 (omega arith)) ∙ pick_false _ _ _ (le-ltb ((length line - 1) / 2) 5 (omega arith))))
 
 -- ---- records
 

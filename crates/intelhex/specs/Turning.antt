@@ -47,19 +47,19 @@ module _ (line image : List ℕ) (size : ℕ) where
   bytes_room p n s e f h r = let l = (bytes_fit p n e f).0 in omega arith
 
   -- the bytes that were put at the start of a buffer are those of the line
-  decoded : (p : Result ℕ Fault) (n : ℕ) (s s' : List ℕ) → p ≡ form_of line → p ≡ Ok n → n ≤ length s → s' ≡ sets s 0 (take n (bytes_of (drop 1 line)))
+  decoded : (p : Result ℕ Fault) (n : ℕ) (s s' : List ℕ) → p ≡ form_of line → p ≡ Ok n → n ≤ length s → s' ≡ sets s 0 (bytes_of (take (length line - 1) (drop 1 line)))
       → take n s' ≡ bytes_of (drop 1 line)
   decoded p n s s' e f h g =
       let l = (bytes_fit p n e f).0 in
       let d = length-drop 1 line in
       let b = bytes_length (drop 1 line) in
       let m : length (bytes_of (drop 1 line)) ≡ n = omega arith in
-      let w : take n (bytes_of (drop 1 line)) ≡ bytes_of (drop 1 line) = take_all n (bytes_of (drop 1 line)) (omega arith) in
-      ap (take n) (g ∙ ap (sets s 0) w ∙ sets-eq (bytes_of (drop 1 line)) s 0 (omega arith))
+      let w : take (length line - 1) (drop 1 line) ≡ drop 1 line = take_all (length line - 1) (drop 1 line) (omega arith) in
+      ap (take n) (g ∙ ap (λ (cs : List ℕ). sets s 0 (bytes_of cs)) w ∙ sets-eq (bytes_of (drop 1 line)) s 0 (omega arith))
       ∙ take_at (bytes_of (drop 1 line)) (drop (0 + length (bytes_of (drop 1 line))) s) n m
 
-  pub by_bytes : (p : Result ℕ Fault) (n : ℕ) (s s' : List ℕ) (t : Turned) → p ≡ form_of line → p ≡ Ok n → n ≤ length s → s' ≡ sets s 0 (take n (bytes_of (drop 1 line)))
-      → t ≡ turned_by image (next_by size (take n s') (judged (take n s'))) → t ≡ turned_by image (next_in size line (form_of line))
+  pub by_bytes : (p : Result ℕ Fault) (n : ℕ) (s s' : List ℕ) (t : Turned) → p ≡ form_of line → p ≡ Ok n → n ≤ length s
+      → s' ≡ sets s 0 (bytes_of (take (length line - 1) (drop 1 line))) → t ≡ turned_by image (next_by size (take n s') (judged (take n s'))) → t ≡ turned_by image (next_in size line (form_of line))
   by_bytes p n s s' t e f h g k =
       by_form p (Ok n) t e f (k ∙ ap (λ (b : List ℕ). turned_by image (next_by size b (judged b))) (decoded p n s s' e f h g))
 

@@ -1,41 +1,24 @@
 // What hex digits are worth, the bytes of two of them, and the sum of bytes.
 ghost use Rattle.std.specs.Prelude.{◌≡◌};
-ghost use Rattle.intelhex.specs.Bytes.{between, is_digit, worth, byte_of, sum_of, check_of};
-
-// A character lies between two others, or is one of them.
-fn is_between(least: u8, c: u8, most: u8) -> bool
-    ensures { result ≡ between least c most }
-{
-    if least <= c { c <= most } else { false }
-}
+ghost use Rattle.intelhex.specs.Bytes.{is_digit, worth, byte_of, sum_of, check_of};
 
 // A character is a hex digit, of either case.
 pub fn is_digit(c: u8) -> bool
     ensures { result ≡ is_digit c }
 {
-    if is_between(b'0', c, b'9') {
-        return true;
-    }
-    if is_between(b'A', c, b'F') {
-        return true;
-    }
-    is_between(b'a', c, b'f')
+    matches!(c, b'0'..=b'9' | b'A'..=b'F' | b'a'..=b'f')
 }
 
 // What a hex digit is worth, 0 for any other character.
 fn worth_of(c: u8) -> u8
     ensures { result ≡ worth c }
 {
-    if is_between(b'0', c, b'9') {
-        return c - b'0';
+    match c {
+        b'0'..=b'9' => c - b'0',
+        b'A'..=b'F' => c - b'A' + 10,
+        b'a'..=b'f' => c - b'a' + 10,
+        _ => 0,
     }
-    if is_between(b'A', c, b'F') {
-        return c - b'A' + 10;
-    }
-    if is_between(b'a', c, b'f') {
-        return c - b'a' + 10;
-    }
-    0
 }
 
 // The byte of two digits.
@@ -50,10 +33,8 @@ pub fn sum_of(bytes: &[u8]) -> u8
     ensures { result ≡ sum_of bytes.now }
 {
     let mut sum: u8 = 0;
-    let mut i: usize = 0;
-    while i < bytes.len() {
-        sum = std::num::wrapping_add_u8(sum, bytes[i]);
-        i += 1;
+    for byte in bytes {
+        sum = sum.wrapping_add(*byte);
     }
     sum
 }
@@ -62,5 +43,5 @@ pub fn sum_of(bytes: &[u8]) -> u8
 pub fn check_of(bytes: &[u8]) -> u8
     ensures { result ≡ check_of bytes.now }
 {
-    std::num::wrapping_sub_u8(0, sum_of(bytes))
+    0u8.wrapping_sub(sum_of(bytes))
 }

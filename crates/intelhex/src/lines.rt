@@ -1,7 +1,7 @@
 // Where the line that a text begins with ends.
-ghost use Rattle.std.specs.Prelude.{◌≡◌, ◌≤◌, length, take};
-ghost use Rattle.intelhex.specs.Faults.{line_most};
-ghost use Rattle.intelhex.specs.Lines.{before, without_return, standing};
+ghost use Rattle.std.specs.Prelude.{◌≡◌, ◌==◌, position};
+ghost use Rattle.intelhex.specs.Written.{line_feed};
+ghost use Rattle.intelhex.specs.Lines.{without_return, standing};
 
 use crate::LINE_FEED;
 
@@ -24,61 +24,35 @@ pub enum Standing {
     Line { characters: usize, size: usize },
 }
 
-// How many of the first so many characters stand before the first LF among them.
-fn before_end(text: &[u8], most: usize) -> usize
-    requires { most ≤ length text.now }
-    ensures { result ≡ before (take most text.now) }
+// How many characters stand before the first LF, if there is one.
+fn before_end(text: &[u8]) -> Option<usize>
+    ensures { result ≡ position (λ c. c == line_feed) text.now }
 {
-    let mut i: usize = 0;
-    while i < most {
-        if text[i] == LINE_FEED {
-            return i;
-        }
-        i += 1;
-    }
-    most
+    text.iter().position(|c| *c == LINE_FEED)
 }
 
 // How many characters a line has, of so many before its LF: a CR right before the LF belongs to the line's end.
 fn without_return(text: &[u8], n: usize) -> usize
     ensures { result ≡ without_return text.now n }
 {
-    if n == 0 {
-        return n;
-    }
-    if base::byte_at(text, n - 1) == CARRIAGE_RETURN {
+    if n != 0 && base::byte_at(text, n - 1) == CARRIAGE_RETURN {
         return n - 1;
     }
     n
-}
-
-// How many characters of a text can be those of one line.
-fn most_of(text: &[u8]) -> usize
-    ensures { result ≡ length (take line_most text.now) }
-{
-    if text.len() < LINE_MOST {
-        return text.len();
-    }
-    LINE_MOST
 }
 
 // What a text begins with.
 pub fn standing_in(text: &[u8]) -> Standing
     ensures { result ≡ standing text.now }
 {
-    if text.len() == 0 {
-        return Standing::Nothing;
-    }
-    let most = most_of(text);
-    let n = before_end(text, most);
-    if n < most {
-        return Standing::Line {
+    let first = &text[..text.len().min(LINE_MOST)];
+    match before_end(first) {
+        Some(n) => Standing::Line {
             characters: without_return(text, n),
             size: n + 1,
-        };
+        },
+        None if text.is_empty() => Standing::Nothing,
+        None if text.len() < LINE_MOST => Standing::Unended,
+        None => Standing::Endless,
     }
-    if text.len() < LINE_MOST {
-        return Standing::Unended;
-    }
-    Standing::Endless
 }

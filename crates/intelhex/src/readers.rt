@@ -53,7 +53,7 @@ fn take_line(
     ensures { turned result image.new ≡ turned_by image.old (next_in size line.now (form_of line.now)) }
 {
     let n = record::form_of(line)?;
-    record::decode(line, n, bytes);
+    record::decode(&line[1..], bytes);
     take_record(&bytes[..n], size, image)
 }
 

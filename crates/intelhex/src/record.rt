@@ -1,8 +1,9 @@
 // A line's characters as the bytes of a record, and what the record is.
-ghost use Rattle.std.specs.Prelude.{◌≡◌, ◌+◌, ◌*◌, ◌≤◌, length, take, drop};
+ghost use Rattle.std.specs.Prelude.{◌≡◌, ◌/◌, ◌≤◌, length};
 ghost use Rattle.std.proofs.lemmas.List.Edits.{sets};
-ghost use Rattle.intelhex.specs.Bytes.{bytes_of};
-ghost use Rattle.intelhex.specs.Lines.{all_digits, form_of, address_in, is_bad_end, is_above, judged};
+ghost use Rattle.std.specs.List.{list_all};
+ghost use Rattle.intelhex.specs.Bytes.{is_digit, bytes_of};
+ghost use Rattle.intelhex.specs.Lines.{form_of, address_in, is_bad_end, is_above, judged};
 
 use crate::{Fault, digits};
 
@@ -18,51 +19,39 @@ pub enum Judged {
     End,
 }
 
-// All characters of a line from the second on are digits.
-fn are_digits(line: &[u8]) -> bool
-    ensures { result ≡ all_digits (drop 1 line.now) }
+// All characters are digits.
+fn are_digits(characters: &[u8]) -> bool
+    ensures { result ≡ list_all (λ c. is_digit c) characters.now }
 {
-    let mut i: usize = 1;
-    while i < line.len() {
-        let c = line[i];
-        if !digits::is_digit(c) {
-            return false;
-        }
-        i += 1;
-    }
-    true
+    characters.iter().all(|c| digits::is_digit(*c))
 }
 
 // Of how many bytes a line has the digits, after its colon.
 pub fn form_of(line: &[u8]) -> Result<usize, Fault>
     ensures { result ≡ form_of line.now }
 {
-    if base::byte_at(line, 0) != b':' {
+    let [b':', digits @ ..] = line else {
         return Err(Fault::NoColon);
-    }
-    let good = are_digits(line);
-    let digits = line.len() - 1;
-    if !good {
+    };
+    if !are_digits(digits) {
         return Err(Fault::NoDigit);
     }
-    if digits % 2 != 0 {
+    if digits.len() % 2 != 0 {
         return Err(Fault::OddDigits);
     }
-    if digits / 2 < 5 {
+    if digits.len() < 10 {
         return Err(Fault::FewBytes);
     }
-    Ok(digits / 2)
+    Ok(digits.len() / 2)
 }
 
-// The bytes of a line's digits, put at the start of a buffer.
-pub fn decode(line: &[u8], n: usize, bytes: &mut [u8])
-    requires { (2 * n + 1 ≤ length line.now) × (n ≤ length bytes.old) }
-    ensures { bytes.new ≡ sets bytes.old 0 (take n (bytes_of (drop 1 line.now))) }
+// The bytes of digits, put at the start of a buffer.
+pub fn decode(digits: &[u8], bytes: &mut [u8])
+    requires { length digits.now / 2 ≤ length bytes.old }
+    ensures { bytes.new ≡ sets bytes.old 0 (bytes_of digits.now) }
 {
-    let mut i: usize = 0;
-    while i < n {
-        bytes[i] = digits::byte_of(line[2 * i + 1], line[2 * i + 2]);
-        i += 1;
+    for (i, pair) in digits.chunks_exact(2).enumerate() {
+        bytes[i] = digits::byte_of(pair[0], pair[1]);
     }
 }
 
@@ -77,17 +66,14 @@ fn address_in(bytes: &[u8]) -> u16
 fn is_bad_end(record_type: u8, count: u8, address: u16) -> bool
     ensures { result ≡ is_bad_end record_type count address }
 {
-    base::are_both(record_type == 1, !base::are_both(count == 0, address == 0))
+    record_type == 1 && (count != 0 || address != 0)
 }
 
 // One of so many data bytes has an address above the last.
 fn is_above(count: u8, address: u16) -> bool
     ensures { result ≡ is_above count address }
 {
-    if count == 0 {
-        return false;
-    }
-    LAST_ADDRESS < (address as u32) + ((count - 1) as u32)
+    count != 0 && LAST_ADDRESS < (address as u32) + ((count - 1) as u32)
 }
 
 // What a record is.

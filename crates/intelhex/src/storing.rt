@@ -8,9 +8,7 @@ pub fn put_bytes(bytes: &[u8], slice: &mut [u8], at: usize)
     requires { at + length bytes.now ≤ 0x20000 }
     ensures { slice.new ≡ sets slice.old at bytes.now }
 {
-    let mut i: usize = 0;
-    while i < bytes.len() {
-        base::put_at(slice, at + i, bytes[i]);
-        i += 1;
+    for (i, byte) in bytes.iter().enumerate() {
+        base::put_at(slice, at + i, *byte);
     }
 }

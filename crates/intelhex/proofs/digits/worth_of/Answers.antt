@@ -1,30 +1,32 @@
 use Rattle.base.specs.Rules.{cases}
-use Rattle.std.proofs.Common.{sym, ◌∙◌, arith}
-use Rattle.intelhex.specs.Bytes.{worth}
-use Rattle.intelhex.specs.Digits.{between_ends}
+use Rattle.base.specs.Bits.{both}
+use Rattle.intelhex.specs.Bytes.{between, worth}
 use Rattle.intelhex.proofs.digits.worth_of.Goals as goal
 
-pub overflow_sub-result : goal.overflow_sub-result
-overflow_sub-result c = let p = between_ends _ _ _ (sym c.is_between.ensures ∙ c.if-is_between.true) in let h = p.0 in omega arith
+pub returns-in-48-to-57 : goal.returns-in-48-to-57
+unfolding worth between both
+returns-in-48-to-57 c = search cases
 
-pub returns-then-is_between : goal.returns-then-is_between
-unfolding worth
-returns-then-is_between c = search (cases, ← c.is_between.ensures)
+pub returns-in-65-to-70 : goal.returns-in-65-to-70
+unfolding worth between both
+returns-in-65-to-70 c = search cases
 
-pub overflow_sub-result-then-is_between-2 : goal.overflow_sub-result-then-is_between-2
-overflow_sub-result-then-is_between-2 c = let p = between_ends _ _ _ (sym c.is_between-2.ensures ∙ c.if-is_between-2.true) in let h = p.0 in omega arith
+pub returns-in-97-to-102 : goal.returns-in-97-to-102
+unfolding worth between both
+returns-in-97-to-102 c = search cases
 
-pub returns-then-is_between-2 : goal.returns-then-is_between-2
-unfolding worth
-returns-then-is_between-2 c = search (cases, ← c.is_between-2.ensures, ← c.is_between.ensures)
+pub returns-in_default : goal.returns-in_default
+unfolding worth between both
+returns-in_default c = search cases
 
-pub overflow_sub-result-then-is_between-3 : goal.overflow_sub-result-then-is_between-3
-overflow_sub-result-then-is_between-3 c = let p = between_ends _ _ _ (sym c.is_between-3.ensures ∙ c.if-is_between-3.true) in let h = p.0 in omega arith
+pub returns-in_default-2 : goal.returns-in_default-2
+unfolding worth between both
+returns-in_default-2 c = search cases
 
-pub returns-then-is_between-3 : goal.returns-then-is_between-3
-unfolding worth
-returns-then-is_between-3 c = search (cases, ← c.is_between-3.ensures, ← c.is_between-2.ensures, ← c.is_between.ensures)
+pub returns-in_default-3 : goal.returns-in_default-3
+unfolding worth between both
+returns-in_default-3 c = search cases
 
-pub returns : goal.returns
-unfolding worth
-returns c = search (cases, ← c.is_between-3.ensures, ← c.is_between-2.ensures, ← c.is_between.ensures)
+pub returns-in_default-4 : goal.returns-in_default-4
+unfolding worth between both
+returns-in_default-4 c = search cases

@@ -1,12 +1,21 @@
-use Rattle.std.proofs.Common.{ℕ, set, refl, ap, ◌∙◌, length-set, rules}
+use Rattle.std.proofs.Common.{set, ◌∙◌, arith}
+use Rattle.std.proofs.lemmas.List.Edits.{sets}
+use Rattle.intelhex.specs.Bytes.{bytes_of}
 use Rattle.intelhex.specs.Decoding.{decoded_next, decoded_all}
 use Rattle.intelhex.proofs.record.decode.Goals as goal
 
-pub loop-i-init : goal.loop-i-init
-loop-i-init c = (search rules, search rules, refl)
-
 pub loop-i-preserved : goal.loop-i-preserved
-loop-i-preserved c = let l = c.loop-i in let a = c.args in (search rules, simp length-set l.invariant.1, ap (λ (b : ℕ). set l.bytes l.i b) c.byte_of.ensures ∙ decoded_next a.line.now a.n _ _ l.i (search rules) (search rules) l.invariant.2)
+loop-i-preserved c =
+    let l = c.loop-i in
+    let s = c.in-Some.ensures.steps in (
+      s.0.0 ∙ l.invariant.0,
+      (λ j. sets (set l.bytes (s.1 j) (c.byte_of.ensures j)) (s.2 j) (bytes_of c.next.new.self.iter.rest.now))
+      ∙ decoded_next l.bytes c.in-Some.pair.now _ _ _ s.0.1.0 (s.0.1.1 ∙ l.invariant.0) ∙ l.invariant.1,
+    )
 
 pub returns : goal.returns
-returns c = let l = c.loop-i in let a = c.args in l.invariant.2 ∙ decoded_all a.line.now a.n _ l.i (search rules) (search rules)
+returns c =
+    let l = c.loop-i in
+    let h = c.in-None.ensures.steps.0.1.0 in
+    let z = l.invariant.0 in
+    decoded_all l.bytes l.i-iterator.iter.rest.now l.i-iterator.count (omega arith) ∙ l.invariant.1
