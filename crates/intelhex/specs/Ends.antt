@@ -1,11 +1,11 @@
 -- Laws: the end of a line sought, and its characters tried, one after the other; bytes of its digits.
 use Prim.Native.Char.{code as letter}
-use Rattle.std.specs.Prelude.{◌≡◌, ℕ, zero, suc, ◌+◌, ◌*◌, ◌/◌, ◌<◌, ◌≤◌, Bool, true, false, List, [], ◌∷◌, length, take, drop, ◌≢◌, ◌==◌, nat_lt, slice_index, refl, Option, Some, None, unwrap_or, position, cond, ◌&&◌}
+use Rattle.std.specs.Prelude.{◌≡◌, ℕ, zero, suc, ◌+◌, ◌*◌, ◌/◌, ◌<◌, ◌≤◌, Bool, true, false, List, [], ◌∷◌, length, ◌==◌, nat_lt, slice_index, refl, Option, Some, None, unwrap_or, position, cond, ◌&&◌}
 use Rattle.std.specs.List.{list_all, position_or_len}
 use Rattle.std.proofs.lemmas.List.Recursion.{is_position_or_len}
-use Rattle.std.proofs.Common.{arith, add-one, ◌∙◌, ap, drop_of_length-le, drop-cons, ltb-true, ltb-false}
+use Rattle.std.proofs.Common.{arith, ◌∙◌, ap, ltb-true, ltb-false}
 use Rattle.std.proofs.Math.Path.{sym}
-use Rattle.base.specs.Pick.{pick, pick_true, pick_false}
+use Rattle.base.specs.Pick.{pick}
 use Rattle.base.specs.Bits.{both}
 use Rattle.intelhex.specs.Bytes.{is_digit, byte_of, bytes_of}
 use Rattle.intelhex.specs.Written.{line_feed}

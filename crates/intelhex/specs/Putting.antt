@@ -1,10 +1,10 @@
 -- Laws: records put into a text as lines, one after the other.
 use Prim.Native.Char.{code as letter}
-use Rattle.std.specs.Prelude.{◌≡◌, ℕ, zero, suc, ◌+◌, ◌-◌, ◌*◌, ◌/◌, ◌%◌, ◌<◌, ◌≤◌, List, [], ◌∷◌, ◌++◌, length, take, drop, ◌≢◌, slice_set, refl, Ok, Err}
+use Rattle.std.specs.Prelude.{◌≡◌, ℕ, zero, suc, ◌+◌, ◌-◌, ◌*◌, ◌<◌, List, [], ◌∷◌, ◌++◌, length, take, drop, ◌≢◌, slice_set, refl, Ok, Err}
 use native.Mathlib.Omega.{arith}
-use Rattle.std.proofs.Common.{zero-add, add-one, ◌∙◌, length-append, length-drop, length-take-le, drop-drop}
+use Rattle.std.proofs.Common.{zero-add, add-one, ◌∙◌, length-append, length-drop, length-take-le, take_at}
 use Rattle.std.proofs.Math.Path.{ap, sym}
-use Rattle.std.proofs.Math.Seq.{sets}
+use Rattle.std.proofs.Math.Seq.{sets, drop-append_seam}
 use borrow.Author.Tests.{eq-eqb, ne_eqb}
 use Rattle.base.specs.Pick.{pick_true, pick_false}
 use Rattle.base.specs.Bits.{both}
@@ -42,79 +42,82 @@ line_put bytes s s₁ s₂ s₃ s₄ at check end c n e₁ e₂ e₃ e₄ =
     ∙ (λ j. sets (e₁ j) (add-one at j) (sym (digits_append bytes k) j ++ (line_feed ∷ [])))
 
 -- ---- a data record
-pub record_put : (address : ℕ) (given s s₁ s₂ s₃ s₄ s₅ : List ℕ) → length given ≡ data_bytes → length s ≡ 20 → s₁ ≡ slice_set s 0 data_bytes → s₂ ≡ slice_set s₁ 1 (address / 256)
-    → s₃ ≡ slice_set s₂ 2 (address % 256) → s₄ ≡ slice_set s₃ 3 0 → s₅ ≡ sets s₄ 4 given → s₅ ≡ data_record address given
-unfolding data_record
-record_put address given s s₁ s₂ s₃ s₄ s₅ g l e₁ e₂ e₃ e₄ e₅ =
-    let two : s₂ ≡ slice_set (slice_set s 0 data_bytes) 1 (address / 256) = e₂ ∙ ap (λ (x : List ℕ). slice_set x 1 (address / 256)) e₁ in
-    let four : s₄ ≡ slice_set (slice_set (slice_set (slice_set s 0 data_bytes) 1 (address / 256)) 2 (address % 256)) 3 0
-    = e₄ ∙ ap (λ (x : List ℕ). slice_set x 3 0) (e₃ ∙ ap (λ (x : List ℕ). slice_set x 2 (address % 256)) two) in
-    e₅ ∙ ap (λ (x : List ℕ). sets x 4 given) four ∙ sets_all s (data_bytes ∷ address / 256 ∷ address % 256 ∷ 0 ∷ given) (omega arith)
-
 record_length : (address : ℕ) (given : List ℕ) → length given ≡ data_bytes → length (data_record address given) ≡ 20
 unfolding data_record
 record_length address given g = omega arith
 
 -- ---- the loop
 
--- where it stands: how many records are left
-pub record Putting (image text₀ text : List ℕ) (from at : ℕ) : Type 0 where
+-- where it stands, after so many records: what is left of the image, and how many records it makes
+pub record Putting (image text₀ text rest : List ℕ) (size count : ℕ) : Type 0 where
+  pub whole : size ≡ data_bytes
   pub records : ℕ
-  pub bytes_left : from + data_bytes * records ≡ image_size
-  pub places_left : at + 44 * records ≡ 44 * data_records
-  pub left : sets text at (data_lines records from (drop from image)) ≡ sets text₀ 0 (data_lines data_records 0 image)
-  pub long : length text ≡ length text₀
+  pub few : count + records ≡ data_records
+  pub bytes_left : length rest ≡ data_bytes * records
+  pub left : sets text (44 * count) (data_lines records (data_bytes * count) rest) ≡ sets text₀ 0 (data_lines data_records 0 image)
 
-pub putting_start : (image text : List ℕ) → Putting image text text 0 0
-putting_start image text = record { records = data_records; bytes_left = refl; places_left = refl; left = refl; long = refl }
+pub putting_start : (image text rest : List ℕ) (size count : ℕ) → length image ≡ image_size → rest ≡ image → size ≡ data_bytes → count ≡ 0 → Putting image text text rest size count
+putting_start image text rest size count l r s z = record {
+  whole = s;
+  records = data_records;
+  few = omega arith;
+  bytes_left = ap length r ∙ l;
+  left = λ j. sets text (44 * z j) (data_lines data_records (data_bytes * z j) (r j));
+}
 
-module _ (image text₀ text : List ℕ) (from at : ℕ) (u : Putting image text₀ text from at) (s : length image ≡ image_size) where
-  pub within : from < image_size → from + data_bytes ≤ length image
-  within h = let b = u.bytes_left in omega arith
+module _ (image text₀ text rest : List ℕ) (size count : ℕ) (u : Putting image text₀ text rest size count) where
+  -- the next bytes of the image, and what is left behind them
+  module _ (given after : List ℕ) (i : ℕ) (e : rest ≡ given ++ after) (l : length given ≡ size) (k : i ≡ count) where
+    pub given_length : length given ≡ data_bytes
+    given_length = l ∙ u.whole
 
-  pub given_length : from < image_size → length (take (from + data_bytes - from) (drop from image)) ≡ data_bytes
-  given_length h =
-      let b = u.bytes_left in
-      let d = length-drop from image in
-      let e : from + data_bytes - from ≡ data_bytes = omega arith in
-      ap (λ (k : ℕ). length (take k (drop from image))) e ∙ length-take-le data_bytes (drop from image) (omega arith)
+    pub count_few : i < data_records
+    count_few =
+        let a : length rest ≡ length given + length after = ap length e ∙ length-append given after in
+        let g = given_length in
+        let b = u.bytes_left in
+        let f = u.few in
+        omega arith
 
-  pub at_few : at ≤ 44 * data_records
-  at_few = let p = u.places_left in omega arith
+    pub putting_next : (text' bytes : List ℕ) (size' count' : ℕ) → size' ≡ size → count' ≡ count + 1 → bytes ≡ data_record (i * data_bytes) given
+        → text' ≡ sets text (i * 44) (line_of bytes) → Putting image text₀ text' after size' count'
+    unfolding data_lines
+    putting_next text' bytes size' count' z c b t =
+        let a : length rest ≡ length given + length after = ap length e ∙ length-append given after in
+        let g = given_length in
+        let x = u.bytes_left in
+        let f = u.few in
+        let m : u.records ≡ suc (u.records - 1) = omega arith in
+        let n : length bytes ≡ 20 = ap length b ∙ record_length (i * data_bytes) given g in
+        let y = line_length bytes in
+        let at : 44 * count' ≡ i * 44 + length (line_of bytes) = omega arith in
+        let address : data_bytes * count' ≡ data_bytes * count + data_bytes = omega arith in
+        let place : i * 44 ≡ 44 * count = omega arith in
+        let first : i * data_bytes ≡ data_bytes * count = omega arith in
+        let taken : given ≡ take data_bytes rest = sym (ap (take data_bytes) e ∙ take_at given after data_bytes g) in
+        let dropped : after ≡ drop data_bytes rest
+        = sym (ap (λ (n : ℕ). drop n rest) (sym g) ∙ ap (drop (length given)) e ∙ drop-append_seam given after) in
+        let D : List ℕ = data_lines (u.records - 1) (data_bytes * count + data_bytes) after in
+        record {
+          whole = z ∙ u.whole;
+          records = u.records - 1;
+          few = omega arith;
+          bytes_left = omega arith;
+          left =
+              (λ j. sets (t j) (at j) (data_lines (u.records - 1) (address j) after))
+              ∙ sym (sets_append text (i * 44) (line_of bytes) D)
+              ∙ (λ j. sets text (place j) (line_of ((b ∙ (λ h. data_record (first h) (taken h))) j) ++ data_lines (u.records - 1) (data_bytes * count + data_bytes) (dropped j)))
+              ∙ ap (λ (r : ℕ). sets text (44 * count) (data_lines r (data_bytes * count) rest)) (sym m)
+              ∙ u.left;
+        }
 
-  pub putting_next : (bytes' text' : List ℕ) → from < image_size → bytes' ≡ data_record from (take (from + data_bytes - from) (drop from image)) → text' ≡ sets text at (line_of bytes')
-      → length text' ≡ length text → Putting image text₀ text' (from + data_bytes) (at + 44)
-  unfolding data_lines
-  putting_next bytes' text' h b t l =
-      let x = u.bytes_left in
-      let p = u.places_left in
-      let k : u.records ≡ suc (u.records - 1) = omega arith in
-      let e : from + data_bytes - from ≡ data_bytes = omega arith in
-      let g = given_length h in
-      let r : bytes' ≡ data_record from (take data_bytes (drop from image)) = b ∙ ap (λ (n : ℕ). data_record from (take n (drop from image))) e in
-      let z : length bytes' ≡ 20 = ap length b ∙ record_length from _ g in
-      let m = line_length bytes' in
-      let n : at + length (line_of bytes') ≡ at + 44 = omega arith in
-      let D = data_lines (u.records - 1) (from + data_bytes) in
-      record {
-        records = u.records - 1;
-        bytes_left = omega arith;
-        places_left = omega arith;
-        left =
-            (λ j. sets (t j) (sym n j) (D (sym (drop-drop data_bytes from image) j)))
-            ∙ sym (sets_append text at (line_of bytes') (D (drop data_bytes (drop from image))))
-            ∙ ap (λ (y : List ℕ). sets text at (line_of y ++ D (drop data_bytes (drop from image)))) r
-            ∙ ap (λ (c : ℕ). sets text at (data_lines c from (drop from image))) (sym k)
-            ∙ u.left;
-        long = l ∙ u.long;
-      }
-
-  pub putting_end : image_size ≤ from → text ≡ sets text₀ 0 (data_lines data_records 0 image)
+  pub putting_end : length rest < size → text ≡ sets text₀ 0 (data_lines data_records 0 image)
   unfolding data_lines
   putting_end h =
       let x = u.bytes_left in
+      let w = u.whole in
       let k : u.records ≡ 0 = omega arith in
-      ap (λ (c : ℕ). sets text at (data_lines c from (drop from image))) (sym k) ∙ u.left
+      ap (λ (r : ℕ). sets text (44 * count) (data_lines r (data_bytes * count) rest)) (sym k) ∙ u.left
 
 -- ---- the text
 pub lines_length : (k address : ℕ) (image : List ℕ) → length image ≡ data_bytes * k → length (data_lines k address image) ≡ 44 * k
@@ -137,12 +140,12 @@ text_length image e =
     let a = length-append (data_lines data_records 0 image) (line_of end_record) in
     omega arith
 
-pub text_put : (image s s₁ s₂ last : List ℕ) → length image ≡ image_size → length s ≡ text_size → last ≡ end_record → s₁ ≡ sets s 0 (data_lines data_records 0 image)
-    → s₂ ≡ sets s₁ (44 * data_records) (line_of last) → s₂ ≡ text_of image
+pub text_put : (image s s₁ s₂ : List ℕ) → length image ≡ image_size → length s ≡ text_size → s₁ ≡ sets s 0 (data_lines data_records 0 image)
+    → s₂ ≡ sets s₁ (44 * data_records) (line_of end_record) → s₂ ≡ text_of image
 unfolding text_of
-text_put image s s₁ s₂ last e l z a b =
+text_put image s s₁ s₂ e l a b =
     let m : 0 + length (data_lines data_records 0 image) ≡ 44 * data_records = zero-add _ ∙ lines_length data_records 0 image e in
-    b ∙ (λ j. sets (a j) (sym m j) (line_of (z j))) ∙ sym (sets_append s 0 (data_lines data_records 0 image) (line_of end_record))
+    b ∙ (λ j. sets (a j) (sym m j) (line_of end_record)) ∙ sym (sets_append s 0 (data_lines data_records 0 image) (line_of end_record))
     ∙ sets_all s (data_lines data_records 0 image ++ line_of end_record) (text_length image e ∙ sym l)
 
 -- ---- what writing answers

@@ -3,9 +3,8 @@ use Prim.Native.Char.{code as letter}
 use Rattle.std.specs.Prelude.{◌≡◌, ℕ, ◌+◌, ◌-◌, ◌*◌, ◌/◌, ◌%◌, ◌<◌, ◌≤◌, Bool, true, false, List, length, take, drop, ◌==◌, ◌≢◌, nat_lt, slice_index, slice_index_or, refl, Result, Ok, Err, Option, Some, None, min, position}
 use Rattle.std.specs.List.{list_all}
 use Rattle.std.proofs.lemmas.List.{take_min}
-use Rattle.std.proofs.Common.{arith, ◌∙◌, ap, take-append-drop, length-drop, length-take, take_all, length-take-le, eqb-true, eq-eqb, ne_eqb, ltb-true, ltb-false, lt-ltb, le-ltb}
+use Rattle.std.proofs.Common.{arith, ◌∙◌, ap, length-drop, length-take, take_all, eqb-true, eq-eqb, ne_eqb, ltb-true, ltb-false, lt-ltb, le-ltb}
 use Rattle.std.proofs.Math.Path.{sym}
-use Rattle.std.proofs.Math.Seq.{take-append_seam}
 use Rattle.base.specs.Pick.{pick, pick_true, pick_false, pick_if, pick_both}
 use Rattle.intelhex.specs.Faults.{line_most}
 use Rattle.intelhex.specs.Bytes.{is_digit, sum_of}

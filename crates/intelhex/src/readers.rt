@@ -146,14 +146,14 @@ fn read_all(over: bool, text: &[u8], more: bool, image: &mut [u8]) -> Taken
 pub fn read_lines(over: bool, text: &[u8], more: bool, image: &mut [u8]) -> Taken
     ensures { went result.ending result.at result.lines result.over image.new ≡ read_lines over more text.now image.old }
 {
-    if image.len() != IMAGE_SIZE {
+    let Some(image) = image.as_mut_array::<IMAGE_SIZE>() else {
         return Taken {
             ending: Err(Fault::WrongSize),
             at: 0,
             lines: 0,
             over,
         };
-    }
+    };
     read_all(over, text, more, image)
 }
 
@@ -162,14 +162,13 @@ fn hand_over(
     ending: Result<Ending, Fault>,
     lines: usize,
     made: &[u8; IMAGE_SIZE],
-    image: &mut [u8],
+    image: &mut [u8; IMAGE_SIZE],
 ) -> Result<(), Refused>
-    requires { length image.old ≡ image_size }
     ensures { read result image.new ≡ read_by image.old made.now lines ending }
 {
     match ending {
         Ok(Ending::End) => {
-            image.copy_from_slice(made);
+            *image = *made;
             Ok(())
         }
         Ok(Ending::Part) => Err(Refused {
@@ -184,12 +183,12 @@ fn hand_over(
 pub fn read_text(text: &[u8], image: &mut [u8]) -> Result<(), Refused>
     ensures { read result image.new ≡ read_text text.now image.old }
 {
-    if image.len() != IMAGE_SIZE {
+    let Some(image) = image.as_mut_array::<IMAGE_SIZE>() else {
         return Err(Refused {
             fault: Fault::WrongSize,
             lines: 0,
         });
-    }
+    };
     let mut made = blank_image();
     let taken = read_all(false, text, false, &mut made);
     hand_over(taken.ending, taken.lines, &made, image)

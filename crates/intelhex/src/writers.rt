@@ -1,10 +1,9 @@
 // An image written as text.
 ghost use Rattle.std.specs.Prelude.{◌≡◌, ◌+◌, ◌*◌, ◌≤◌, length};
 ghost use Rattle.std.proofs.lemmas.List.Edits.{sets};
-ghost use Rattle.intelhex.specs.Faults.{image_size, text_size};
-ghost use Rattle.intelhex.specs.Written.{line_of, data_record, end_record, data_records, data_lines, text_of, wrote, write_text};
+ghost use Rattle.intelhex.specs.Written.{line_of, data_record, data_records, data_lines, text_of, wrote, write_text};
 
-use crate::{Fault, IMAGE_SIZE, LINE_FEED, TEXT_SIZE, digits, storing};
+use crate::{Fault, IMAGE_SIZE, LINE_FEED, TEXT_SIZE, digits};
 use numerals::hex;
 
 // The data bytes of a record.
@@ -20,11 +19,7 @@ const END_AT: usize = 164 * LINE_SIZE;
 const RECORD_SIZE: usize = 20;
 
 // The end record.
-fn end_record() -> [u8; 4]
-    ensures { result ≡ end_record }
-{
-    [0, 0, 0, 1]
-}
+const END_RECORD: [u8; 4] = [0, 0, 0, 1];
 
 // The line of a record put into a text. Here and below, places are those of a text of 7,228 characters, and stay far below what a word holds.
 fn put_line(bytes: &[u8], text: &mut [u8], at: usize)
@@ -40,54 +35,46 @@ fn put_line(bytes: &[u8], text: &mut [u8], at: usize)
 }
 
 // A data record.
-fn make_record(address: u16, given: &[u8], bytes: &mut [u8; RECORD_SIZE])
+fn data_record_of(address: u16, given: &[u8]) -> [u8; RECORD_SIZE]
     requires { length given.now ≡ 16 }
-    ensures { bytes.new ≡ data_record address given.now }
+    ensures { result ≡ data_record address given.now }
 {
-    base::put_at(bytes, 0, DATA_BYTES as u8);
-    base::put_at(bytes, 1, (address / 256) as u8);
-    base::put_at(bytes, 2, (address % 256) as u8);
-    base::put_at(bytes, 3, 0);
-    storing::put_bytes(given, bytes, 4);
+    let mut bytes = [0u8; RECORD_SIZE];
+    bytes[0] = DATA_BYTES as u8;
+    bytes[1] = (address / 256) as u8;
+    bytes[2] = (address % 256) as u8;
+    bytes[4..].copy_from_slice(given);
+    bytes
 }
 
 // The lines of all data records put into a text.
-fn put_data_lines(image: &[u8], text: &mut [u8])
-    requires { length image.now ≡ image_size }
+fn put_data_lines(image: &[u8; IMAGE_SIZE], text: &mut [u8])
     ensures { text.new ≡ sets text.old 0 (data_lines data_records 0 image.now) }
 {
-    let mut bytes = [0u8; RECORD_SIZE];
-    let mut from: usize = 0;
-    let mut at: usize = 0;
-    while from < IMAGE_SIZE {
-        let to = from + DATA_BYTES;
-        make_record(from as u16, &image[from..to], &mut bytes);
-        put_line(&bytes, text, at);
-        from = to;
-        at += LINE_SIZE;
+    for (i, given) in image.chunks_exact(DATA_BYTES).enumerate() {
+        let record = data_record_of((i * DATA_BYTES) as u16, given);
+        put_line(&record, text, i * LINE_SIZE);
     }
 }
 
 // The text of an image.
-fn put_text(image: &[u8], text: &mut [u8])
-    requires { (length image.now ≡ image_size) × (length text.old ≡ text_size) }
+fn put_text(image: &[u8; IMAGE_SIZE], text: &mut [u8; TEXT_SIZE])
     ensures { text.new ≡ text_of image.now }
 {
-    let last = end_record();
     put_data_lines(image, text);
-    put_line(&last, text, END_AT);
+    put_line(&END_RECORD, text, END_AT);
 }
 
 // Writes an image as text. 5 for an image or a text of another size, with nothing changed.
 pub fn write_text(image: &[u8], text: &mut [u8]) -> Result<(), Fault>
     ensures { wrote result text.new ≡ write_text image.now text.old }
 {
-    if image.len() != IMAGE_SIZE {
+    let Some(image) = image.as_array::<IMAGE_SIZE>() else {
         return Err(Fault::WrongSize);
-    }
-    if text.len() != TEXT_SIZE {
+    };
+    let Some(text) = text.as_mut_array::<TEXT_SIZE>() else {
         return Err(Fault::WrongSize);
-    }
+    };
     put_text(image, text);
     Ok(())
 }

@@ -10,7 +10,7 @@ loop-i-preserved c =
     let s = c.in-Some.ensures.steps in (
       s.0.0 ∙ l.invariant.0,
       (λ j. sets (set l.bytes (s.1 j) (c.byte_of.ensures j)) (s.2 j) (bytes_of c.next.new.self.iter.rest.now))
-      ∙ decoded_next l.bytes c.in-Some.pair.now _ _ _ s.0.1.0 (s.0.1.1 ∙ l.invariant.0) ∙ l.invariant.1,
+          ∙ decoded_next l.bytes c.in-Some.pair.now _ _ _ s.0.1.0 (s.0.1.1 ∙ l.invariant.0) ∙ l.invariant.1,
     )
 
 pub returns : goal.returns

@@ -1,27 +1,41 @@
 use Rattle.std.proofs.Common.{rules}
-use Rattle.intelhex.specs.Putting.{putting_start, within, given_length, at_few, putting_next, putting_end}
+use Rattle.intelhex.specs.Putting.{putting_start, given_length, count_few, putting_next, putting_end}
 use Rattle.intelhex.proofs.writers.put_data_lines.Goals as goal
 
-pub loop-from-init : goal.loop-from-init
-loop-from-init c = putting_start _ _
+pub loop-i-init : goal.loop-i-init
+loop-i-init c = putting_start _ _ _ _ _ c.told-image (search rules) (search rules) (search rules)
 
-pub slice_bounds-make_record-end : goal.slice_bounds-make_record-end
-slice_bounds-make_record-end c = let w = within _ _ _ _ _ c.loop-from.invariant c.requires (search rules) in search (rules, w)
+pub overflow_mul-i : goal.overflow_mul-i
+overflow_mul-i c =
+    let s = c.in-Some.ensures.steps in
+    let f = count_few _ _ _ _ _ _ c.loop-i.invariant _ _ _ s.0.1.0 s.0.1.1 s.1 in
+    search (rules, f)
 
-pub make_record-requires : goal.make_record-requires
-make_record-requires c = given_length _ _ _ _ _ c.loop-from.invariant c.requires (search rules)
+pub overflow_cast-i : goal.overflow_cast-i
+overflow_cast-i c =
+    let s = c.in-Some.ensures.steps in
+    let f = count_few _ _ _ _ _ _ c.loop-i.invariant _ _ _ s.0.1.0 s.0.1.1 s.1 in
+    search (rules, f)
+
+pub data_record_of-record-requires : goal.data_record_of-record-requires
+data_record_of-record-requires c = let s = c.in-Some.ensures.steps in given_length _ _ _ _ _ _ c.loop-i.invariant _ _ _ s.0.1.0 s.0.1.1 s.1
+
+pub overflow_mul-i-in-loop-i : goal.overflow_mul-i-in-loop-i
+overflow_mul-i-in-loop-i c =
+    let s = c.in-Some.ensures.steps in
+    let f = count_few _ _ _ _ _ _ c.loop-i.invariant _ _ _ s.0.1.0 s.0.1.1 s.1 in
+    search (rules, f)
 
 pub put_line-requires : goal.put_line-requires
-put_line-requires c = let a = at_few _ _ _ _ _ c.loop-from.invariant c.requires in search (rules, a)
+put_line-requires c =
+    let s = c.in-Some.ensures.steps in
+    let f = count_few _ _ _ _ _ _ c.loop-i.invariant _ _ _ s.0.1.0 s.0.1.1 s.1 in
+    search (rules, f)
 
-pub overflow_add-at : goal.overflow_add-at
-overflow_add-at c = let a = at_few _ _ _ _ _ c.loop-from.invariant c.requires in search (rules, a)
-
-pub loop-from-preserved : goal.loop-from-preserved
-loop-from-preserved c = putting_next _ _ _ _ _ c.loop-from.invariant c.requires _ _ (search rules) c.make_record.ensures c.put_line.ensures c.put_line.auto.text
-
-pub shape_of-text : goal.shape_of-text
-shape_of-text c = c.loop-from.invariant.long
+pub loop-i-preserved : goal.loop-i-preserved
+loop-i-preserved c =
+    let s = c.in-Some.ensures.steps in
+    putting_next _ _ _ _ _ _ c.loop-i.invariant _ _ _ s.0.1.0 s.0.1.1 s.1 _ _ _ _ s.0.0 s.2 c.data_record_of-record.ensures c.put_line.ensures
 
 pub returns : goal.returns
-returns c = putting_end _ _ _ _ _ c.loop-from.invariant c.requires (search rules)
+returns c = putting_end _ _ _ _ _ _ c.loop-i.invariant c.in-None.ensures.steps.0.1.0

@@ -1,9 +1,5 @@
-use Rattle.std.proofs.Common.{◌-◌}
 use Rattle.intelhex.specs.Putting.{Putting}
 use Rattle.intelhex.proofs.writers.put_data_lines.Given as goal
 
-abbrev pub invariant-loop-from : goal.invariant-loop-from
-invariant-loop-from l = Putting l.image l.initial.text l.text l.from l.at
-
-abbrev pub decreases-loop-from : goal.decreases-loop-from
-decreases-loop-from l = 2624 - l.from
+abbrev pub invariant-loop-i : goal.invariant-loop-i
+invariant-loop-i l = Putting l.image l.initial.text l.text l.i-iterator.iter.rest.now l.i-iterator.iter.size l.i-iterator.count
