@@ -24,13 +24,29 @@ pub most_within : (text : List ℕ) → (length (take line_most text) ≤ length
 most_within text = let e = length-take line_most text in (omega arith, omega arith)
 
 -- what a text begins with, by the first of its characters that can be those of a line, and by where an LF stands among them
-module _ (text : List ℕ) (most : ℕ) (m : most ≡ min (length text) line_most) where
-  first_is : take most text ≡ take line_most text
-  first_is = let e : most ≡ min line_most (length text) = omega arith in ap (λ (n : ℕ). take n text) e ∙ take_min line_most text
-
+module _ (text : List ℕ) where
   pub stands_nothing : length text ≡ 0 → Nothing ≡ standing text
   unfolding standing
   stands_nothing e = sym (pick_true _ _ _ (eq-eqb (length text) 0 e))
+
+  -- where there is none
+  module _ (u : length (take line_most text) ≤ before (take line_most text)) where
+    none : (length text ≡ 0 → ⊥) → pick (nat_lt (length text) line_most) Unended Endless ≡ standing text
+    unfolding standing
+    none some =
+        sym (
+        pick_false _ _ _ (ne_eqb (length text) 0 some)
+        ∙ pick_false _ _ _ (le-ltb (before (take line_most text)) (length (take line_most text)) u))
+
+    pub stands_endless : line_most ≤ length text → Endless ≡ standing text
+    stands_endless k = sym (pick_false _ _ _ (le-ltb (length text) line_most k)) ∙ none (λ z. omega arith)
+
+    pub stands_unended : (length text ≡ 0 → ⊥) → length text < line_most → Unended ≡ standing text
+    stands_unended some k = sym (pick_true _ _ _ (lt-ltb (length text) line_most k)) ∙ none some
+
+module _ (text : List ℕ) (most : ℕ) (m : most ≡ min (length text) line_most) where
+  first_is : take most text ≡ take line_most text
+  first_is = let e : most ≡ min line_most (length text) = omega arith in ap (λ (n : ℕ). take n text) e ∙ take_min line_most text
 
   module _ (end : Option ℕ) (p : end ≡ position (λ c. c == line_feed) (take most text)) where
     pub stands_line : (n characters size : ℕ) → end ≡ Some n → characters ≡ without_return text n → size ≡ n + 1 → Line characters size ≡ standing text
@@ -45,19 +61,8 @@ module _ (text : List ℕ) (most : ℕ) (m : most ≡ min (length text) line_mos
         pick_false _ _ _ (ne_eqb (length text) 0 (λ z. omega arith))
         ∙ pick_true _ _ _ (lt-ltb (before (take line_most text)) (length (take line_most text)) (omega arith)))
 
-    none : end ≡ None → (length text ≡ 0 → ⊥) → pick (nat_lt (length text) line_most) Unended Endless ≡ standing text
-    unfolding standing
-    none h some =
-        let u = unended (take line_most text) (ap (position (λ c. c == line_feed)) (sym first_is) ∙ sym p ∙ h) in
-        sym (
-        pick_false _ _ _ (ne_eqb (length text) 0 some)
-        ∙ pick_false _ _ _ (le-ltb (before (take line_most text)) (length (take line_most text)) u))
-
-    pub stands_unended : end ≡ None → (length text ≡ 0 → ⊥) → length text < line_most → Unended ≡ standing text
-    stands_unended h some k = sym (pick_true _ _ _ (lt-ltb (length text) line_most k)) ∙ none h some
-
-    pub stands_endless : end ≡ None → line_most ≤ length text → Endless ≡ standing text
-    stands_endless h k = sym (pick_false _ _ _ (le-ltb (length text) line_most k)) ∙ none h (λ z. omega arith)
+    pub no_end : end ≡ None → length (take line_most text) ≤ before (take line_most text)
+    no_end h = unended (take line_most text) (ap (position (λ c. c == line_feed)) (sym first_is) ∙ sym p ∙ h)
 
 -- a line lies in the text
 abbrev pub LineLies : List ℕ → Standing → Type 0

@@ -75,8 +75,8 @@ module _ (s t : List ℕ) where
       let l = length-take-le line_most s k in
       let m : length (take line_most (s ++ t)) ≡ line_most = ap length f ∙ l in
       let c = length-append s t in
-      let n : before (take (length (take line_most (s ++ t))) (s ++ t)) ≡ before (take line_most s) = ap (λ (j : ℕ). before (take j (s ++ t))) m ∙ ap before f in
-      sym (stands_endless (s ++ t) (length (take line_most (s ++ t))) (before (take (length (take line_most (s ++ t))) (s ++ t))) (λ e. omega arith) refl refl (omega arith) (omega arith))
+      let n : before (take line_most (s ++ t)) ≡ before (take line_most s) = ap before f in
+      sym (stands_endless (s ++ t) (omega arith) (omega arith))
 
   standing_stays : Stays (standing s)
   unfolding standing
