@@ -3,7 +3,6 @@
 #![tactic(auto)]
 
 mod reading;
-mod telling;
 mod words;
 mod writing;
 
@@ -14,7 +13,7 @@ use words::Way;
 
 // Says how the program is used.
 fn say_usage(errors: Stderr) {
-    telling::tell(
+    console::tell(
         errors,
         b"usage: hexfile write [FILE] | hexfile read [FILE] (without a file from standard input)\n",
     );

@@ -1,5 +1,4 @@
 // An image as text.
-use crate::telling;
 use console::{Outputs, Told, input};
 use intelhex::{Fault, IMAGE_SIZE, TEXT_SIZE};
 use std::io::{Read, Stderr};
@@ -9,15 +8,11 @@ const BYTES_MOST: usize = IMAGE_SIZE + 1;
 
 // Tells why so many bytes are not written as text.
 fn tell_refused(errors: Stderr, fault: Fault, bytes: usize) {
-    telling::tell(errors, b"hexfile: ");
-    telling::tell_fault(errors, fault);
-    if bytes < BYTES_MOST {
-        telling::tell(errors, b", this has ");
-        telling::tell_number(errors, bytes as u64);
-        telling::tell(errors, b"\n");
+    let _ = if bytes < BYTES_MOST {
+        errors.print(format_args!("hexfile: {fault}, this has {bytes}\n"))
     } else {
-        telling::tell(errors, b", this has more\n");
-    }
+        errors.print(format_args!("hexfile: {fault}, this has more\n"))
+    };
 }
 
 // Reads an image, and writes it as text, or why not.

@@ -7,6 +7,7 @@ mod lines;
 mod readers;
 mod record;
 mod storing;
+mod words;
 mod writers;
 
 ghost use Rattle.std.specs.Prelude.{◌≡◌};
