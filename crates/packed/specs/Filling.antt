@@ -1,5 +1,5 @@
 -- Laws: the loops over the records of a table, a turn and the end of each.
-use Rattle.std.specs.Prelude.{ℕ, suc, ◌+◌, ◌-◌, ◌*◌, ◌/◌, ◌<◌, ◌≤◌, Bool, true, false, ◌≡◌, refl, eqb, leb, get_or, set}
+use Rattle.std.specs.Prelude.{ℕ, suc, ◌+◌, ◌-◌, ◌*◌, ◌/◌, ◌<◌, ◌≤◌, Bool, true, false, Option, Some, None, unwrap_or, ◌≡◌, refl, eqb, leb, get_or, set}
 use native.Mathlib.Omega.{arith}
 use Rattle.std.proofs.Common.{add-one, true≢false, ◌∙◌, take-append-drop, length-set, drop_of_length-le, take-suc-set, take-suc, drop-set-lt, drop-drop, eq-eqb, ne_eqb, le-leb}
 use mathlib.Core.List.{List, [], ◌∷◌, ◌++◌, append_assoc, append-nil}
@@ -7,7 +7,7 @@ use Rattle.std.proofs.Math.Path.{ap, sym}
 use Rattle.std.proofs.Math.ListN.{length, take, drop, length-drop}
 use Rattle.std.proofs.Math.Seq.{take_at, drop_at, length-take-le}
 use Rattle.std.proofs.lemmas.Bool.{lt-leb}
-use Rattle.base.specs.Pick.{pick, pick_true, pick_false}
+use Rattle.base.specs.Pick.{pick, pick_true, pick_false, pick_of}
 use Rattle.base.specs.Bits.{both}
 use Rattle.base.specs.Both.{both_assoc, true_both}
 use Rattle.base.specs.Bytes.{same_bytes}
@@ -118,18 +118,50 @@ unfolding is_table unpacked_table
 table_judged bs n ok w q j e =
     e ∙ ap (both ok) (sym (rest_none (n * record_size) bs (omega arith))) ∙ j ∙ ap (λ (k : ℕ). same_bytes (packed_table (unpacked_from k bs)) bs) q
 
--- the table that a loop left, where the bytes were one
-pub table_found : (bs : List ℕ) (t r : Table) (n : ℕ) (ok w : Bool) → n ≡ length bs / record_size → n ≤ 16 → r.n ≡ n → r.chips ≡ unpacked_from n bs ++ drop n t.chips
-    → both ok (same_bytes [] (drop (n * record_size) bs)) ≡ same_bytes (packed_table (unpacked_from n bs)) bs → w ≡ both ok (eqb (length bs) (n * record_size))
-    → pick w r t ≡ table_from bs t
+-- the table whose n chips the bytes are, in the first places of a table, where they are a table
+abbrev pub filled : ℕ → List ℕ → Table → Option Table
+filled n bs t = pick (is_table bs) (Some (record { n = n; chips = unpacked_from n bs ++ drop n t.chips })) None
+
+-- a record that is what it packs to
+pub holds : (good : Bool) → good ≡ true → true ≡ both true good
+holds good e = sym (true_both good ∙ e)
+
+-- one that is not
+pub filling_none : (n : ℕ) (bs : List ℕ) (t : Table) (cs : List Chip) (i : ℕ) → Filling n bs t.chips cs i true → n ≡ length bs / record_size → (c : Chip) (good : Bool) → i < n
+    → c ≡ unpacked (take (i * record_size + record_size - i * record_size) (drop (i * record_size) bs)) → good ≡ same_bytes (packed c) (take (i * record_size + record_size - i * record_size) (drop (i * record_size) bs))
+    → good ≡ false → None ≡ filled n bs t
+unfolding is_table unpacked_table both pick
+filling_none n bs t cs i g q c good h e f k =
+    let D = drop ((i + 1) * record_size) bs in
+    let rest = same_bytes (packed_table (unpacked_from (n - (i + 1)) D)) D in
+    let none : is_table bs ≡ false
+    = ap (λ (m : ℕ). same_bytes (packed_table (unpacked_from m bs)) bs) (sym q) ∙ sym g.judged ∙ one_judged n bs i c good h g.room e f ∙ ap (λ (x : Bool). both x rest) k in
+    sym (pick_false (is_table bs) _ _ none)
+
+-- what the loop found
+pub filling_all : (n : ℕ) (bs : List ℕ) (t : Table) (cs : List Chip) (i : ℕ) → Filling n bs t.chips cs i true → n ≤ i → n ≡ length bs / record_size → length bs ≡ n * record_size
+    → Some (record { n = n; chips = cs }) ≡ filled n bs t
+filling_all n bs t cs i g h q l =
+    let e = filling_end n bs t.chips cs i true g h in
+    let yes : is_table bs ≡ true = sym (table_judged bs n true true q e.1 (sym (true_both _ ∙ eq-eqb (length bs) (n * record_size) l))) in
+    ap (λ (x : List Chip). Some (record { n = n; chips = x })) e.0 ∙ sym (pick_true (is_table bs) _ _ yes)
+
+pub filling_short : (n : ℕ) (bs : List ℕ) (t : Table) (cs : List Chip) (i : ℕ) → Filling n bs t.chips cs i true → n ≤ i → n ≡ length bs / record_size → (length bs ≡ n * record_size → ⊥)
+    → None ≡ filled n bs t
+filling_short n bs t cs i g h q l =
+    let e = filling_end n bs t.chips cs i true g h in
+    let no : is_table bs ≡ false = sym (table_judged bs n true false q e.1 (sym (true_both _ ∙ ne_eqb (length bs) (n * record_size) l))) in
+    sym (pick_false (is_table bs) _ _ no)
+
+pub table_found : (bs : List ℕ) (t : Table) (n : ℕ) → n ≡ length bs / record_size → n ≤ 16 → unwrap_or (filled n bs t) t ≡ table_from bs t
 unfolding table_from unpacked_table
-table_found bs t r n ok w q few rn rc j e =
+table_found bs t n q few =
     let cs = unpacked_from (length bs / record_size) bs in
-    let judged : w ≡ is_table bs = table_judged bs n ok w q j e in
     let long : length cs ≡ length bs / record_size = from_length (length bs / record_size) bs in
-    let chips : r.chips ≡ cs ++ drop (length cs) t.chips
-    = rc ∙ (λ i. unpacked_from (q i) bs ++ drop (q i) t.chips) ∙ ap (λ (k : ℕ). cs ++ drop k t.chips) (sym long) in
-    (λ i. pick (judged i) (record { n = (rn ∙ q ∙ sym long) i; chips = chips i }) t)
+    let chips : unpacked_from n bs ++ drop n t.chips ≡ cs ++ drop (length cs) t.chips
+    = (λ i. unpacked_from (q i) bs ++ drop (q i) t.chips) ∙ ap (λ (k : ℕ). cs ++ drop k t.chips) (sym long) in
+    pick_of (λ (o : Option Table). unwrap_or o t) (is_table bs) _ None
+    ∙ (λ i. pick (is_table bs) (record { n = (q ∙ sym long) i; chips = chips i }) t)
     ∙ sym (pick_true (leb (length bs / record_size) 16) _ _ (le-leb (length bs / record_size) 16 (omega arith)))
 
 pub table_long : (bs : List ℕ) (t : Table) → 16 < length bs / record_size → t ≡ table_from bs t

@@ -14,7 +14,6 @@ mod taking;
 
 pub use fields::{kind_of, waits};
 pub use judged::stands;
-use line::Table;
 pub use record::{is_packed, pack, put_record, unpack};
 pub use sending::sends;
 pub use table::{put_table, table_of};
@@ -63,11 +62,4 @@ pub enum Shape {
     Memory,
     // anything else
     Any,
-}
-
-// The table whose first places bytes fill, and whether they are the records of its chips.
-#[derive(Clone, Copy)]
-pub struct Unpacked {
-    pub ok: bool,
-    pub table: Table,
 }

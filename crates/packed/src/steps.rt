@@ -17,105 +17,68 @@ pub fn up_to(w: u16, a: u8, b: u8, c: u8) -> Limits
 }
 
 // Steps 1 to 4; else 5.
+#[tactic(auto, using(base::specs::Rules::cases), unfolding(crate::specs::Limits::any_limits))]
 fn any_limits(number: u8) -> Limits
     ensures { result ≡ any_limits number }
 {
-    if number == 1 {
-        return up_to(0, 7, 255, 0);
+    match number {
+        2 | 3 => up_to(0, 63, 0, 0),
+        4 => up_to(0, 63, 2, 0),
+        _ => up_to(0, 7, 255, 0),
     }
-    if number == 2 {
-        return up_to(0, 63, 0, 0);
-    }
-    if number == 3 {
-        return up_to(0, 63, 0, 0);
-    }
-    if number == 4 {
-        return up_to(0, 63, 2, 0);
-    }
-    up_to(0, 7, 255, 0)
 }
 
 // Steps 17 to 26 of a memory with a last address; else 16.
+#[tactic(auto, using(base::specs::Rules::cases), unfolding(crate::specs::Limits::memory_limits))]
 fn memory_limits(last: u16, number: u8) -> Limits
     ensures { result ≡ memory_limits last number }
 {
-    if number == 17 {
-        return up_to(65535, 15, 0, 0);
+    match number {
+        17 | 19 | 22 | 25 => up_to(65535, 15, 0, 0),
+        18 => up_to(65535, 31, 7, 255),
+        20 => up_to(0, 23, 0, 0),
+        21 => up_to(65535, 31, 7, 0),
+        23 => up_to(65535, 7, 255, 0),
+        24 => up_to(0, 1, 0, 0),
+        26 => up_to(last, 7, 0, 0),
+        _ => up_to(0, 0, 0, 0),
     }
-    if number == 18 {
-        return up_to(65535, 31, 7, 255);
-    }
-    if number == 19 {
-        return up_to(65535, 15, 0, 0);
-    }
-    if number == 20 {
-        return up_to(0, 23, 0, 0);
-    }
-    if number == 21 {
-        return up_to(65535, 31, 7, 0);
-    }
-    if number == 22 {
-        return up_to(65535, 15, 0, 0);
-    }
-    if number == 23 {
-        return up_to(65535, 7, 255, 0);
-    }
-    if number == 24 {
-        return up_to(0, 1, 0, 0);
-    }
-    if number == 25 {
-        return up_to(65535, 15, 0, 0);
-    }
-    if number == 26 {
-        return up_to(last, 7, 0, 0);
-    }
-    up_to(0, 0, 0, 0)
 }
 
 // Steps 33 to 36; else 32.
+#[tactic(auto, using(base::specs::Rules::cases), unfolding(crate::specs::Limits::switch_limits))]
 fn switch_limits(number: u8) -> Limits
     ensures { result ≡ switch_limits number }
 {
-    if number == 33 {
-        return up_to(0, 7, 255, 0);
+    match number {
+        33 | 36 => up_to(0, 7, 255, 0),
+        34 => up_to(65535, 15, 0, 0),
+        35 => up_to(0, 7, 0, 0),
+        _ => up_to(0, 0, 0, 0),
     }
-    if number == 34 {
-        return up_to(65535, 15, 0, 0);
-    }
-    if number == 35 {
-        return up_to(0, 7, 0, 0);
-    }
-    if number == 36 {
-        return up_to(0, 7, 255, 0);
-    }
-    up_to(0, 0, 0, 0)
 }
 
 // The limits of a step that a chip of a kind can be in.
+#[tactic(auto, using(base::specs::Rules::cases), unfolding(crate::specs::Limits::limits_of))]
 pub fn limits_of(kind: u8, number: u8) -> Limits
     ensures { result ≡ limits_of kind number }
 {
-    if number < 6 {
-        return any_limits(number);
+    match number {
+        0..=5 => any_limits(number),
+        6..=26 => memory_limits(memory::last_address(chip::kinds::part_of(kind)), number),
+        _ => switch_limits(number),
     }
-    if number < 27 {
-        return memory_limits(memory::last_address(chip::kinds::part_of(kind)), number);
-    }
-    switch_limits(number)
 }
 
 // A chip of a kind can be in a step.
+#[tactic(auto, using(base::specs::Rules::cases), unfolding(crate::specs::Limits::can_be, base::specs::Bits::both))]
 pub fn can_be(kind: u8, number: u8) -> bool
     ensures { result ≡ can_be kind number }
 {
-    if number < 6 {
-        return true;
+    match number {
+        0..=5 => true,
+        16..=26 => chip::kinds::has_memory(kind),
+        32..=36 => chip::kinds::has_switch(kind),
+        _ => false,
     }
-    if number < 27 {
-        return base::are_both(15 < number, chip::kinds::has_memory(kind));
-    }
-    base::are_both(
-        base::are_both(number < 37, 31 < number),
-        chip::kinds::has_switch(kind),
-    )
 }
