@@ -7,7 +7,6 @@ pub mod Places
 pub mod Within
 pub mod Parts
 pub mod Takes
-pub mod Taking
 pub mod TakesLaw
 pub mod Sends
 pub mod SendsLaw

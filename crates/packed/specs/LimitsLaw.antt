@@ -1,10 +1,10 @@
 -- Law: a chip that can be in a step with such fields has a level of its own, in its range, that packs to them again.
 use Rattle.std.specs.Prelude.{ℕ, suc, ◌<◌, ◌≤◌, Bool, true, false, ◌≡◌, refl, eqb, ltb, leb}
-use Rattle.std.proofs.Common.{arith, ◌∙◌, ap, sym}
-use borrow.Author.Tests.{ltb-true, ltb-false, leb-true, eqb-true, eqb-false, lt-ltb, le-ltb, le-leb, eq-eqb, ne_eqb}
+use Rattle.std.proofs.Common.{arith, ◌∙◌, sym}
+use borrow.Author.Tests.{ltb-true, ltb-false, leb-true, eqb-true, eqb-false, lt-ltb, le-ltb, le-leb, ne_eqb}
 use Rattle.base.specs.Pick.{pick, pick_true, pick_false}
 use Rattle.base.specs.Bits.{both}
-use Rattle.base.specs.Both.{both_holds, true_both}
+use Rattle.base.specs.Both.{both_holds}
 use Rattle.memory.specs.Part.{map_of}
 use Rattle.chip.specs.Kinds.{part_of, has_memory, has_switch}
 use Rattle.chip.specs.Range.{level_in_range}
@@ -52,20 +52,6 @@ module _ (s : Step) (most : Limits) where
   unfolding within
   fits w a b c =
       holds_both _ _ (le-leb _ _ w) (holds_both _ _ (le-leb _ _ a) (holds_both _ _ (le-leb _ _ b) (le-leb _ _ c)))
-
--- what a chip needs in step 0, and in another that it can be in
-pub waiting_stands : (kind number : ℕ) (s : Step) (most : Limits) (t : Bool) → number ≡ s.number → number ≡ 0 → most ≡ up_to 0 0 0 0 → t ≡ within s most → t ≡ step_stands kind s
-unfolding step_stands
-waiting_stands kind number s most t e z m h =
-    h ∙ ap (λ (x : Limits). within s x) m ∙ sym (pick_true (eqb s.number 0) _ _ (eq-eqb s.number 0 (sym e ∙ z)))
-
-pub within_stands : (k kind number : ℕ) (s : Step) (most : Limits) (can t : Bool) → k ≡ kind → number ≡ s.number → (number ≡ 0 → ⊥) → can ≡ can_be k number → can ≡ true → most ≡ limits_of k number → t ≡ within s most
-    → t ≡ step_stands kind s
-unfolding step_stands
-within_stands k kind number s most can t q e z c o m h =
-    let f : can_be kind s.number ≡ true = (λ j. can_be (sym q j) (sym e j)) ∙ sym c ∙ o in
-    h ∙ ap (λ (x : Limits). within s x) (m ∙ (λ j. limits_of (q j) (e j))) ∙ sym (true_both _) ∙ ap (λ (x : Bool). both x (within s (limits_of kind s.number))) (sym f)
-    ∙ sym (pick_false (eqb s.number 0) _ _ (ne_eqb s.number 0 (λ (x : s.number ≡ 0). z (e ∙ x))))
 
 -- a test holds together with what a kind has, where it holds by itself
 owned : {A : Type 0} (t u x : Bool) → (u ≡ true → A × (x ≡ true)) → both t u ≡ true → A × (both t x ≡ true)

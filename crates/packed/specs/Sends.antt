@@ -1,10 +1,7 @@
 -- Form: what a record's chip sends in a slot, read from the bytes in their place, by include/toemsakun.h's table of steps.
-use Rattle.std.specs.Prelude.{ℕ, ◌+◌, ◌*◌, Bool, not, List, ◌≡◌, eqb, get_or}
+use Rattle.std.specs.Prelude.{ℕ, ◌+◌, ◌*◌, Bool, not, List, eqb, get_or}
 use Rattle.std.proofs.Math.Bool.{true}
-use Rattle.std.proofs.Common.{◌∙◌, sym}
-use Rattle.std.proofs.Math.Path.{ap}
 use Rattle.base.specs.Pick.{pick}
-use Rattle.base.specs.Rules.{cases}
 use Rattle.base.specs.Bits.{bit_of}
 use Rattle.base.specs.Parts.{part_byte}
 use Rattle.rom.specs.Rom.{search_sends}
@@ -66,16 +63,3 @@ module _ (image pad : ℕ) (bs ms ss : List ℕ) where
   -- at the step that the bytes name
   unfoldable pub sends_in : Bool
   sends_in = sends_at (get_or bs 15 0)
-
-  -- the number, taken at what a match found
-  pub sent_at : (n k : ℕ) (b : Bool) → n ≡ get_or bs 15 0 → n ≡ k → b ≡ sends_at k → b ≡ sends_in
-  unfolding sends_in
-  sent_at n k b e f h = h ∙ ap (λ (x : ℕ). sends_at x) (sym f ∙ e)
-
-  -- the number is that of no step that sends
-  pub sent_none : (n : ℕ) → n ≡ get_or bs 15 0 → (n ≡ 2 → ⊥) → (n ≡ 4 → ⊥) → (n ≡ 19 → ⊥) → (n ≡ 20 → ⊥) → (n ≡ 21 → ⊥) → (n ≡ 24 → ⊥) → (n ≡ 26 → ⊥)
-      → (n ≡ 33 → ⊥) → (n ≡ 35 → ⊥) → (n ≡ 36 → ⊥) → true ≡ sends_in
-  unfolding sends_in sends_at
-  sent_none n e a b c d f g h k l m =
-      let none : true ≡ sends_at n = search cases in
-      none ∙ ap (λ (x : ℕ). sends_at x) e

@@ -1,6 +1,6 @@
 -- include/toemsakun.h, the table of steps: what a chip is in the middle of, as a number, and what it needs to go on.
 use Rattle.std.specs.Prelude.{ℕ, Bool, true, false, ◌≡◌, refl, eqb, ltb}
-use Rattle.std.proofs.Common.{◌∙◌, ap, sym}
+use Rattle.std.proofs.Common.{ap}
 use Rattle.base.specs.Pick.{pick}
 use Rattle.rom.specs.declared.RomStep.{RomStep}
 use Rattle.rom.specs.declared.RomStep.TheVariants.{Command, Read, Match, Search}
@@ -141,16 +141,3 @@ level_back (Rom s) = rom_back s
 level_back (FunctionCommand count bits) = refl
 level_back (Memory p) = memory_back p
 level_back (Pio p) = switch_back p
-
--- a level's step, taken at what a match found
-pub rom_at : (q p : RomStep) (r : Step) → q ≡ p → r ≡ rom_packed p → r ≡ rom_packed q
-rom_at q p r e h = h ∙ ap (λ (k : RomStep). rom_packed k) (sym e)
-
-pub memory_at : (q p : MemoryPhase) (r : Step) → q ≡ p → r ≡ memory_packed p → r ≡ memory_packed q
-memory_at q p r e h = h ∙ ap (λ (k : MemoryPhase). memory_packed k) (sym e)
-
-pub switch_at : (q p : SwitchPhase) (r : Step) → q ≡ p → r ≡ switch_packed p → r ≡ switch_packed q
-switch_at q p r e h = h ∙ ap (λ (k : SwitchPhase). switch_packed k) (sym e)
-
-pub level-at : (q p : Level) (r : Step) → q ≡ p → r ≡ level_packed p → r ≡ level_packed q
-level-at q p r e h = h ∙ ap (λ (k : Level). level_packed k) (sym e)

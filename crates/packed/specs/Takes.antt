@@ -1,20 +1,15 @@
 -- Form: a slot on a record's bytes, changed in their place, by the step that they name in include/toemsakun.h's table of steps.
-use Rattle.std.specs.Prelude.{ℕ, ◌+◌, ◌/◌, ◌%◌, Bool, List, ◌≡◌, eqb, ltb, get_or, set}
-use Rattle.std.proofs.Common.{◌∙◌}
-use Rattle.std.proofs.Math.Path.{ap}
+use Rattle.std.specs.Prelude.{ℕ, ◌+◌, ◌/◌, ◌%◌, Bool, List, eqb, ltb, get_or, set}
 use Rattle.base.specs.Pick.{pick}
 use Rattle.base.specs.Bits.{bit_of, same, filled}
 use Rattle.base.specs.Parts.{part_byte, put_in_part}
-use Rattle.base.specs.Along.{along}
 use Rattle.crc.specs.Crc.{poly16, crc_byte}
 use Rattle.records.specs.Numbers.{number_at}
 use Rattle.scratchpad.specs.Map.{Map, rule_by}
 use Rattle.scratchpad.specs.Registers.{with_e}
 use Rattle.scratchpad.specs.Scratchpad.{in_page}
 use Rattle.memory.specs.Part.{map_of}
-use Rattle.chip.specs.Chip.{Whole, whole}
 use Rattle.chip.specs.Kinds.{part_of, image_size, pad_size}
-use Rattle.chip.specs.declared.Chip.{Chip}
 use Rattle.line.specs.Bridge.{act_at}
 use Rattle.line.specs.Line.{act_of}
 use Rattle.line.specs.declared.Act.TheVariants as act
@@ -125,12 +120,6 @@ module _ (v : Bool) (image pad : ℕ) (bs ms ss : List ℕ) where
       let x = act_at (act_of (act.Take v)) (unpacked bs) image pad ms ss in
       taken (put_record x.chip bs) x.memory x.pad
 
-  pub any_is : (c d : Chip) (x y z : List ℕ) → c ≡ unpacked bs → whole d y z ≡ act_at (act_of (act.Take v)) c image pad ms ss → x ≡ put_record d bs → taken x y z ≡ any_in
-  unfolding any_in
-  any_is c d x y z e h k =
-      (λ j. taken (k j) y z)
-      ∙ ap (λ (w : Whole). taken (put_record w.chip bs) w.memory w.pad) (h ∙ ap (λ (b : Chip). act_at (act_of (act.Take v)) b image pad ms ss) e)
-
   -- a is counted, up to a last place
   unfoldable pub count_in : ℕ → Taken
   count_in last = pick (ltb (get_or bs 18 0) last) (taken (set bs 18 (get_or bs 18 0 + 1)) ms ss) any_in
@@ -168,7 +157,3 @@ module _ (v : Bool) (image pad : ℕ) (bs ms ss : List ℕ) where
 
   unfoldable pub takes_in : Taken
   takes_in = takes_by (shape_of (get_or bs 15 0))
-
-  -- the slot, taken at the shape that a match found
-  pub shape_at : (q p : Shape) (r : Taken) → q ≡ p → r ≡ takes_by p → r ≡ takes_by q
-  shape_at q p r = along (λ (k : Shape). takes_by k) q p r

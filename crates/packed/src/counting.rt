@@ -6,6 +6,7 @@ use crate::{fields, taking};
 use base::Register;
 
 // A bit enters the byte at a place, and another byte is its new count.
+#[tactic(auto, unfolding(crate::specs::Takes::filled_at))]
 pub fn fill_byte(r: &mut [u8], counter: usize, count: u8, place: usize, v: bool)
     ensures { r.new ≡ filled_at counter count place v r.old }
 {
@@ -16,26 +17,28 @@ pub fn fill_byte(r: &mut [u8], counter: usize, count: u8, place: usize, v: bool)
 }
 
 // A bit enters w, and a is the new count.
+#[tactic(auto, unfolding(crate::specs::Takes::word_filled))]
 fn fill_word(r: &mut [u8], count: u8, v: bool)
     ensures { r.new ≡ word_filled count v r.old }
 {
     let before = fields::word_of(r);
-    let w = before.filled(v);
-    base::put_at(r, 16, (w % 256) as u8);
-    base::put_at(r, 17, (w / 256) as u8);
+    let [low, high] = before.filled(v).to_le_bytes();
+    base::put_at(r, 16, low);
+    base::put_at(r, 17, high);
     base::put_at(r, 18, count);
 }
 
 // A bit is the code's at a place.
+#[tactic(auto, using(base::specs::Rules::cases), unfolding(crate::specs::Takes::of_code, base::specs::Bits::same))]
 fn is_of_code(r: &[u8], place: u8, v: bool) -> bool
     ensures { result ≡ of_code place v r.now }
 {
     let code = fields::code_of(r);
-    let bit = base::bit_of(code, place);
-    base::is_same(bit, v)
+    base::bit_of(code, place) == v
 }
 
 // A place up to a last one.
+#[tactic(auto, using(base::specs::Rules::cases), unfolding(crate::specs::Takes::count_in))]
 pub fn take_count(
     r: &mut [u8],
     last: u8,
@@ -56,6 +59,7 @@ pub fn take_count(
 }
 
 // A bit of a byte.
+#[tactic(auto, using(base::specs::Rules::cases), unfolding(crate::specs::Takes::byte_in))]
 pub fn take_byte(r: &mut [u8], image: usize, pad: usize, v: bool, ms: &mut [u8], ss: &mut [u8])
     ensures { taken r.new ms.new ss.new ≡ byte_in v image pad r.old ms.old ss.old }
 {
@@ -68,6 +72,7 @@ pub fn take_byte(r: &mut [u8], image: usize, pad: usize, v: bool, ms: &mut [u8],
 }
 
 // A bit of two bytes.
+#[tactic(auto, using(base::specs::Rules::cases), unfolding(crate::specs::Takes::word_in))]
 pub fn take_word(r: &mut [u8], image: usize, pad: usize, v: bool, ms: &mut [u8], ss: &mut [u8])
     ensures { taken r.new ms.new ss.new ≡ word_in v image pad r.old ms.old ss.old }
 {
@@ -80,17 +85,13 @@ pub fn take_word(r: &mut [u8], image: usize, pad: usize, v: bool, ms: &mut [u8],
 }
 
 // A bit of the code, to match.
+#[tactic(auto, using(base::specs::Rules::cases), unfolding(crate::specs::Takes::code_in))]
 pub fn take_code(r: &mut [u8], image: usize, pad: usize, v: bool, ms: &mut [u8], ss: &mut [u8])
     ensures { taken r.new ms.new ss.new ≡ code_in v image pad r.old ms.old ss.old }
 {
     let a = base::byte_at(r, 18);
-    let same = is_of_code(r, a, v);
-    if a < 63 {
-        if same {
-            base::put_at(r, 18, a + 1);
-            return;
-        }
-        taking::take_any(r, image, pad, v, ms, ss);
+    if a < 63 && is_of_code(r, a, v) {
+        base::put_at(r, 18, a + 1);
         return;
     }
     taking::take_any(r, image, pad, v, ms, ss)

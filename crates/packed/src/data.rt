@@ -7,18 +7,21 @@ use crate::{counting, fields};
 use base::Register;
 
 // A step put in its place, with b and c 0.
+#[tactic(auto, unfolding(crate::specs::Takes::put_step))]
 fn put_step(r: &mut [u8], number: u8, w: u16, a: u8)
     ensures { r.new ≡ put_step number w a r.old }
 {
+    let [low, high] = w.to_le_bytes();
     base::put_at(r, 15, number);
-    base::put_at(r, 16, (w % 256) as u8);
-    base::put_at(r, 17, (w / 256) as u8);
+    base::put_at(r, 16, low);
+    base::put_at(r, 17, high);
     base::put_at(r, 18, a);
     base::put_at(r, 19, 0);
     base::put_at(r, 20, 0);
 }
 
 // A byte of the scratchpad was taken or sent: the same step at the next offset, or after the last the CRC-16.
+#[tactic(auto, using(base::specs::Rules::cases), unfolding(crate::specs::Takes::offset_next))]
 fn next_offset(r: &mut [u8], number: u8, offset: u8, last: u8, crc: u16)
     ensures { r.new ≡ offset_next number offset last crc r.old }
 {
@@ -30,6 +33,7 @@ fn next_offset(r: &mut [u8], number: u8, offset: u8, last: u8, crc: u16)
 }
 
 // A byte of the memory was sent: the next address, or after the last ones.
+#[tactic(auto, using(base::specs::Rules::cases), unfolding(crate::specs::Takes::address_next))]
 fn next_address(r: &mut [u8], address: u16, last: u16)
     ensures { r.new ≡ address_next address last r.old }
 {
@@ -41,6 +45,7 @@ fn next_address(r: &mut [u8], address: u16, last: u16)
 }
 
 // The last bit of a byte of the memory was sent.
+#[tactic(auto, unfolding(crate::specs::Takes::memory_end))]
 fn end_memory(r: &mut [u8])
     ensures { r.new ≡ memory_end r.old }
 {
@@ -52,6 +57,7 @@ fn end_memory(r: &mut [u8])
 }
 
 // A bit of a byte of the memory was sent.
+#[tactic(auto, using(base::specs::Rules::cases), unfolding(crate::specs::Takes::memory_out))]
 pub fn send_memory(r: &mut [u8])
     ensures { r.new ≡ memory_out r.old }
 {
@@ -64,6 +70,7 @@ pub fn send_memory(r: &mut [u8])
 }
 
 // The last bit of a byte of the scratchpad was sent.
+#[tactic(auto, unfolding(crate::specs::Takes::pad_end))]
 fn end_pad(r: &mut [u8], pad: usize, ss: &[u8])
     ensures { r.new ≡ pad_end pad r.old ss.now }
 {
@@ -80,6 +87,7 @@ fn end_pad(r: &mut [u8], pad: usize, ss: &[u8])
 }
 
 // A bit of a byte of the scratchpad was sent.
+#[tactic(auto, using(base::specs::Rules::cases), unfolding(crate::specs::Takes::pad_out))]
 pub fn send_pad(r: &mut [u8], pad: usize, ss: &[u8])
     ensures { r.new ≡ pad_out pad r.old ss.now }
 {
@@ -92,6 +100,7 @@ pub fn send_pad(r: &mut [u8], pad: usize, ss: &[u8])
 }
 
 // A byte that was taken, through the rule of a byte.
+#[tactic(auto, unfolding(crate::specs::Takes::ruled_in))]
 fn rule_in(r: &[u8], image: usize, offset: u8, sent: u8, ms: &[u8]) -> u8
     ensures { result ≡ ruled_in image offset sent r.now ms.now }
 {
@@ -107,6 +116,7 @@ fn rule_in(r: &[u8], image: usize, offset: u8, sent: u8, ms: &[u8]) -> u8
 }
 
 // E/S with E set to an offset.
+#[tactic(auto, unfolding(scratchpad::specs::Registers::with_e))]
 fn with_e(es: u8, offset: u8) -> u8
     ensures { result ≡ with_e es offset }
 {
@@ -114,6 +124,7 @@ fn with_e(es: u8, offset: u8) -> u8
 }
 
 // A whole byte: through the rule into the scratchpad, and E is its offset.
+#[tactic(auto, unfolding(crate::specs::Takes::whole_in))]
 fn take_whole(r: &mut [u8], image: usize, pad: usize, sent: u8, ms: &[u8], ss: &mut [u8])
     ensures { taken r.new ms.now ss.new ≡ whole_in image pad sent r.old ms.now ss.old }
 {
@@ -131,6 +142,7 @@ fn take_whole(r: &mut [u8], image: usize, pad: usize, sent: u8, ms: &[u8], ss: &
 }
 
 // The last bit of a byte.
+#[tactic(auto, unfolding(crate::specs::Takes::data_end))]
 fn end_data(r: &mut [u8], image: usize, pad: usize, v: bool, ms: &[u8], ss: &mut [u8])
     ensures { taken r.new ms.now ss.new ≡ data_end v image pad r.old ms.now ss.old }
 {
@@ -140,6 +152,7 @@ fn end_data(r: &mut [u8], image: usize, pad: usize, v: bool, ms: &[u8], ss: &mut
 }
 
 // A bit of a byte.
+#[tactic(auto, using(base::specs::Rules::cases), unfolding(crate::specs::Takes::data_in))]
 pub fn take_data(r: &mut [u8], image: usize, pad: usize, v: bool, ms: &[u8], ss: &mut [u8])
     ensures { taken r.new ms.now ss.new ≡ data_in v image pad r.old ms.now ss.old }
 {

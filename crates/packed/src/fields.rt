@@ -4,6 +4,7 @@ ghost use Rattle.records.specs.Numbers.{number_at};
 ghost use Rattle.packed.specs.Packed.{unpacked};
 
 // The kind of the chip that bytes stand for.
+#[tactic(auto, unfolding(crate::specs::Packed::unpacked))]
 pub fn kind_of(r: &[u8]) -> u8
     ensures { result ≡ (unpacked r.now).kind }
 {

@@ -22,9 +22,9 @@ fn fields_stand(record: &[u8; RECORD_SIZE]) -> bool
         outside: record[14],
     };
     chip::kinds::is_known(record[8])
-        && scratchpad::registers_in_range(registers)
-        && ds2413::in_range(switch)
-        && record[9] <= 1
+        & scratchpad::registers_in_range(registers)
+        & ds2413::in_range(switch)
+        & (record[9] <= 1)
 }
 
 // Two bytes are 0.
@@ -41,11 +41,11 @@ fn rest_is_zero(record: &[u8; RECORD_SIZE]) -> bool
     ensures { result ≡ rest_is_zero record.now }
 {
     are_zero(record[21], record[22])
-        && are_zero(record[23], record[24])
-        && are_zero(record[25], record[26])
-        && are_zero(record[27], record[28])
-        && are_zero(record[29], record[30])
-        && record[31] == 0
+        & are_zero(record[23], record[24])
+        & are_zero(record[25], record[26])
+        & are_zero(record[27], record[28])
+        & are_zero(record[29], record[30])
+        & (record[31] == 0)
 }
 
 // No field of the step is over its limit.
@@ -54,7 +54,7 @@ fn is_within(record: &[u8; RECORD_SIZE], most: Limits) -> bool
     ensures { result ≡ within (step_at record.now) most }
 {
     let w = records::pair(record[16], record[17]);
-    w <= most.w && record[18] <= most.a && record[19] <= most.b && record[20] <= most.c
+    (w <= most.w) & (record[18] <= most.a) & (record[19] <= most.b) & (record[20] <= most.c)
 }
 
 // The chip can be in the step, with such fields.

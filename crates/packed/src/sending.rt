@@ -5,6 +5,7 @@ ghost use Rattle.packed.specs.Sends.{code_bit, search_bit, crc_bit, register_bit
 use crate::fields;
 
 // Read ROM: bit a of the code.
+#[tactic(auto, unfolding(crate::specs::Sends::code_bit))]
 fn code_bit(r: &[u8]) -> bool
     ensures { result ≡ code_bit r.now }
 {
@@ -14,6 +15,7 @@ fn code_bit(r: &[u8]) -> bool
 }
 
 // Search ROM: by b, bit a of the code, its complement, or nothing.
+#[tactic(auto, unfolding(crate::specs::Sends::search_bit))]
 fn search_bit(r: &[u8]) -> bool
     ensures { result ≡ search_bit r.now }
 {
@@ -24,6 +26,7 @@ fn search_bit(r: &[u8]) -> bool
 }
 
 // The CRC-16: the complement of bit a of w.
+#[tactic(auto, unfolding(crate::specs::Sends::crc_bit))]
 fn crc_bit(r: &[u8]) -> bool
     ensures { result ≡ crc_bit r.now }
 {
@@ -33,6 +36,7 @@ fn crc_bit(r: &[u8]) -> bool
 }
 
 // TA1, TA2 and E/S: bit a of the three bytes.
+#[tactic(auto, unfolding(crate::specs::Sends::register_bit))]
 fn register_bit(r: &[u8]) -> bool
     ensures { result ≡ register_bit r.now }
 {
@@ -43,6 +47,7 @@ fn register_bit(r: &[u8]) -> bool
 }
 
 // Read Scratchpad: bit b of the scratchpad's byte a.
+#[tactic(auto, unfolding(crate::specs::Sends::pad_bit, crate::specs::Packed::unpacked))]
 fn pad_bit(r: &[u8], pad: usize, ss: &[u8]) -> bool
     ensures { result ≡ pad_bit pad r.now ss.now }
 {
@@ -55,6 +60,7 @@ fn pad_bit(r: &[u8], pad: usize, ss: &[u8]) -> bool
 }
 
 // A copy was carried out: a is the bit.
+#[tactic(auto, unfolding(crate::specs::Sends::copied_bit))]
 fn copied_bit(r: &[u8]) -> bool
     ensures { result ≡ copied_bit r.now }
 {
@@ -63,6 +69,7 @@ fn copied_bit(r: &[u8]) -> bool
 }
 
 // Read Memory: bit a of the memory's byte w.
+#[tactic(auto, unfolding(crate::specs::Sends::memory_bit, crate::specs::Packed::unpacked))]
 fn memory_bit(r: &[u8], image: usize, ms: &[u8]) -> bool
     ensures { result ≡ memory_bit image r.now ms.now }
 {
@@ -75,6 +82,7 @@ fn memory_bit(r: &[u8], image: usize, ms: &[u8]) -> bool
 }
 
 // PIO Access, a sampled status: bit a of b.
+#[tactic(auto, unfolding(crate::specs::Sends::sample_bit))]
 fn sample_bit(r: &[u8]) -> bool
     ensures { result ≡ sample_bit r.now }
 {
@@ -84,6 +92,7 @@ fn sample_bit(r: &[u8]) -> bool
 }
 
 // PIO Access Write: bit a of AAh.
+#[tactic(auto, unfolding(crate::specs::Sends::confirm_bit))]
 fn confirm_bit(r: &[u8]) -> bool
     ensures { result ≡ confirm_bit r.now }
 {
@@ -92,6 +101,7 @@ fn confirm_bit(r: &[u8]) -> bool
 }
 
 // The bit that a record's chip sends, its parts of the buffers beginning at image and pad; a step with nothing to send sends 1.
+#[tactic(auto, using(base::specs::Rules::cases), unfolding(crate::specs::Sends::sends_in, crate::specs::Sends::sends_at))]
 pub fn sends(r: &[u8], image: usize, pad: usize, ms: &[u8], ss: &[u8]) -> bool
     ensures { result ≡ sends_in image pad r.now ms.now ss.now }
 {

@@ -6,6 +6,7 @@ use crate::{Shape, counting, data, record};
 use line::Act;
 
 // The shape of each step.
+#[tactic(auto, using(base::specs::Rules::cases), unfolding(crate::specs::Takes::shape_of))]
 fn shape_of(number: u8) -> Shape
     ensures { result ≡ shape_of number }
 {
@@ -35,6 +36,7 @@ fn shape_of(number: u8) -> Shape
 }
 
 // Any slot, by the chip that the record stands for.
+#[tactic(auto, unfolding(crate::specs::Takes::any_in))]
 pub fn take_any(r: &mut [u8], image: usize, pad: usize, v: bool, ms: &mut [u8], ss: &mut [u8])
     ensures { taken r.new ms.new ss.new ≡ any_in v image pad r.old ms.old ss.old }
 {
@@ -44,6 +46,7 @@ pub fn take_any(r: &mut [u8], image: usize, pad: usize, v: bool, ms: &mut [u8], 
 }
 
 // A slot by the shape of the step.
+#[tactic(auto, using(base::specs::Rules::cases))]
 fn take_by(
     shape: Shape,
     r: &mut [u8],
@@ -69,6 +72,7 @@ fn take_by(
 }
 
 // A slot of the value v on a record, its chip's parts of the buffers beginning at image and pad.
+#[tactic(auto, unfolding(crate::specs::Takes::takes_in))]
 pub fn takes(r: &mut [u8], image: usize, pad: usize, v: bool, ms: &mut [u8], ss: &mut [u8])
     ensures { taken r.new ms.new ss.new ≡ takes_in v image pad r.old ms.old ss.old }
 {

@@ -19,10 +19,6 @@ use Rattle.toemsakun.specs.Ranges.{Near}
 abbrev pub range_of : ℕ → ℕ → ℕ → ℕ → Range
 range_of first image pad past = record { first = first; image = image; pad = pad; past = past }
 
-holds : (b : Bool) → not b ≡ false → b ≡ true
-holds true e = refl
-holds false e = absurd (true≢false e)
-
 waits_append : (cs ds : List Chip) → Waits cs → Waits ds → Waits (cs ++ ds)
 waits_append [] ds g h = h
 waits_append (c ∷ cs) ds (g, k) h = (g, waits_append cs ds k h)
@@ -32,21 +28,21 @@ sum_append size [] ds = omega arith
 sum_append size (c ∷ cs) ds = let k = sum_append size cs ds in omega arith
 
 -- where a loop stands that makes a range narrow
-pub record Narrow (bs : List ℕ) (first image pad past : ℕ) : Type 0 where
+pub record Narrow (bs : List ℕ) (g : Range) : Type 0 where
   pub table : Table16 bs
-  pub outside : Outside (range_of first image pad past) bs
-  pub numbers : Near bs past first image pad
+  pub outside : Outside g bs
+  pub numbers : Near bs g.past g.first g.image g.pad
 
-pub narrow : (bs : List ℕ) (first image pad past : ℕ) → Table16 bs → Outside (range_of first image pad past) bs → Narrow bs first image pad past
-narrow bs first image pad past t o =
+pub narrow : (bs : List ℕ) (g : Range) → Table16 bs → Outside g bs → Narrow bs g
+narrow bs g t o =
     let few = t.few in
     let ordered = o.ordered in
     let within = o.within in
     let size = bytes_length bs t in
     let image_is = o.image in
     let pad_is = o.pad in
-    let a = images-most first (unpacked_table bs) (omega arith) in
-    let b = pads-most first (unpacked_table bs) (omega arith) in
+    let a = images-most g.first (unpacked_table bs) (omega arith) in
+    let b = pads-most g.first (unpacked_table bs) (omega arith) in
     record {
       table = t;
       outside = o;
@@ -69,9 +65,10 @@ module _ (bs : List ℕ) (t : Table16 bs) where
   kind_at i kind h e = e ∙ ap (λ (l : List ℕ). (unpacked l).kind) (record_is i h) ∙ ap (λ (c : Chip). c.kind) (unpacked_packed (get_or cs i no_chip))
 
 -- the first chip of the range is left out
-pub front_next : (bs : List ℕ) (first image pad past : ℕ) → Narrow bs first image pad past → (waits : Bool) (kind size room : ℕ) → first < past → waits ≡ eqb (get_or (record_at first bs) 15 0) 0 → not waits ≡ false
-    → kind ≡ (unpacked (record_at first bs)).kind → size ≡ image_size kind → room ≡ pad_size kind → Narrow bs (first + 1) (image + size) (pad + room) past
-front_next bs first image pad past n waits kind size room h e f k a b =
+pub front_next : (bs : List ℕ) (g : Range) → Narrow bs g → (waits : Bool) (kind size room : ℕ) → g.first < g.past → waits ≡ eqb (get_or (record_at g.first bs) 15 0) 0 → waits ≡ true
+    → kind ≡ (unpacked (record_at g.first bs)).kind → size ≡ image_size kind → room ≡ pad_size kind → Narrow bs (range_of (g.first + 1) (g.image + size) (g.pad + room) g.past)
+front_next bs g n waits kind size room h e f k a b =
+    let first = g.first in
     let t = n.table in
     let o = n.outside in
     let cs = unpacked_table bs in
@@ -79,7 +76,7 @@ front_next bs first image pad past n waits kind size room h e f k a b =
     let l : first < length cs = omega arith in
     let c = get_or cs first no_chip in
     let is : kind ≡ c.kind = kind_at bs t first kind l k in
-    let level : c.level ≡ Waiting = waits_at bs t first l (sym (holds waits f) ∙ e) in
+    let level : c.level ≡ Waiting = waits_at bs t first l (sym f ∙ e) in
     let next : take (first + 1) cs ≡ take first cs ++ (c ∷ []) = let z : first + 1 ≡ suc first = omega arith in ap (λ (m : ℕ). take m cs) z ∙ take-suc cs first no_chip l in
     let x = sum_append image_size (take first cs) (c ∷ []) in
     let y = sum_append pad_size (take first cs) (c ∷ []) in
@@ -87,7 +84,7 @@ front_next bs first image pad past n waits kind size room h e f k a b =
     let room_is : room ≡ pad_size c.kind = b ∙ ap pad_size is in
     let image_is = o.image in
     let pad_is = o.pad in
-    narrow bs (first + 1) (image + size) (pad + room) past t (record {
+    narrow bs (range_of (first + 1) (g.image + size) (g.pad + room) g.past) t (record {
       ordered = omega arith;
       within = within;
       image = (omega arith) ∙ sym x ∙ ap (λ (ds : List Chip). images_size ds) (sym next);
@@ -97,9 +94,10 @@ front_next bs first image pad past n waits kind size room h e f k a b =
     })
 
 -- the last chip of the range is left out
-pub back_next : (bs : List ℕ) (first image pad past : ℕ) → Narrow bs first image pad past → (waits : Bool) → first < past → waits ≡ eqb (get_or (record_at (past - 1) bs) 15 0) 0 → not waits ≡ false
-    → Narrow bs first image pad (past - 1)
-back_next bs first image pad past n waits h e f =
+pub back_next : (bs : List ℕ) (g : Range) → Narrow bs g → (waits : Bool) → g.first < g.past → waits ≡ eqb (get_or (record_at (g.past - 1) bs) 15 0) 0 → waits ≡ true
+    → Narrow bs (range_of g.first g.image g.pad (g.past - 1))
+back_next bs g n waits h e f =
+    let past = g.past in
     let t = n.table in
     let o = n.outside in
     let cs = unpacked_table bs in
@@ -107,9 +105,9 @@ back_next bs first image pad past n waits h e f =
     let last = past - 1 in
     let l : last < length cs = omega arith in
     let c = get_or cs last no_chip in
-    let level : c.level ≡ Waiting = waits_at bs t last l (sym (holds waits f) ∙ e) in
+    let level : c.level ≡ Waiting = waits_at bs t last l (sym f ∙ e) in
     let from : drop last cs ≡ c ∷ drop past cs = let z : suc last ≡ past = omega arith in drop-cons cs last no_chip l ∙ ap (λ (m : ℕ). c ∷ drop m cs) z in
-    narrow bs first image pad last t (record {
+    narrow bs (range_of g.first g.image g.pad last) t (record {
       ordered = omega arith;
       within = omega arith;
       image = o.image;

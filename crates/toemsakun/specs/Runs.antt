@@ -1,6 +1,6 @@
 -- Laws: slots in place on a table's bytes come to what the plain forms come to, packed again.
-use Rattle.std.specs.Prelude.{ℕ, Bool, true, false, List, ◌++◌, ◌≡◌, refl, pos, length, take, drop}
-use Rattle.std.proofs.Common.{le_refl, true≢false, ◌∙◌}
+use Rattle.std.specs.Prelude.{ℕ, ◌<◌, ◌≤◌, Bool, true, false, List, ◌++◌, ◌≡◌, refl, pos, length, take, drop}
+use Rattle.std.proofs.Common.{arith, le_refl, true≢false, ◌∙◌}
 use Rattle.std.proofs.Math.Path.{ap, sym}
 use Rattle.std.proofs.Math.Seq.{drop-length}
 use Rattle.base.specs.Pick.{pick_true, pick_false}
@@ -36,6 +36,14 @@ pub record ByteBytes (bits count : ℕ) (bs₀ ms₀ ss₀ : List ℕ) (g : Rang
   pub table : length bs ≡ length bs₀
   pub images : length ms ≡ length ms₀
   pub pads : length ss ≡ length ss₀
+
+-- slots are left exactly where a byte of host bits is
+module _ (slots : ℕ) (bits answers₀ : List ℕ) (L₀ : List Whole) (at left : ℕ) (answers : List ℕ) (L : List Whole) (g : Running slots bits answers₀ L₀ at left answers L) where
+  pub running_left : at < length bits → 0 < left
+  running_left h = let a = g.asked in omega arith
+
+  pub running_none : length bits ≤ at → left ≤ 0
+  running_none h = let a = g.asked in omega arith
 
 -- where the loop over the bytes stands
 pub record RunBytes (slots : ℕ) (bits answers₀ bs₀ ms₀ ss₀ : List ℕ) (g : Range) (at left : ℕ) (answers bs ms ss : List ℕ) : Type 0 where

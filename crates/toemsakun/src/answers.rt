@@ -16,10 +16,7 @@ use search::SearchAnswer;
 fn of_bit(b: bool) -> i32
     ensures { result ≡ pos (flag b) }
 {
-    if b {
-        return 1;
-    }
-    0
+    i32::from(b)
 }
 
 // A count.
@@ -34,7 +31,7 @@ fn of_count(n: usize) -> i32
 fn minus_of(number: u8) -> i32
     ensures { result ≡ minus number }
 {
-    -(number as i32)
+    -i32::from(number)
 }
 
 // Minus the number of a refusal.

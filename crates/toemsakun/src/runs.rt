@@ -66,14 +66,12 @@ fn run_byte(table: &mut [u8], g: Range, bits: u8, count: usize, ms: &mut [u8], s
     let mut host = bits;
     let mut sum: u16 = 0;
     let mut worth: u16 = 1;
-    let mut i: usize = 0;
-    while i < count {
+    for i in 0..count {
         let value = slots::slot(table, g, host % 2 == 1, ms, ss);
         let more = line::carrier::with_bit(sum, value, worth);
         sum = more as u16;
         host = host / 2;
         worth = 2 * worth;
-        i += 1;
     }
     sum as u8
 }
@@ -104,15 +102,12 @@ fn run_all(
 {
     let mut g = slots::whole(table);
     let mut left = slots;
-    let mut at: usize = 0;
-    while 0 < left {
+    for at in 0..bits.len() {
         let count = line::carrier::next_count(left);
-        let host = bits[at];
         g = narrow(table, g);
-        let byte = run_byte(table, g, host, count, ms, ss);
+        let byte = run_byte(table, g, bits[at], count, ms, ss);
         answers[at] = byte;
         left -= count;
-        at += 1;
     }
 }
 

@@ -36,12 +36,10 @@ fn all_send(table: &[u8], g: Range, host: bool, ms: &[u8], ss: &[u8]) -> bool
     requires { Lined table.now ms.now ss.now × Outside g table.now }
     ensures { result ≡ value_of host (line_in table.now ms.now ss.now) }
 {
-    let past = g.past;
     let mut value = host;
     let mut image = g.image;
     let mut pad = g.pad;
-    let mut i = g.first;
-    while i < past {
+    for i in g.first..g.past {
         let at = i * RECORD_SIZE;
         let end = at + RECORD_SIZE;
         let bit = packed::sends(&table[at..end], image, pad, ms, ss);
@@ -49,7 +47,6 @@ fn all_send(table: &[u8], g: Range, host: bool, ms: &[u8], ss: &[u8]) -> bool
         let kind = packed::kind_of(&table[at..end]);
         image += chip::kinds::image_size(kind);
         pad += chip::kinds::pad_size(kind);
-        i += 1;
     }
     value
 }
@@ -60,18 +57,15 @@ fn all_take(table: &mut [u8], g: Range, v: bool, ms: &mut [u8], ss: &mut [u8])
     ensures ss_after { line_in table.new ms.new ss.new ≡ map (act_of (act.Take v)) (line_in table.old ms.old ss.old) }
     ensures lined { Lined table.new ms.new ss.new × Outside g table.new }
 {
-    let past = g.past;
     let mut image = g.image;
     let mut pad = g.pad;
-    let mut i = g.first;
-    while i < past {
+    for i in g.first..g.past {
         let at = i * RECORD_SIZE;
         let end = at + RECORD_SIZE;
         packed::takes(&mut table[at..end], image, pad, v, ms, ss);
         let kind = packed::kind_of(&table[at..end]);
         image += chip::kinds::image_size(kind);
         pad += chip::kinds::pad_size(kind);
-        i += 1;
     }
 }
 
@@ -92,33 +86,19 @@ pub fn front(table: &[u8], g: Range) -> Range
     requires { Table16 table.now × Outside g table.now }
     ensures { Outside result table.now }
 {
-    let past = g.past;
-    let mut first = g.first;
-    let mut image = g.image;
-    let mut pad = g.pad;
-    while first < past {
-        let at = first * RECORD_SIZE;
+    let mut r = g;
+    while r.first < r.past {
+        let at = r.first * RECORD_SIZE;
         let end = at + RECORD_SIZE;
-        let waits = packed::waits(&table[at..end]);
-        if !waits {
-            return Range {
-                first: first,
-                image: image,
-                pad: pad,
-                past: past,
-            };
+        if !packed::waits(&table[at..end]) {
+            return r;
         }
         let kind = packed::kind_of(&table[at..end]);
-        image += chip::kinds::image_size(kind);
-        pad += chip::kinds::pad_size(kind);
-        first += 1;
+        r.image += chip::kinds::image_size(kind);
+        r.pad += chip::kinds::pad_size(kind);
+        r.first += 1;
     }
-    Range {
-        first: first,
-        image: image,
-        pad: pad,
-        past: past,
-    }
+    r
 }
 
 // The range without the chips at its back that wait.
@@ -126,29 +106,15 @@ pub fn back(table: &[u8], g: Range) -> Range
     requires { Table16 table.now × Outside g table.now }
     ensures { Outside result table.now }
 {
-    let first = g.first;
-    let image = g.image;
-    let pad = g.pad;
-    let mut past = g.past;
-    while first < past {
-        let last = past - 1;
+    let mut r = g;
+    while r.first < r.past {
+        let last = r.past - 1;
         let at = last * RECORD_SIZE;
         let end = at + RECORD_SIZE;
-        let waits = packed::waits(&table[at..end]);
-        if !waits {
-            return Range {
-                first: first,
-                image: image,
-                pad: pad,
-                past: past,
-            };
+        if !packed::waits(&table[at..end]) {
+            return r;
         }
-        past = last;
+        r.past = last;
     }
-    Range {
-        first: first,
-        image: image,
-        pad: pad,
-        past: past,
-    }
+    r
 }

@@ -1,14 +1,14 @@
 use Rattle.toemsakun.specs.Narrow.{narrow, back_next}
 use Rattle.toemsakun.proofs.slots.back.Goals as goal
 
-pub loop-past-init : goal.loop-past-init
-loop-past-init c = narrow c.args.table.now c.args.g.first c.args.g.image c.args.g.pad c.args.g.past c.requires.0 c.requires.1
+pub loop-r-init : goal.loop-r-init
+loop-r-init c = narrow c.args.table.now c.args.g c.requires.0 c.requires.1
 
 pub returns-then-not-waits : goal.returns-then-not-waits
-returns-then-not-waits c = c.loop-past.invariant.outside
+returns-then-not-waits c = c.loop-r.invariant.outside
 
-pub loop-past-preserved : goal.loop-past-preserved
-loop-past-preserved c = let l = c.loop-past in let u = c.waits-waits in back_next _ _ _ _ _ l.invariant u.result c.loop-past-test.true u.ensures c.if-not-waits.false-raw
+pub loop-r-preserved : goal.loop-r-preserved
+loop-r-preserved c = let l = c.loop-r in back_next _ _ l.invariant c.waits.result c.loop-r-test.true c.waits.ensures c.if-not-waits.false
 
 pub returns : goal.returns
-returns c = c.loop-past.invariant.outside
+returns c = c.loop-r.invariant.outside

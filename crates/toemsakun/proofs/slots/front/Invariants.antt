@@ -2,8 +2,8 @@ use Prim.Native.Nat.{◌-◌}
 use Rattle.toemsakun.specs.Narrow.{Narrow}
 use Rattle.toemsakun.proofs.slots.front.Given as goal
 
-abbrev pub invariant-loop-first : goal.invariant-loop-first
-invariant-loop-first l = Narrow l.table l.first l.image l.pad l.past
+abbrev pub invariant-loop-r : goal.invariant-loop-r
+invariant-loop-r l = Narrow l.table l.r
 
-abbrev pub decreases-loop-first : goal.decreases-loop-first
-decreases-loop-first l = l.past - l.first
+abbrev pub decreases-loop-r : goal.decreases-loop-r
+decreases-loop-r l = l.r.past - l.r.first
