@@ -1,6 +1,6 @@
 -- The lent form and the plain form agree: a table by value with the places Z past its chips, and the chips alone as a lent
 -- slice, come to the same by every event, by every search and by every card, and the places Z stay.
-use Rattle.std.specs.Prelude.{ℕ, ◌≡◌, refl, length, drop}
+use Rattle.std.specs.Prelude.{ℕ, ◌≡◌, refl, length, drop, Result}
 use Rattle.std.proofs.Common.{arith, ◌∙◌}
 use mathlib.Core.List.{List, ◌++◌, append_assoc}
 use Rattle.std.proofs.Math.Path.{ap, sym}
@@ -12,7 +12,7 @@ use Rattle.line.specs.Prefix.{with_rest, event_rest}
 use Rattle.line.specs.declared.Answer.{Answer}
 use Rattle.line.specs.declared.Event.{Event}
 use Rattle.card.specs.Card.{carded, Read, all, none, read_from, SetUp, set_up, from_read, set_up_of}
-use Rattle.card.specs.declared.CardAnswer.{CardAnswer}
+use Rattle.card.specs.declared.Refused.{Refused}
 use Rattle.search.specs.Prefix.{search_rest, search-rest}
 use Rattle.line.specs.Attached.{attached}
 use Rattle.search.specs.Search.{searched, Search, outcome as found, search_of}
@@ -62,7 +62,7 @@ module _ (cs Z : List Chip) where
   table_rest n (none r at) f = (refl, refl)
 
   -- what `card::set_up` leaves of a table with as many places to fill, and `lent::set_up` of those places
-  pub set_up_agrees : (s : List ℕ) (n m : ℕ) (a b : CardAnswer) (ds ks : List Chip)
+  pub set_up_agrees : (s : List ℕ) (n m : ℕ) (a b : Result ℕ Refused) (ds ks : List Chip)
       → set_up (carded a) m ds ≡ set_up_of (length cs) s n (cs ++ Z)
       → (carded b ≡ (set_up_of (length cs) s 0 cs).answer) × (ks ≡ (set_up_of (length cs) s 0 cs).table)
       → (a ≡ b) × (ds ≡ ks ++ Z)

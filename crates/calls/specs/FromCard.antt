@@ -1,7 +1,7 @@
 -- From a card on, by contract: a call of `card::set_up`, of `lent::set_up` or of `tk_card` that answers k chips, then images and scratchpads of
 -- the sizes asked. What is lent then is refused by neither 8 nor 5, and where the codes differ each of its chips of kind 1 meets the premise of
 -- demand 3: so demand 3 begins at "one set-up", in each form. What stood in the table before does not matter.
-use Rattle.std.specs.Prelude.{ℕ, zero, suc, ◌*◌, ◌/◌, ◌<◌, List, [], ◌++◌, ◌≡◌, refl, ℤ, pos, length, take, drop}
+use Rattle.std.specs.Prelude.{ℕ, zero, suc, ◌*◌, ◌/◌, ◌<◌, List, [], ◌++◌, ◌≡◌, refl, ℤ, pos, length, take, drop, Result}
 use Rattle.std.proofs.Common.{arith, append-nil, ◌∙◌, ap, sym, take_at}
 use contract.Lifetimes.{Lfts}
 use Rattle.std.specs.Borrow.{Bor, MutBor}
@@ -11,7 +11,7 @@ use Rattle.chip.specs.declared.Chip.{Chip}
 use Rattle.line.specs.Layout.{lent, capped}
 use Rattle.line.specs.declared.Table.{Table}
 use Rattle.card.specs.Card.{Carded, chips, carded, Read, all, none, read_from, SetUp, set_up, from_read, set_up_of}
-use Rattle.card.specs.declared.CardAnswer.{CardAnswer}
+use Rattle.card.specs.declared.Refused.{Refused}
 use Rattle.card.specs.contracts.set_up as set-up
 use Rattle.card.proofs.set_up.Reads as set-up-reads
 use Rattle.lent.specs.contracts.set_up as lent_set_up
@@ -56,7 +56,7 @@ pub record PermitsCard (card : List ℕ) (places : ℕ) (t : Table) (a : Carded)
   pub κs : Lfts 1
   pub bytes : Bor (List ℕ)
   pub from_bytes : bytes.now ≡ card
-  pub answer : CardAnswer
+  pub answer : Result ℕ Refused
   pub permits : set-up-reads.Learnt κs (bytes, (places, (t, tt))) (record { answer = answer; table = u })
       (at_exit set-up.ended κs (bytes, (places, (t, tt))) (tt, (tt, (tt, tt))))
   pub tells : a ≡ carded answer
@@ -97,7 +97,7 @@ pub record PermitsCardLent (card : List ℕ) (cs : List Chip) (a : Carded) (ds :
   pub from_bytes : bytes.now ≡ card
   pub from_places : places.now ≡ cs
   pub ghost : (lent_set_up.clauses world.𝓛 world.memory world.routines κs (bytes, (places, tt))).ghost
-  pub answer : CardAnswer
+  pub answer : Result ℕ Refused
   pub permits : Learnt world
       ((lent_set_up.clauses world.𝓛 world.memory world.routines κs (bytes, (places, tt))).ensures ghost answer
       (at_exit lent_set_up.ended κs (bytes, (places, tt)) (tt, (ds, tt))))

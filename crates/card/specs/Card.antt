@@ -1,5 +1,5 @@
 -- Document 01, "Card and list program" and "Refusal numbers": reading a card, and set-up from it.
-use Rattle.std.specs.Prelude.{ℕ, zero, suc, List, [], ◌∷◌, ◌++◌, eqb, ltb, length, drop}
+use Rattle.std.specs.Prelude.{ℕ, zero, suc, List, [], ◌∷◌, ◌++◌, eqb, ltb, length, drop, Option, Some, None, Result, Ok, Err}
 use Rattle.base.specs.Pick.{pick}
 use Rattle.chip.specs.Chip.{set_up_chip}
 use Rattle.chip.specs.Kinds.{known_kind}
@@ -9,49 +9,57 @@ use Rattle.records.specs.Numbers.{number_at}
 use Rattle.records.specs.Records.{head_at}
 use Rattle.records.specs.declared.Head.{Head}
 use Rattle.records.specs.declared.Head.TheVariants.{End, Short, Cut, Whole}
-use Rattle.card.specs.declared.CardAnswer.{CardAnswer}
-use Rattle.card.specs.declared.CardAnswer.TheVariants.{Chips, TooMany, UnknownKind, WrongLength}
+use Rattle.card.specs.declared.Fault.{Fault}
+use Rattle.card.specs.declared.Fault.TheVariants as fault
+use Rattle.card.specs.declared.Refused.{Refused}
 use Rattle.card.specs.declared.Entry.{Entry}
-use Rattle.card.specs.declared.Entry.TheVariants as entry
+
+-- document 01's numbers of the refusals
+abbrev pub fault_number : Fault → ℕ
+fault_number fault.TooMany = 1
+fault_number fault.UnknownKind = 2
+fault_number fault.WrongLength = 3
 
 -- what set-up answers: the number of chips, or document 01's refusal number and "the offset of the record's first byte"
 pub data Carded : Type 0 where
   chips : ℕ → Carded
   refused : ℕ → ℕ → Carded
 
-abbrev pub carded : CardAnswer → Carded
-carded (Chips n) = chips n
-carded (TooMany at) = refused 1 at
-carded (UnknownKind at) = refused 2 at
-carded (WrongLength at) = refused 3 at
+abbrev pub carded : Result ℕ Refused → Carded
+carded (Ok n) = chips n
+carded (Err r) = refused (fault_number r.fault) r.at
 
 -- the length of a record: "length (..), kind (2 bytes), eight code bytes"
 abbrev pub entry_length : ℕ
 entry_length = 10
 
 -- a record whose length runs past the end: "kind gives 2; wrong length or cut body gives 3"
-unfoldable pub cut_entry : ℕ → Entry
-cut_entry kind = pick (known_kind kind) entry.WrongLength entry.UnknownKind
+unfoldable pub cut_entry : ℕ → Result (Option Entry) Fault
+cut_entry kind = pick (known_kind kind) (Err fault.WrongLength) (Err fault.UnknownKind)
+
+-- a chip, and the offset of the next record
+abbrev pub taken : ℕ → ℕ → ℕ → Result (Option Entry) Fault
+taken code kind next = Ok (Some (record { code = code; kind = kind; next = next }))
 
 -- a whole record: "kind gives 2; wrong length .. gives 3; one too many gives 1."; its body is "eight code bytes, family first"
-unfoldable pub whole_entry : List ℕ → ℕ → ℕ → ℕ → ℕ → ℕ → Entry
+unfoldable pub whole_entry : List ℕ → ℕ → ℕ → ℕ → ℕ → ℕ → Result (Option Entry) Fault
 whole_entry s room size kind body next =
     pick (known_kind kind)
     (pick (eqb size entry_length)
-    (pick (ltb 0 room) (entry.Taken (number_at s body 8) kind next)
-    entry.TooMany)
-    entry.WrongLength)
-    entry.UnknownKind
+    (pick (ltb 0 room) (taken (number_at s body 8) kind next)
+    (Err fault.TooMany))
+    (Err fault.WrongLength))
+    (Err fault.UnknownKind)
 
 -- "For a record at its first byte: fewer than 4 bytes left gives 3"
-abbrev pub entry_of : List ℕ → ℕ → Head → Entry
-entry_of s room End = entry.Done
-entry_of s room Short = entry.WrongLength
+abbrev pub entry_of : List ℕ → ℕ → Head → Result (Option Entry) Fault
+entry_of s room End = Ok None
+entry_of s room Short = Err fault.WrongLength
 entry_of s room (Cut size kind) = cut_entry kind
 entry_of s room (Whole size kind body next) = whole_entry s room size kind body next
 
 -- the record at an offset, where room more chips may come
-unfoldable pub entry_at : List ℕ → ℕ → ℕ → Entry
+unfoldable pub entry_at : List ℕ → ℕ → ℕ → Result (Option Entry) Fault
 entry_at s at room = entry_of s room (head_at s at)
 
 -- what a card holds from an offset on: chips, or the first refusal
@@ -64,12 +72,10 @@ after cs (all ds) = all (cs ++ ds)
 after cs (none r at) = none r at
 
 -- how reading goes on after a record
-abbrev pub onward : ℕ → (ℕ → Read) → Entry → Read
-onward at go entry.Done = all []
-onward at go (entry.Taken code kind next) = after (set_up_chip code kind ∷ []) (go next)
-onward at go entry.TooMany = none 1 at
-onward at go entry.UnknownKind = none 2 at
-onward at go entry.WrongLength = none 3 at
+abbrev pub onward : ℕ → (ℕ → Read) → Result (Option Entry) Fault → Read
+onward at go (Ok None) = all []
+onward at go (Ok (Some e)) = after (set_up_chip e.code e.kind ∷ []) (go e.next)
+onward at go (Err f) = none (fault_number f) at
 
 -- a card from an offset on, where room more chips may come
 unfoldable pub read_from : ℕ → List ℕ → ℕ → Read

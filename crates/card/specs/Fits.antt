@@ -1,12 +1,12 @@
 -- Laws: a card gives no more chips than there are places.
-use Rattle.std.specs.Prelude.{ℕ, zero, suc, ◌≤◌, List, [], ◌∷◌, length}
+use Rattle.std.specs.Prelude.{ℕ, zero, suc, ◌≤◌, List, [], ◌∷◌, length, Option, Some, None, Result, Ok, Err}
 use Rattle.std.proofs.Common.{arith}
 use Rattle.chip.specs.declared.Chip.{Chip}
 use Rattle.line.specs.Layout.{capped}
 use Rattle.line.specs.Prefix.{capped_few}
 use Rattle.card.specs.Card.{Read, all, none, after, onward, read_from, entry_at}
+use Rattle.card.specs.declared.Fault.{Fault}
 use Rattle.card.specs.declared.Entry.{Entry}
-use Rattle.card.specs.declared.Entry.TheVariants as entry
 
 -- what was read holds at most m chips
 abbrev pub AtMost : ℕ → Read → Type 0
@@ -17,19 +17,15 @@ one_more : (m : ℕ) (c : Chip) (r : Read) → AtMost m r → AtMost (suc m) (af
 one_more m c (all cs) h = omega arith
 one_more m c (none r at) h = tt
 
-no_more : (at : ℕ) (e : Entry) → AtMost 0 (onward at (λ next. none 1 at) e)
-no_more at entry.Done = omega arith
-no_more at (entry.Taken code kind next) = tt
-no_more at entry.TooMany = tt
-no_more at entry.UnknownKind = tt
-no_more at entry.WrongLength = tt
+no_more : (at : ℕ) (e : Result (Option Entry) Fault) → AtMost 0 (onward at (λ next. none 1 at) e)
+no_more at (Ok None) = omega arith
+no_more at (Ok (Some e)) = tt
+no_more at (Err f) = tt
 
-read_on : (m at : ℕ) (go : ℕ → Read) (e : Entry) → ((next : ℕ) → AtMost m (go next)) → AtMost (suc m) (onward at go e)
-read_on m at go entry.Done f = omega arith
-read_on m at go (entry.Taken code kind next) f = one_more m _ (go next) (f next)
-read_on m at go entry.TooMany f = tt
-read_on m at go entry.UnknownKind f = tt
-read_on m at go entry.WrongLength f = tt
+read_on : (m at : ℕ) (go : ℕ → Read) (e : Result (Option Entry) Fault) → ((next : ℕ) → AtMost m (go next)) → AtMost (suc m) (onward at go e)
+read_on m at go (Ok None) f = omega arith
+read_on m at go (Ok (Some e)) f = one_more m _ (go e.next) (f e.next)
+read_on m at go (Err r) f = tt
 
 pub read_few : (m : ℕ) (s : List ℕ) (at : ℕ) → AtMost m (read_from m s at)
 unfolding read_from

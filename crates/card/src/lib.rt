@@ -3,7 +3,7 @@
 
 ghost use Rattle.std.specs.Prelude.{◌≡◌};
 ghost use Rattle.chip.specs.Kinds.{known_kind};
-ghost use Rattle.card.specs.Card.{carded, cut_entry, whole_entry, entry_at, set_up, set_up_of};
+ghost use Rattle.card.specs.Card.{fault_number, carded, cut_entry, whole_entry, entry_at, set_up, set_up_of};
 
 use line::Table;
 use records::Head;
@@ -11,35 +11,50 @@ use records::Head;
 // The length of a card's record: its kind and eight code bytes.
 pub const ENTRY_LENGTH: u16 = 10;
 
-// What set-up answers: the number of chips, or a refusal with the offset of the record's first byte.
+// Why a card is refused.
 #[derive(Clone, Copy)]
-pub enum CardAnswer {
-    Chips(usize),
+pub enum Fault {
     // refusal 1
-    TooMany(usize),
+    TooMany,
     // refusal 2
-    UnknownKind(usize),
+    UnknownKind,
     // refusal 3
-    WrongLength(usize),
+    WrongLength,
 }
 
-// What set-up answers, and the table that it leaves.
+// The number of a refusal.
+impl From<Fault> for u8 {
+    ghost from_gives = { λ f n. n ≡ fault_number f };
+
+    fn from(f: Fault) -> u8 {
+        match f {
+            Fault::TooMany => 1,
+            Fault::UnknownKind => 2,
+            Fault::WrongLength => 3,
+        }
+    }
+}
+
+// A record that is refused: why, and the offset of its first byte.
+#[derive(Clone, Copy)]
+pub struct Refused {
+    pub fault: Fault,
+    pub at: usize,
+}
+
+// What set-up answers, the number of chips or a refusal, and the table that it leaves.
 #[derive(Clone, Copy)]
 pub struct Carded {
-    pub answer: CardAnswer,
+    pub answer: Result<usize, Refused>,
     pub table: Table,
 }
 
-// What one record gives.
+// A record's chip, and the offset of the next record.
 #[derive(Clone, Copy)]
-pub enum Entry {
-    // the card ends here
-    Done,
-    // a chip, and the offset of the next record
-    Taken { code: u64, kind: u8, next: usize },
-    TooMany,
-    UnknownKind,
-    WrongLength,
+pub struct Entry {
+    pub code: u64,
+    pub kind: u8,
+    pub next: usize,
 }
 
 // A kind that a card may name.
@@ -53,44 +68,49 @@ pub fn is_known(kind: u16) -> bool
 }
 
 // A record whose length runs past the end.
-fn cut_entry(kind: u16) -> Entry
+fn cut_entry(kind: u16) -> Result<Option<Entry>, Fault>
     ensures { result ≡ cut_entry kind }
 {
     if is_known(kind) {
-        return Entry::WrongLength;
+        return Err(Fault::WrongLength);
     }
-    Entry::UnknownKind
+    Err(Fault::UnknownKind)
 }
 
 // A whole record.
-fn whole_entry(s: &[u8], room: usize, size: u16, kind: u16, body: usize, next: usize) -> Entry
+fn whole_entry(
+    s: &[u8],
+    room: usize,
+    size: u16,
+    kind: u16,
+    body: usize,
+    next: usize,
+) -> Result<Option<Entry>, Fault>
     ensures { result ≡ whole_entry s.now room size kind body next }
 {
-    if is_known(kind) {
-        if size == ENTRY_LENGTH {
-            if 0 < room {
-                let code = records::code_at(s, body);
-                return Entry::Taken {
-                    code: code,
-                    kind: kind as u8,
-                    next: next,
-                };
-            }
-            return Entry::TooMany;
-        }
-        return Entry::WrongLength;
+    if !is_known(kind) {
+        return Err(Fault::UnknownKind);
     }
-    Entry::UnknownKind
+    if size != ENTRY_LENGTH {
+        return Err(Fault::WrongLength);
+    }
+    if room == 0 {
+        return Err(Fault::TooMany);
+    }
+    Ok(Some(Entry {
+        code: records::code_at(s, body),
+        kind: kind as u8,
+        next: next,
+    }))
 }
 
-// The record at an offset, where room more chips may come.
-pub fn entry_at(s: &[u8], at: usize, room: usize) -> Entry
+// The record at an offset, where room more chips may come; none where the card ends there.
+pub fn entry_at(s: &[u8], at: usize, room: usize) -> Result<Option<Entry>, Fault>
     ensures { result ≡ entry_at s.now at room }
 {
-    let head = records::head_at(s, at);
-    match head {
-        Head::End => Entry::Done,
-        Head::Short => Entry::WrongLength,
+    match records::head_at(s, at) {
+        Head::End => Ok(None),
+        Head::Short => Err(Fault::WrongLength),
         Head::Cut { length: _, kind } => cut_entry(kind),
         Head::Whole {
             length,
@@ -111,36 +131,21 @@ pub fn set_up(s: &[u8], places: usize, t: Table) -> Carded
     let mut n: usize = 0;
     let mut at: usize = 0;
     loop {
-        let entry = entry_at(s, at, most - n);
-        match entry {
-            Entry::Done => {
-                let table = Table { n: n, chips: chips };
-                return Carded {
-                    answer: CardAnswer::Chips(n),
-                    table: table,
-                };
-            }
-            Entry::Taken { code, kind, next } => {
-                let c = chip::set_up(code, kind);
-                chips[n] = c;
+        match entry_at(s, at, most - n) {
+            Ok(Some(entry)) => {
+                chips[n] = chip::set_up(entry.code, entry.kind);
                 n += 1;
-                at = next;
+                at = entry.next;
             }
-            Entry::TooMany => {
+            Ok(None) => {
                 return Carded {
-                    answer: CardAnswer::TooMany(at),
-                    table: t,
+                    answer: Ok(n),
+                    table: Table { n, chips },
                 };
             }
-            Entry::UnknownKind => {
+            Err(fault) => {
                 return Carded {
-                    answer: CardAnswer::UnknownKind(at),
-                    table: t,
-                };
-            }
-            Entry::WrongLength => {
-                return Carded {
-                    answer: CardAnswer::WrongLength(at),
+                    answer: Err(Refused { fault, at }),
                     table: t,
                 };
             }

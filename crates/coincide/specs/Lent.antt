@@ -1,5 +1,5 @@
 -- The functions to which a chip or a slice of chips is lent: two outcomes that the contract permits are the same.
-use Rattle.std.specs.Prelude.{◌≡◌, refl}
+use Rattle.std.specs.Prelude.{refl}
 use Rattle.std.proofs.Common.{◌∙◌, ap, sym}
 use Rattle.line.specs.Event.{Outcome}
 use Rattle.search.specs.Search.{Search}

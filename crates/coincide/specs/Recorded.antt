@@ -5,20 +5,21 @@ use Rattle.base.specs.Pick.{pick}
 use Rattle.line.specs.Event.{number_of}
 use Rattle.line.specs.declared.Refusal.{Refusal}
 use Rattle.line.specs.declared.Refusal.TheVariants.{OutOfRange, WrongSize, NoSuchEvent, NoSuchOutside}
+use Rattle.card.specs.declared.Fault.TheVariants.{TooMany, UnknownKind, WrongLength}
 use Rattle.recording.specs.Reading.{number_of_fault}
 use Rattle.recording.specs.Playing.{Ends, ended, part, refusal, ends_of}
 use Rattle.recording.specs.declared.Ending.{Ending}
 use Rattle.recording.specs.declared.Ending.TheVariants as ending
 use Rattle.recording.specs.declared.Fault.{Fault}
-use Rattle.recording.specs.declared.Fault.TheVariants.{TooMany, UnknownKind, WrongLength, CardAfterEvent, UnusedBits, OnLine}
+use Rattle.recording.specs.declared.Fault.TheVariants.{OnCard, CardAfterEvent, UnusedBits, OnLine}
 use Rattle.coincide.specs.Answered.{refusal_from, refusal-from}
 
 -- why, from its number
 fault_from : ℕ → Fault
 fault_from r =
-    pick (eqb r 1) TooMany
-    (pick (eqb r 2) UnknownKind
-    (pick (eqb r 3) WrongLength
+    pick (eqb r 1) (OnCard TooMany)
+    (pick (eqb r 2) (OnCard UnknownKind)
+    (pick (eqb r 3) (OnCard WrongLength)
     (pick (eqb r 9) CardAfterEvent
     (pick (eqb r 10) UnusedBits
     (OnLine (refusal_from r))))))
@@ -33,9 +34,9 @@ line_fault NoSuchOutside = refl
 
 fault-from : (f : Fault) → fault_from (number_of_fault f) ≡ f
 unfolding fault_from pick
-fault-from TooMany = refl
-fault-from UnknownKind = refl
-fault-from WrongLength = refl
+fault-from (OnCard TooMany) = refl
+fault-from (OnCard UnknownKind) = refl
+fault-from (OnCard WrongLength) = refl
 fault-from CardAfterEvent = refl
 fault-from UnusedBits = refl
 fault-from (OnLine r) = line_fault r ∙ ap (λ (x : Refusal). OnLine x) (refusal-from r)

@@ -1,6 +1,6 @@
 -- What a card that is not refused sets up: its records, one after the other, as chips in the first places of the table, whatever stood there
 -- before. With images and scratchpads of the sizes asked that table stands well.
-use Rattle.std.specs.Prelude.{ℕ, zero, suc, ◌+◌, ◌*◌, ◌^◌, ◌<◌, ◌≤◌, true, List, [], ◌∷◌, ◌++◌, map, ◌≡◌, refl, leb, length, take, drop, get_or}
+use Rattle.std.specs.Prelude.{ℕ, zero, suc, ◌+◌, ◌*◌, ◌^◌, ◌<◌, ◌≤◌, true, List, [], ◌∷◌, ◌++◌, map, ◌≡◌, refl, leb, length, take, drop, get_or, Option, Some, None, Result, Ok, Err}
 use Rattle.std.proofs.Common.{arith, not-suc-le-zero, ◌∙◌, sym, take_at}
 use Rattle.std.proofs.Math.Bool.{false}
 use Rattle.std.proofs.Math.Path.{ap}
@@ -24,7 +24,7 @@ use Rattle.records.specs.declared.Head.{Head}
 use Rattle.card.specs.Card.{chips, refused, cut_entry, whole_entry, entry_of, entry_at, Read, all, none, after, onward, read_from, SetUp, from_read, set_up_of}
 use Rattle.card.specs.Fits.{AtMost, read_few}
 use Rattle.card.specs.declared.Entry.{Entry}
-use Rattle.card.specs.declared.Entry.TheVariants as entry
+use Rattle.card.specs.declared.Fault.{Fault}
 use Rattle.line.specs.Attached.{Attached, attached, Stands, line_from}
 use Rattle.histories.specs.Below.{Codes, Bytes, none_below, one_below, byte_at}
 use Rattle.histories.specs.Histories.{at, codes_of}
@@ -62,12 +62,10 @@ unfolding set_up_chip switch_in_range both pick
 set_up_range code kind k = range_in (set_up_chip code kind) (record { known = k; clear = refl; pins = refl; place = refl })
 
 -- a record at an offset that gives a chip: its kind is known, its code and kind stand there, and the next record starts twelve bytes on
-abbrev Gives : List ℕ → ℕ → Entry → Type 0
-Gives s at entry.Done = Unit
-Gives s at (entry.Taken code kind next) = (known_kind kind ≡ true) × ((code ≡ number_at s (at + 4) 8) × ((kind ≡ number_at s (at + 2) 2) × (next ≡ at + 12)))
-Gives s at entry.TooMany = Unit
-Gives s at entry.UnknownKind = Unit
-Gives s at entry.WrongLength = Unit
+abbrev Gives : List ℕ → ℕ → Result (Option Entry) Fault → Type 0
+Gives s at (Ok None) = Unit
+Gives s at (Ok (Some e)) = (known_kind e.kind ≡ true) × ((e.code ≡ number_at s (at + 4) 8) × ((e.kind ≡ number_at s (at + 2) 2) × (e.next ≡ at + 12)))
+Gives s at (Err f) = Unit
 
 entry_gives : (s : List ℕ) (at room : ℕ) → Gives s at (entry_at s at room)
 unfolding entry_at head_at cut_entry whole_entry
@@ -89,16 +87,14 @@ one_more : (s : List ℕ) (i : ℕ) (c : Chip) (r : Read) → c ≡ chip_in s i 
 one_more s i c (all ds) e k (a, b) = ((λ j. e j ∷ a j), both_true' _ _ k b)
 one_more s i c (none r at) e k f = tt
 
-onward_records : (s : List ℕ) (i at : ℕ) (go : ℕ → Read) (x : Entry) → at ≡ 12 * i → Gives s at x → ((next : ℕ) → next ≡ 12 * suc i → Records s (suc i) (go next))
+onward_records : (s : List ℕ) (i at : ℕ) (go : ℕ → Read) (x : Result (Option Entry) Fault) → at ≡ 12 * i → Gives s at x → ((next : ℕ) → next ≡ 12 * suc i → Records s (suc i) (go next))
     → Records s i (onward at go x)
-onward_records s i at go entry.Done e g f = (refl, refl)
-onward_records s i at go (entry.Taken code kind next) e (k, (c, (d, n))) f =
-    one_more s i (set_up_chip code kind) (go next)
+onward_records s i at go (Ok None) e g f = (refl, refl)
+onward_records s i at go (Ok (Some t)) e (k, (c, (d, n))) f =
+    one_more s i (set_up_chip t.code t.kind) (go t.next)
     (λ j. set_up_chip ((c ∙ ap (λ (o : ℕ). number_at s (o + 4) 8) e) j) ((d ∙ ap (λ (o : ℕ). number_at s (o + 2) 2) e) j))
-    (set_up_range code kind k) (f next (omega arith))
-onward_records s i at go entry.TooMany e g f = tt
-onward_records s i at go entry.UnknownKind e g f = tt
-onward_records s i at go entry.WrongLength e g f = tt
+    (set_up_range t.code t.kind k) (f t.next (omega arith))
+onward_records s i at go (Err r) e g f = tt
 
 read_records : (room : ℕ) (s : List ℕ) (i at : ℕ) → at ≡ 12 * i → Records s i (read_from room s at)
 unfolding read_from

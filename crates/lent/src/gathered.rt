@@ -6,7 +6,7 @@ ghost use Rattle.search.specs.Search.{searched, outcome, search_of};
 ghost use Rattle.lent.specs.Gathered.{gathered, puts, Tells};
 
 use crate::Told;
-use card::CardAnswer;
+use card::Refused;
 use chip::Chip;
 use line::Table;
 use search::Found;
@@ -60,7 +60,7 @@ fn put_back(table: &mut [Chip], t: Table)
 
 // Set-up of a lent table from a card, which answers the number of chips: the first places are filled with chips as after
 // power on, the others stay; refusals 1, 2 and 3 leave the table unchanged.
-pub fn set_up(s: &[u8], table: &mut [Chip]) -> CardAnswer
+pub fn set_up(s: &[u8], table: &mut [Chip]) -> Result<usize, Refused>
     ensures { (carded result ≡ (set_up_of (length table.old) s.now 0 table.old).answer)
         × (table.new ≡ (set_up_of (length table.old) s.now 0 table.old).table) }
 {

@@ -3,15 +3,15 @@ use Prim.Native.Nat.{ℕ, ◌+◌, ◌-◌, ◌*◌, ◌<◌, ◌≤◌}
 use Rattle.std.proofs.Common.{add_assoc, ◌∙◌, ap, sym, length-drop, length-take-le, get_or-take, get_or-drop, ext_get_or}
 use Rattle.std.proofs.Math.Nat.{add-zero}
 use native.Mathlib.Omega.{arith}
-use Rattle.std.specs.Prelude.{Bool, true, false, List, ◌≡◌, eqb, leb, length, drop, get_or}
+use Rattle.std.specs.Prelude.{Bool, true, false, List, ◌≡◌, eqb, leb, length, drop, get_or, Option, Some, None, Result, Ok, Err}
 use Rattle.std.proofs.Math.Path.{refl}
 use Rattle.std.proofs.Math.ListN.{take}
 use borrow.Author.Tests.{eqb-true, eqb-false, leb-true, leb-false, eq-eqb, ne_eqb}
 use Rattle.base.specs.Both.{both_holds}
 use Rattle.base.specs.Pick.{pick, pick_true, pick_false, pick_of}
-use Rattle.card.specs.Card.{entry_length, whole_entry}
+use Rattle.card.specs.Card.{entry_length, taken, whole_entry}
 use Rattle.card.specs.declared.Entry.{Entry}
-use Rattle.card.specs.declared.Entry.TheVariants as entry
+use Rattle.card.specs.declared.Fault.{Fault as CardFault}
 use Rattle.line.specs.Events.{outside_event}
 use Rattle.line.specs.Slots.{bytes_asked}
 use Rattle.records.specs.Numbers.{number_at}
@@ -36,21 +36,17 @@ moved k (found.Record r next) = found.Record (moved_record k r) (k + next)
 moved k (found.Refused f) = found.Refused f
 
 -- and a record of a card
-abbrev moved_entry : ℕ → Entry → Entry
-moved_entry k entry.Done = entry.Done
-moved_entry k (entry.Taken code kind next) = entry.Taken code kind (k + next)
-moved_entry k entry.TooMany = entry.TooMany
-moved_entry k entry.UnknownKind = entry.UnknownKind
-moved_entry k entry.WrongLength = entry.WrongLength
+abbrev moved_entry : ℕ → Result (Option Entry) CardFault → Result (Option Entry) CardFault
+moved_entry k (Ok None) = Ok None
+moved_entry k (Ok (Some e)) = taken e.code e.kind (k + e.next)
+moved_entry k (Err f) = Err f
 
 -- what it is in a recording
-card_moved : (k : ℕ) (over : Bool) (e : Entry) → card_record over (moved_entry k e) ≡ moved k (card_record over e)
+card_moved : (k : ℕ) (over : Bool) (e : Result (Option Entry) CardFault) → card_record over (moved_entry k e) ≡ moved k (card_record over e)
 unfolding chip_record
-card_moved k over entry.Done = refl
-card_moved k over (entry.Taken code kind next) = sym (pick_of (moved k) over _ _)
-card_moved k over entry.TooMany = refl
-card_moved k over entry.UnknownKind = refl
-card_moved k over entry.WrongLength = refl
+card_moved k over (Ok None) = refl
+card_moved k over (Ok (Some e)) = sym (pick_of (moved k) over _ _)
+card_moved k over (Err f) = refl
 
 -- the n bytes from the offset to on are those from the offset at on
 abbrev pub Alike : List ℕ → ℕ → List ℕ → ℕ → ℕ → Type 0
@@ -163,7 +159,7 @@ module _ (s z : List ℕ) (k at size : ℕ) (f : Alike s at z (k + at) (size + 2
         (λ q.
         let ten = eqb-true size entry_length q in
         let code = number_8 s (at + 4) z (k + at + 4) 8 (alike_on s at z (k + at) (size + 2) f 4 8 (omega arith)) (omega arith) in
-        pick_like (moved_entry k) _ _ _ _ _ _ refl (λ r. λ j. entry.Taken (code j) kind (to j)) (λ r. refl))
+        pick_like (moved_entry k) _ _ _ _ _ _ refl (λ r. λ j. taken (code j) kind (to j)) (λ r. refl))
         (λ q. refl))
         (λ p. refl)
 

@@ -1,5 +1,5 @@
 -- How a whole recording ends: never in the middle of a record of which more may come, and by no refusal but 1, 2, 3, 7, 9 and 10.
-use Rattle.std.specs.Prelude.{ℕ, ◌≤◌, Bool, true, false, ◌||◌, List, [], ◌∷◌, ◌≡◌, eqb, drop}
+use Rattle.std.specs.Prelude.{ℕ, ◌≤◌, Bool, true, false, ◌||◌, List, [], ◌∷◌, ◌≡◌, eqb, drop, Option, Some, None, Result, Ok, Err}
 use Rattle.std.proofs.Common.{arith, true≢false, ◌∙◌, ap, sym, subst, le-leb}
 use Rattle.std.proofs.lemmas.Bool.{false≢true}
 use Rattle.std.proofs.Math.Path.{refl}
@@ -18,7 +18,8 @@ use Rattle.records.specs.declared.Head.{Head}
 use Rattle.records.specs.declared.Head.TheVariants as head
 use Rattle.card.specs.Card.{entry_at}
 use Rattle.card.specs.declared.Entry.{Entry}
-use Rattle.card.specs.declared.Entry.TheVariants as entry
+use Rattle.card.specs.declared.Fault.{Fault as CardFault}
+use Rattle.card.specs.declared.Fault.TheVariants as on_card
 use Rattle.recording.specs.Reading.{number_of_fault, cut_off, cut_record, chip_record, card_record, slots_record, event_in, event_record, whole_record, at_end, found_by, found_at}
 use Rattle.recording.specs.Cards.{room_for, cards_of}
 use Rattle.recording.specs.Playing.{Ends, ended, part, refusal, Said, bits, none, Step, said_by, slots_step, record_step, play_all, after_cards, playback}
@@ -69,13 +70,13 @@ cut_settled true = refl
 cut_settled false = refl
 
 -- a card record, by what document 01 says of it
-entry_settled : (over : Bool) (x : Entry) → Settled (card_record over x)
+entry_settled : (over : Bool) (x : Result (Option Entry) CardFault) → Settled (card_record over x)
 unfolding chip_record
-entry_settled over entry.Done = tt
-entry_settled over (entry.Taken code kind next) = pick_both Settled over _ _ refl tt
-entry_settled over entry.TooMany = refl
-entry_settled over entry.UnknownKind = refl
-entry_settled over entry.WrongLength = refl
+entry_settled over (Ok None) = tt
+entry_settled over (Ok (Some e)) = pick_both Settled over _ _ refl tt
+entry_settled over (Err on_card.TooMany) = refl
+entry_settled over (Err on_card.UnknownKind) = refl
+entry_settled over (Err on_card.WrongLength) = refl
 
 -- the event of a record of kinds 17 to 19
 event_settled : (s : List ℕ) (body kind : ℕ) → (event_in s body kind).number ≤ 4

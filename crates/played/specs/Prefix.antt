@@ -16,6 +16,7 @@ use Rattle.records.specs.Numbers.{number_at}
 use Rattle.recording.specs.Reading.{is_event, length_asked, cut_off, may_be_right, cut_record, card_record, event_record, at_end, found_at, starts_event}
 use Rattle.recording.specs.There.{size_at, kind_at, next_at, There, nothing, few, head, all, there, found_end, found_short, found_cut, found_whole}
 use Rattle.recording.specs.Ways.{found_has}
+use Rattle.card.specs.declared.Fault.TheVariants as on_card
 use Rattle.recording.specs.declared.Fault.TheVariants as fault
 use Rattle.recording.specs.declared.Record.TheVariants as record_of
 use Rattle.recording.specs.declared.Found.{Found}
@@ -116,15 +117,15 @@ module _ (s t : List ℕ) (at : ℕ) where
           go false c q e = asked_stays
 
     -- a record of which not all is there, by its length and kind: what is refused of it is refused by y too
-    cut_by : (size kind : ℕ) (y : Found) → (is_event kind ≡ true → may_be_right s at size kind ≡ false → y ≡ found.Refused fault.WrongLength)
-        → (is_event kind ≡ false → known_kind kind ≡ true → eqb size entry_length ≡ false → y ≡ found.Refused fault.WrongLength)
-        → (is_event kind ≡ false → known_kind kind ≡ false → y ≡ found.Refused fault.UnknownKind) → Stays (cut_record s at true size kind) y
+    cut_by : (size kind : ℕ) (y : Found) → (is_event kind ≡ true → may_be_right s at size kind ≡ false → y ≡ found.Refused (fault.OnCard on_card.WrongLength))
+        → (is_event kind ≡ false → known_kind kind ≡ true → eqb size entry_length ≡ false → y ≡ found.Refused (fault.OnCard on_card.WrongLength))
+        → (is_event kind ≡ false → known_kind kind ≡ false → y ≡ found.Refused (fault.OnCard on_card.UnknownKind)) → Stays (cut_record s at true size kind) y
     unfolding cut_record cut_off pick
     cut_by size kind y a b c =
         pick_if (λ (x : Found). Stays x y) _ _ _ (λ e. off _ (a e))
         (λ e. pick_if (λ (x : Found). Stays x y) _ _ _ (λ f. off _ (b e f)) (c e))
       where
-        off : (right : Bool) → (right ≡ false → y ≡ found.Refused fault.WrongLength) → Stays (cut_off right true) y
+        off : (right : Bool) → (right ≡ false → y ≡ found.Refused (fault.OnCard on_card.WrongLength)) → Stays (cut_off right true) y
         off true f = tt
         off false f = f refl
 

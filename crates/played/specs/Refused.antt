@@ -15,6 +15,7 @@ use Rattle.card.specs.Card.{entry_at}
 use Rattle.recording.specs.Reading.{number_of_fault, is_event, length_asked, cut_off, may_be_right, cut_record, chip_record, card_record, unused_clear, slots_record, event_record, whole_record, at_end, found_by, found_at}
 use Rattle.recording.specs.There.{size_at, kind_at}
 use Rattle.recording.specs.Ways.{chip_at, slots_at, other_at, run_at}
+use Rattle.card.specs.declared.Fault.TheVariants as on_card
 use Rattle.recording.specs.declared.Fault.{Fault}
 use Rattle.recording.specs.declared.Fault.TheVariants as fault
 use Rattle.recording.specs.declared.Found.{Found}
@@ -86,10 +87,10 @@ module _ (s : List ℕ) (at room : ℕ) (over more : Bool) where
 
   -- two refusals of document 01
   abbrev wrong : Found
-  wrong = found.Refused fault.WrongLength
+  wrong = found.Refused (fault.OnCard on_card.WrongLength)
 
   abbrev unknown : Found
-  unknown = found.Refused fault.UnknownKind
+  unknown = found.Refused (fault.OnCard on_card.UnknownKind)
 
   -- what a whole record gives, of kinds 16 to 19 and of the card; and what a cut one gives
   abbrev of_event : Found
@@ -98,7 +99,7 @@ module _ (s : List ℕ) (at room : ℕ) (over more : Bool) where
   abbrev of_card : Found
   of_card =
       pick (known s at room)
-      (pick (ten s at room) (pick (ltb 0 room) (pick over (found.Refused fault.CardAfterEvent) (chip_at s at)) (found.Refused fault.TooMany)) wrong)
+      (pick (ten s at room) (pick (ltb 0 room) (pick over (found.Refused fault.CardAfterEvent) (chip_at s at)) (found.Refused (fault.OnCard on_card.TooMany))) wrong)
       unknown
 
   abbrev of_cut : Found
@@ -151,12 +152,12 @@ module _ (s : List ℕ) (at room : ℕ) (over more : Bool) where
       (apart sort (other_at s at) (found.Refused f) (λ p. omega arith))
 
   right_chip : (f : Fault) → (1 ≡ number_of_fault f → ⊥) → (9 ≡ number_of_fault f → ⊥) → number_of_fault f < 100
-      → pick (ltb 0 room) (pick over (found.Refused fault.CardAfterEvent) (chip_at s at)) (found.Refused fault.TooMany) ≡ found.Refused f → ⊥
+      → pick (ltb 0 room) (pick over (found.Refused fault.CardAfterEvent) (chip_at s at)) (found.Refused (fault.OnCard on_card.TooMany)) ≡ found.Refused f → ⊥
   unfolding sort
   right_chip f a b c =
       by_neither (ltb 0 room) _ _ _
       (by_neither over _ _ _ (apart sort (found.Refused fault.CardAfterEvent) (found.Refused f) b) (apart sort (chip_at s at) (found.Refused f) (λ p. omega arith)))
-      (apart sort (found.Refused fault.TooMany) (found.Refused f) a)
+      (apart sort (found.Refused (fault.OnCard on_card.TooMany)) (found.Refused f) a)
 
   -- a whole record of kinds 16 to 19 is refused by 3 and 10 alone
   whole_event : (f : Fault) → (3 ≡ number_of_fault f → ⊥) → (10 ≡ number_of_fault f → ⊥) → number_of_fault f < 100 → of_event ≡ found.Refused f → ⊥
@@ -183,7 +184,7 @@ module _ (s : List ℕ) (at room : ℕ) (over more : Bool) where
   of-card x B n i = then_exactly (by_left _ event _ _ _ n i) ((λ p. p.1), (λ q. (known_no_event kind q.0, q)))
 
   -- 2: there is a head, and "a kind not named", whatever its length says
-  pub refused_2 : Iff (found_at s at room over more ≡ found.Refused fault.UnknownKind)
+  pub refused_2 : Iff (found_at s at room over more ≡ found.Refused (fault.OnCard on_card.UnknownKind))
       ((ended s at room ≡ false) × ((short s at room ≡ false) × ((event ≡ false) × (known s at room ≡ false))))
   unfolding sort
   refused_2 =
@@ -193,18 +194,18 @@ module _ (s : List ℕ) (at room : ℕ) (over more : Bool) where
       (by_left _ (ended s at room) _ _ _ (by_neither more _ _ _ part (apart sort found.End unknown (λ p. omega arith)))
       (by_left _ (short s at room) _ _ _ (by_neither more _ _ _ part three)
       (by_either _ (whole s at room) _ _ _
-      (by_left _ event _ _ _ (whole_event fault.UnknownKind (λ p. omega arith) (λ p. omega arith) (omega arith))
-      (by_else (known s at room) _ _ (by_neither (ten s at room) _ _ _ (right_chip fault.UnknownKind (λ p. omega arith) (λ p. omega arith) (omega arith)) three)))
+      (by_left _ event _ _ _ (whole_event (fault.OnCard on_card.UnknownKind) (λ p. omega arith) (λ p. omega arith) (omega arith))
+      (by_else (known s at room) _ _ (by_neither (ten s at room) _ _ _ (right_chip (fault.OnCard on_card.UnknownKind) (λ p. omega arith) (λ p. omega arith) (omega arith)) three)))
       (by_left _ event _ _ _ (by_neither (both right more) _ _ _ part three) (by_else (known s at room) _ _ (by_neither (both (ten s at room) more) _ _ _ part three))))))
 
   -- 1: a whole record of a kind of the card and the right length, and no place for it
-  pub refused_1 : Iff (found_at s at room over more ≡ found.Refused fault.TooMany)
+  pub refused_1 : Iff (found_at s at room over more ≡ found.Refused (fault.OnCard on_card.TooMany))
       ((ended s at room ≡ false) × ((short s at room ≡ false) × ((whole s at room ≡ true) × ((known s at room ≡ true) × ((ten s at room ≡ true) × (ltb 0 room ≡ false))))))
   unfolding sort
   refused_1 =
-      let x = found.Refused fault.TooMany in
-      of_whole fault.TooMany _ (λ p. omega arith) (λ p. omega arith) (omega arith)
-      (of-card x _ (whole_event fault.TooMany (λ p. omega arith) (λ p. omega arith) (omega arith))
+      let x = found.Refused (fault.OnCard on_card.TooMany) in
+      of_whole (fault.OnCard on_card.TooMany) _ (λ p. omega arith) (λ p. omega arith) (omega arith)
+      (of-card x _ (whole_event (fault.OnCard on_card.TooMany) (λ p. omega arith) (λ p. omega arith) (omega arith))
       (by_then _ (known s at room) _ _ _ (apart sort unknown x (λ p. omega arith))
       (by_then _ (ten s at room) _ _ _ (apart sort wrong x (λ p. omega arith))
       (by_else (ltb 0 room) _ _ (by_neither over _ _ _ (apart sort (found.Refused fault.CardAfterEvent) x (λ p. omega arith)) (apart sort (chip_at s at) x (λ p. omega arith)))))))
@@ -219,7 +220,7 @@ module _ (s : List ℕ) (at room : ℕ) (over more : Bool) where
       (of-card x _ (whole_event fault.CardAfterEvent (λ p. omega arith) (λ p. omega arith) (omega arith))
       (by_then _ (known s at room) _ _ _ (apart sort unknown x (λ p. omega arith))
       (by_then _ (ten s at room) _ _ _ (apart sort wrong x (λ p. omega arith))
-      (by_then _ (ltb 0 room) _ _ _ (apart sort (found.Refused fault.TooMany) x (λ p. omega arith))
+      (by_then _ (ltb 0 room) _ _ _ (apart sort (found.Refused (fault.OnCard on_card.TooMany)) x (λ p. omega arith))
       (by_first over _ _ (apart sort (chip_at s at) x (λ p. omega arith)))))))
 
   -- 10: a whole run of slots of the length that its count asks, one of whose unused bits is not 0
@@ -248,7 +249,7 @@ module _ (s : List ℕ) (at room : ℕ) (over more : Bool) where
       (pick event (not (both right more)) (pick (known s at room) (not (both (ten s at room) more)) false)))
 
   -- 3: there is a record, and a fault of its length
-  pub refused_3 : Iff (found_at s at room over more ≡ found.Refused fault.WrongLength) ((ended s at room ≡ false) × (length_fault ≡ true))
+  pub refused_3 : Iff (found_at s at room over more ≡ found.Refused (fault.OnCard on_card.WrongLength)) ((ended s at room ≡ false) × (length_fault ≡ true))
   unfolding sort
   refused_3 =
       let part = apart sort found.Part wrong (λ p. omega arith) in
@@ -258,8 +259,8 @@ module _ (s : List ℕ) (at room : ℕ) (over more : Bool) where
       (by_tests (short s at room) _ _ _ _ _ (fails more _ _ part)
       (by_tests (whole s at room) _ _ _ _ _
       (by_tests event _ _ _ _ _
-      (fails asked _ _ (right_event fault.WrongLength (λ p. omega arith) (omega arith)))
+      (fails asked _ _ (right_event (fault.OnCard on_card.WrongLength) (λ p. omega arith) (omega arith)))
       (by_tests (known s at room) _ _ _ _ _
-      (fails (ten s at room) _ _ (right_chip fault.WrongLength (λ p. omega arith) (λ p. omega arith) (omega arith))) two))
+      (fails (ten s at room) _ _ (right_chip (fault.OnCard on_card.WrongLength) (λ p. omega arith) (λ p. omega arith) (omega arith))) two))
       (by_tests event _ _ _ _ _ (fails (both right more) _ _ part)
       (by_tests (known s at room) _ _ _ _ _ (fails (both (ten s at room) more) _ _ part) two)))))

@@ -10,6 +10,9 @@ use Rattle.recording.specs.Reading.{number_of_fault, found_at}
 use Rattle.recording.specs.There.{starts_by_kind}
 use Rattle.recording.specs.Cards.{room_for}
 use Rattle.recording.specs.Playing.{refusal, none, record_step, playback}
+use Rattle.card.specs.Card.{fault_number}
+use Rattle.card.specs.declared.Fault.{Fault as CardFault}
+use Rattle.card.specs.declared.Fault.TheVariants as on_card
 use Rattle.recording.specs.declared.Fault.{Fault}
 use Rattle.recording.specs.declared.Fault.TheVariants as fault
 use Rattle.recording.specs.declared.Record.{Record}
@@ -25,23 +28,25 @@ other_number WrongSize = ((λ e. omega arith), (λ e. omega arith))
 other_number NoSuchEvent = ((λ e. omega arith), (λ e. omega arith))
 other_number NoSuchOutside = ((λ e. omega arith), (λ e. omega arith))
 
+-- nor has one of a card
+card_number : (f : CardFault) → (fault_number f ≡ 9 → ⊥) × (fault_number f ≡ 10 → ⊥)
+card_number on_card.TooMany = ((λ e. omega arith), (λ e. omega arith))
+card_number on_card.UnknownKind = ((λ e. omega arith), (λ e. omega arith))
+card_number on_card.WrongLength = ((λ e. omega arith), (λ e. omega arith))
+
 -- what an event is refused by has a number of the line's
 line_number : (s : List ℕ) (x : Record) (l : Attached) (n : ℕ) → (record_step s x l).said ≡ none n → (r : Refusal) × (number_of r ≡ n)
 line_number s x l n e = subst RefusalFor e (record_refusal s x l)
 
 -- the faults of these numbers
 fault_9 : (f : Fault) → number_of_fault f ≡ 9 → f ≡ fault.CardAfterEvent
-fault_9 fault.TooMany e = absurd (omega arith)
-fault_9 fault.UnknownKind e = absurd (omega arith)
-fault_9 fault.WrongLength e = absurd (omega arith)
+fault_9 (fault.OnCard f) e = absurd ((card_number f).0 e)
 fault_9 fault.CardAfterEvent e = refl
 fault_9 fault.UnusedBits e = absurd (omega arith)
 fault_9 (fault.OnLine r) e = absurd ((other_number r).0 e)
 
 fault_10 : (f : Fault) → number_of_fault f ≡ 10 → f ≡ fault.UnusedBits
-fault_10 fault.TooMany e = absurd (omega arith)
-fault_10 fault.UnknownKind e = absurd (omega arith)
-fault_10 fault.WrongLength e = absurd (omega arith)
+fault_10 (fault.OnCard f) e = absurd ((card_number f).1 e)
 fault_10 fault.CardAfterEvent e = absurd (omega arith)
 fault_10 fault.UnusedBits e = refl
 fault_10 (fault.OnLine r) e = absurd ((other_number r).1 e)

@@ -1,5 +1,5 @@
 -- Laws: what the head of a record shows of the recording, and what a match on what was read comes to.
-use Rattle.std.specs.Prelude.{ℕ, ◌+◌, ◌-◌, ◌≤◌, Bool, List, ◌≡◌, refl, eqb, ltb, leb, length}
+use Rattle.std.specs.Prelude.{ℕ, ◌+◌, ◌-◌, ◌≤◌, Bool, List, ◌≡◌, refl, eqb, ltb, leb, length, Option, Result}
 use Rattle.std.proofs.Common.{arith, subst, eq-eqb, leb-true, leb-false, ltb-false}
 use Rattle.base.specs.Along.{along}
 use Rattle.base.specs.Pick.{pick, pick_true, pick_if, pick_both}
@@ -9,6 +9,7 @@ use Rattle.records.specs.Records.{head_at}
 use Rattle.records.specs.declared.Head.{Head}
 use Rattle.records.specs.declared.Head.TheVariants as head
 use Rattle.card.specs.declared.Entry.{Entry}
+use Rattle.card.specs.declared.Fault.{Fault as CardFault}
 use Rattle.recording.specs.Reading.{length_asked, card_record, found_by, event_head}
 use Rattle.recording.specs.declared.Found.{Found}
 
@@ -61,5 +62,5 @@ pub event_at : (q p : Head) (r : Bool) → q ≡ p → r ≡ event_head p → r 
 event_at = along (λ (k : Head). event_head k)
 
 -- a card record, by what the card makes of it
-pub card_at : (over : Bool) (q p : Entry) (r : Found) → q ≡ p → r ≡ card_record over p → r ≡ card_record over q
-card_at over = along (λ (k : Entry). card_record over k)
+pub card_at : (over : Bool) (q p : Result (Option Entry) CardFault) (r : Found) → q ≡ p → r ≡ card_record over p → r ≡ card_record over q
+card_at over = along (λ (k : Result (Option Entry) CardFault). card_record over k)

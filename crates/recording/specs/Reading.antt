@@ -2,7 +2,7 @@
 -- run of slots (a 2-byte count, then host bits packed least significant first, unused bits 0); 17, reset; 18, power on; 19, outside levels
 -- (chip number, levels, a byte each)". What stands at an offset of a recording, whether more of it may come or not. "The request" is the issue that
 -- settled the rest of M-103; docs/DECISIONS.md has its sentences.
-use Rattle.std.specs.Prelude.{ℕ, ◌+◌, ◌-◌, Bool, true, false, not, List, [], ◌∷◌, eqb, ltb, leb, length, take, drop, get_or}
+use Rattle.std.specs.Prelude.{ℕ, ◌+◌, ◌-◌, Bool, true, false, not, List, [], ◌∷◌, eqb, ltb, leb, length, take, drop, get_or, Option, Some, None, Result, Ok, Err}
 use Rattle.base.specs.Pick.{pick}
 use Rattle.base.specs.Bits.{both}
 use Rattle.chip.specs.Kinds.{known_kind}
@@ -14,9 +14,10 @@ use Rattle.records.specs.Numbers.{number_at}
 use Rattle.records.specs.Records.{head_at}
 use Rattle.records.specs.declared.Head.{Head}
 use Rattle.records.specs.declared.Head.TheVariants as head
-use Rattle.card.specs.Card.{entry_length, entry_at}
+use Rattle.card.specs.Card.{fault_number, entry_length, entry_at}
 use Rattle.card.specs.declared.Entry.{Entry}
-use Rattle.card.specs.declared.Entry.TheVariants as entry
+use Rattle.card.specs.declared.Fault.{Fault as CardFault}
+use Rattle.card.specs.declared.Fault.TheVariants as on_card
 use Rattle.recording.specs.declared.Fault.{Fault}
 use Rattle.recording.specs.declared.Fault.TheVariants as fault
 use Rattle.recording.specs.declared.Record.TheVariants as record_of
@@ -26,9 +27,7 @@ use Rattle.recording.specs.declared.Found.TheVariants as found
 -- the number of each refusal. "Refusals: 9, a card record after one of kinds 16 to 19; 10, a nonzero unused bit; a kind not named gives 2 and a
 -- wrong length gives 3"; 1 as in document 01; "then those of the event"
 abbrev pub number_of_fault : Fault → ℕ
-number_of_fault fault.TooMany = 1
-number_of_fault fault.UnknownKind = 2
-number_of_fault fault.WrongLength = 3
+number_of_fault (fault.OnCard f) = fault_number f
 number_of_fault fault.CardAfterEvent = 9
 number_of_fault fault.UnusedBits = 10
 number_of_fault (fault.OnLine r) = number_of r
@@ -44,7 +43,7 @@ length_asked s body kind = pick (eqb kind 16) (4 + bytes_asked (number_at s body
 
 -- a record that is not all there: it is awaited where it may still be right and more may come; else "wrong length or cut body gives 3" (01)
 unfoldable pub cut_off : Bool → Bool → Found
-cut_off right more = pick right (pick more found.Part (found.Refused fault.WrongLength)) (found.Refused fault.WrongLength)
+cut_off right more = pick right (pick more found.Part (found.Refused (fault.OnCard on_card.WrongLength))) (found.Refused (fault.OnCard on_card.WrongLength))
 
 -- it may still be right: its length is the one asked, or its count is not there yet
 unfoldable pub may_be_right : List ℕ → ℕ → ℕ → ℕ → Bool
@@ -55,19 +54,17 @@ unfoldable pub cut_record : List ℕ → ℕ → Bool → ℕ → ℕ → Found
 cut_record s at more size kind =
     pick (is_event kind) (cut_off (may_be_right s at size kind) more)
     (pick (known_kind kind) (cut_off (eqb size entry_length) more)
-    (found.Refused fault.UnknownKind))
+    (found.Refused (fault.OnCard on_card.UnknownKind)))
 
 -- "9, a card record after one of kinds 16 to 19"
 unfoldable pub chip_record : Bool → ℕ → ℕ → ℕ → Found
 chip_record over code kind next = pick over (found.Refused fault.CardAfterEvent) (found.Record (record_of.Chip code kind) next)
 
 -- a card record by document 01's order, 2, 3, 1; "then 9"
-abbrev pub card_record : Bool → Entry → Found
-card_record over entry.Done = found.End
-card_record over (entry.Taken code kind next) = chip_record over code kind next
-card_record over entry.TooMany = found.Refused fault.TooMany
-card_record over entry.UnknownKind = found.Refused fault.UnknownKind
-card_record over entry.WrongLength = found.Refused fault.WrongLength
+abbrev pub card_record : Bool → Result (Option Entry) CardFault → Found
+card_record over (Ok None) = found.End
+card_record over (Ok (Some e)) = chip_record over e.code e.kind e.next
+card_record over (Err f) = found.Refused (fault.OnCard f)
 
 -- no bit is 1
 abbrev pub none_set : List Bool → Bool
@@ -97,7 +94,7 @@ unfoldable pub event_record : List ℕ → ℕ → ℕ → ℕ → ℕ → Found
 event_record s size kind body next =
     pick (eqb size (length_asked s body kind))
     (pick (eqb kind 16) (slots_record s body next) (found.Record (record_of.Event (event_in s body kind)) next))
-    (found.Refused fault.WrongLength)
+    (found.Refused (fault.OnCard on_card.WrongLength))
 
 -- a whole record, where room more chips may come
 unfoldable pub whole_record : List ℕ → ℕ → ℕ → Bool → ℕ → ℕ → ℕ → ℕ → Found

@@ -1,5 +1,5 @@
 -- Laws: what holds of everything that can stand at an offset holds of what stands there.
-use Rattle.std.specs.Prelude.{ℕ, ◌+◌, ◌-◌, ◌<◌, ◌≤◌, Bool, List, ◌≡◌, length, take, drop}
+use Rattle.std.specs.Prelude.{ℕ, ◌+◌, ◌-◌, ◌<◌, ◌≤◌, Bool, List, ◌≡◌, length, take, drop, Option, Result}
 use Rattle.std.proofs.Common.{arith, ◌∙◌}
 use Rattle.std.proofs.Math.Bool.{true, false}
 use borrow.Author.Tests.{eqb-true, ltb-true}
@@ -9,9 +9,11 @@ use Rattle.line.specs.Slots.{bytes_asked}
 use Rattle.records.specs.Numbers.{number_at}
 use Rattle.card.specs.Card.{whole_entry, entry_length}
 use Rattle.card.specs.declared.Entry.{Entry}
+use Rattle.card.specs.declared.Fault.{Fault as CardFault}
 use Rattle.recording.specs.Reading.{is_event, length_asked, cut_off, may_be_right, cut_record, chip_record, card_record, unused_clear, slots_record, event_in, event_record, at_end, found_at}
 use Rattle.recording.specs.Heads.{slots_asked}
 use Rattle.recording.specs.There.{size_at, kind_at, next_at, There, nothing, few, head, all, there, found_end, found_short, found_cut, found_whole}
+use Rattle.card.specs.declared.Fault.TheVariants as on_card
 use Rattle.recording.specs.declared.Fault.{Fault}
 use Rattle.recording.specs.declared.Fault.TheVariants as fault
 use Rattle.recording.specs.declared.Record.TheVariants as record_of
@@ -53,7 +55,7 @@ module _ (P : Found → Type 0) (s : List ℕ) (at room : ℕ) (over more : Bool
     -- a record that is not all there
     cut_has : (right : Bool) → (right ≡ true → Awaited s at) → P (cut_off right more)
     unfolding cut_off
-    cut_has right a = pick_if P _ _ _ (λ e. pick_both P _ _ _ (of_part (a e)) (of_refusal fault.WrongLength)) (λ e. of_refusal fault.WrongLength)
+    cut_has right a = pick_if P _ _ _ (λ e. pick_both P _ _ _ (of_part (a e)) (of_refusal (fault.OnCard on_card.WrongLength))) (λ e. of_refusal (fault.OnCard on_card.WrongLength))
 
     -- a whole record of kinds 16 to 19, and one of the card
     event_has : IsWhole s at true → P (event_record s (size_at s at) (kind_at s at) (at + 4) (next_at s at))
@@ -65,7 +67,7 @@ module _ (P : Found → Type 0) (s : List ℕ) (at room : ℕ) (over more : Bool
         (λ k. let q = eqb-true (kind_at s at) 16 k in
         pick_if P _ _ _ (of_slots w q (a ∙ slots_asked s (at + 4) (kind_at s at) q)) (λ u. of_refusal fault.UnusedBits))
         (λ k. of_other w a))
-        (λ e. of_refusal fault.WrongLength)
+        (λ e. of_refusal (fault.OnCard on_card.WrongLength))
 
     card_has : IsWhole s at false → P (card_record over (whole_entry s room (size_at s at) (kind_at s at) (at + 4) (next_at s at)))
     unfolding whole_entry chip_record
@@ -74,12 +76,12 @@ module _ (P : Found → Type 0) (s : List ℕ) (at room : ℕ) (over more : Bool
         (λ k. by_entry _ _ _
         (λ t. by_entry _ _ _
         (λ r. pick_both P _ _ _ (of_refusal fault.CardAfterEvent) (of_chip w k (eqb-true (size_at s at) entry_length t) (ltb-true 0 room r)))
-        (λ r. of_refusal fault.TooMany))
-        (λ t. of_refusal fault.WrongLength))
-        (λ k. of_refusal fault.UnknownKind)
+        (λ r. of_refusal (fault.OnCard on_card.TooMany)))
+        (λ t. of_refusal (fault.OnCard on_card.WrongLength)))
+        (λ k. of_refusal (fault.OnCard on_card.UnknownKind))
       where
-        by_entry : (b : Bool) (x y : Entry) → (b ≡ true → P (card_record over x)) → (b ≡ false → P (card_record over y)) → P (card_record over (pick b x y))
-        by_entry b x y = pick_if (λ (e : Entry). P (card_record over e)) b x y
+        by_entry : (b : Bool) (x y : Result (Option Entry) CardFault) → (b ≡ true → P (card_record over x)) → (b ≡ false → P (card_record over y)) → P (card_record over (pick b x y))
+        by_entry b x y = pick_if (λ (e : Result (Option Entry) CardFault). P (card_record over e)) b x y
 
     -- whatever is there
     pub found_has : P (found_at s at room over more)
@@ -92,7 +94,7 @@ module _ (P : Found → Type 0) (s : List ℕ) (at room : ℕ) (over more : Bool
         go (head h g) =
             rw (found_cut s at room over more h g)
             (pick_both P _ _ _ (cut_has _ (of-event g))
-            (pick_both P _ _ _ (cut_has _ (λ e. of-card g (eqb-true (size_at s at) entry_length e))) (of_refusal fault.UnknownKind)))
+            (pick_both P _ _ _ (cut_has _ (λ e. of-card g (eqb-true (size_at s at) entry_length e))) (of_refusal (fault.OnCard on_card.UnknownKind))))
         go (all h g) =
             rw (found_whole s at room over more h g)
             (pick_if P _ _ _ (λ e. event_has (record { headed = h; within = g; sort = e })) (λ e. card_has (record { headed = h; within = g; sort = e })))

@@ -17,12 +17,8 @@ pub use reading::record_at;
 // Why a recording is refused.
 #[derive(Clone, Copy)]
 pub enum Fault {
-    // refusal 1
-    TooMany,
-    // refusal 2
-    UnknownKind,
-    // refusal 3
-    WrongLength,
+    // refusal 1, 2 or 3, as of a card's record
+    OnCard(card::Fault),
     // refusal 9
     CardAfterEvent,
     // refusal 10
@@ -95,9 +91,7 @@ pub fn number_of(f: Fault) -> u8
     ensures { result ≡ number_of_fault f }
 {
     match f {
-        Fault::TooMany => 1,
-        Fault::UnknownKind => 2,
-        Fault::WrongLength => 3,
+        Fault::OnCard(f) => u8::from(f),
         Fault::CardAfterEvent => 9,
         Fault::UnusedBits => 10,
         Fault::OnLine(r) => line::number_of(r),

@@ -39,9 +39,9 @@ fn cut_off(right: bool, more: bool) -> Found
         if more {
             return Found::Part;
         }
-        return Found::Refused(Fault::WrongLength);
+        return Found::Refused(Fault::OnCard(card::Fault::WrongLength));
     }
-    Found::Refused(Fault::WrongLength)
+    Found::Refused(Fault::OnCard(card::Fault::WrongLength))
 }
 
 // A record of one of kinds 16 to 19 that is not all there may still be right.
@@ -70,7 +70,7 @@ fn cut_record(s: &[u8], at: usize, more: bool, size: u16, kind: u16) -> Found
     if card::is_known(kind) {
         return cut_off(size == ENTRY_LENGTH, more);
     }
-    Found::Refused(Fault::UnknownKind)
+    Found::Refused(Fault::OnCard(card::Fault::UnknownKind))
 }
 
 // A chip of the card, where a record of one of kinds 16 to 19 came before or not.
@@ -88,15 +88,13 @@ fn chip_record(over: bool, code: u64, kind: u8, next: usize) -> Found
 }
 
 // A whole record of the card, by what the card makes of it.
-fn card_record(over: bool, entry: Entry) -> Found
+fn card_record(over: bool, entry: Result<Option<Entry>, card::Fault>) -> Found
     ensures { result ≡ card_record over entry }
 {
     match entry {
-        Entry::Done => Found::End,
-        Entry::Taken { code, kind, next } => chip_record(over, code, kind, next),
-        Entry::TooMany => Found::Refused(Fault::TooMany),
-        Entry::UnknownKind => Found::Refused(Fault::UnknownKind),
-        Entry::WrongLength => Found::Refused(Fault::WrongLength),
+        Ok(None) => Found::End,
+        Ok(Some(e)) => chip_record(over, e.code, e.kind, e.next),
+        Err(f) => Found::Refused(Fault::OnCard(f)),
     }
 }
 
@@ -170,7 +168,7 @@ fn event_record(s: &[u8], size: u16, kind: u16, body: usize, next: usize) -> Fou
         let event = event_in(s, body, kind);
         return Found::Record(Record::Event(event), next);
     }
-    Found::Refused(Fault::WrongLength)
+    Found::Refused(Fault::OnCard(card::Fault::WrongLength))
 }
 
 // A whole record.

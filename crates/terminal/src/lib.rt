@@ -7,7 +7,7 @@ ghost use Rattle.line.specs.Layout.{images_most, pads_most};
 ghost use Rattle.card.specs.Card.{carded};
 ghost use Rattle.terminal.specs.Words.{is_refused, word_of, eighth_first, code_digits};
 
-use card::CardAnswer;
+use card::Refused;
 use crc::CodeCheck;
 use line::{IMAGES_MOST, PADS_MOST};
 use numerals::hex;
@@ -40,24 +40,14 @@ pub fn say_refused(out: Stdout, number: u8, at: u64) {
 }
 
 // Whether a card was refused; if so, the line that says so is written.
-pub fn refused_card(out: Stdout, answer: CardAnswer) -> bool
+pub fn refused_card(out: Stdout, answer: Result<usize, Refused>) -> bool
     ensures { result ≡ is_refused (carded answer) }
 {
-    match answer {
-        CardAnswer::Chips(_) => false,
-        CardAnswer::TooMany(at) => {
-            say_refused(out, 1, at as u64);
-            true
-        }
-        CardAnswer::UnknownKind(at) => {
-            say_refused(out, 2, at as u64);
-            true
-        }
-        CardAnswer::WrongLength(at) => {
-            say_refused(out, 3, at as u64);
-            true
-        }
-    }
+    let Err(refused) = answer else {
+        return false;
+    };
+    say_refused(out, u8::from(refused.fault), refused.at as u64);
+    true
 }
 
 // The word for the check of a code.

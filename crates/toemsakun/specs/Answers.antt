@@ -1,5 +1,5 @@
 -- Laws: the answers of the plain forms as numbers, taken at what a match found.
-use Rattle.std.specs.Prelude.{ℕ, zero, suc, ◌-◌, ◌<◌, true, ◌≡◌, refl, ltb, ℤ, pos, ◌-ℤ◌}
+use Rattle.std.specs.Prelude.{ℕ, zero, suc, ◌-◌, ◌<◌, true, ◌≡◌, refl, ltb, ℤ, pos, ◌-ℤ◌, Result}
 use Rattle.std.proofs.Common.{arith, ◌∙◌, ap, sym, subst, lt-ltb, to_z, of_z, SFits, to_z-of_z}
 use Rattle.std.specs.Int.Signed.{mag}
 use Rattle.std.specs.Int.{w32}
@@ -11,7 +11,7 @@ use Rattle.line.specs.declared.Answer.{Answer}
 use Rattle.line.specs.declared.SlotsAnswer.{SlotsAnswer}
 use Rattle.line.specs.declared.SlotsAnswer.TheVariants as slots
 use Rattle.card.specs.Card.{Carded, chips, refused, carded}
-use Rattle.card.specs.declared.CardAnswer.{CardAnswer}
+use Rattle.card.specs.declared.Refused.{Refused}
 use Rattle.search.specs.Search.{searched, number_in}
 use Rattle.search.specs.declared.SearchAnswer.{SearchAnswer}
 use Rattle.toemsakun.specs.Library.{minus, answer_number, slots_number, search_number}
@@ -43,8 +43,8 @@ search_at n = along (λ (k : SearchAnswer). search_number n (searched k))
 pub refused_at : (n : ℕ) (q p : SearchAnswer) (r : ℤ) → q ≡ p → minus (number_in (searched p)) ≡ search_number n (searched p) → r ≡ minus (number_in (searched q)) → r ≡ search_number n (searched q)
 refused_at n q p r e h k = k ∙ along (λ (a : SearchAnswer). search_number n (searched a)) q p (minus (number_in (searched q))) e (ap (λ (a : SearchAnswer). minus (number_in (searched a))) e ∙ h)
 
-pub card_at : (n : ℕ) (q p : CardAnswer) (r : ℤ) → q ≡ p → r ≡ card_number n (carded p) → r ≡ card_number n (carded q)
-card_at n = along (λ (k : CardAnswer). card_number n (carded k))
+pub card_at : (n : ℕ) (q p : Result ℕ Refused) (r : ℤ) → q ≡ p → r ≡ card_number n (carded p) → r ≡ card_number n (carded q)
+card_at n = along (λ (k : Result ℕ Refused). card_number n (carded k))
 
 -- a small number, taken from 0
 minus_is : (n : ℕ) → n < 256 → to_z w32 0 -ℤ to_z w32 n ≡ minus n

@@ -8,7 +8,7 @@ ghost use Rattle.search.specs.Search.{searched};
 ghost use Rattle.toemsakun.specs.Library.{minus, answer_number, slots_number, search_number};
 ghost use Rattle.toemsakun.specs.Answers.{card_number, card_offset, slots_put};
 
-use card::CardAnswer;
+use card::Refused;
 use line::{Answer, Refusal, SlotsAnswer};
 use search::SearchAnswer;
 
@@ -75,26 +75,22 @@ pub fn of_search(answer: SearchAnswer, n: usize) -> i32
 }
 
 // What set-up answers that left n chips.
-pub fn of_card(answer: CardAnswer, n: usize) -> i32
+pub fn of_card(answer: Result<usize, Refused>, n: usize) -> i32
     requires { n ≤ 16 }
     ensures { result ≡ card_number n (carded answer) }
 {
     match answer {
-        CardAnswer::Chips(_) => of_count(n),
-        CardAnswer::TooMany(_) => -1,
-        CardAnswer::UnknownKind(_) => -2,
-        CardAnswer::WrongLength(_) => -3,
+        Ok(_) => of_count(n),
+        Err(refused) => minus_of(u8::from(refused.fault)),
     }
 }
 
 // Where the record at fault begins, 0 where there is none.
-pub fn offset_of(answer: CardAnswer) -> usize
+pub fn offset_of(answer: Result<usize, Refused>) -> usize
     ensures { result ≡ card_offset (carded answer) }
 {
     match answer {
-        CardAnswer::Chips(_) => 0,
-        CardAnswer::TooMany(at) => at,
-        CardAnswer::UnknownKind(at) => at,
-        CardAnswer::WrongLength(at) => at,
+        Ok(_) => 0,
+        Err(refused) => refused.at,
     }
 }

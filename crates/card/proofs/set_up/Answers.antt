@@ -1,37 +1,31 @@
-use borrow.Author.Rules.{rules}
-use Rattle.card.specs.Reading.{taking_start, taking_next, room_for, taking_done, taking_many, taking_kind, taking_length}
+use Rattle.std.proofs.Common.{◌∙◌, ◌<◌, Ok}
+use Rattle.card.specs.Reading.{taking_start, taking_next, room_for, taking_done, taking_refused}
 use native.Mathlib.Omega.{arith}
 use Rattle.card.proofs.set_up.Goals as goal
 
-pub loop-chips-init : goal.loop-chips-init
-loop-chips-init c = let a = c.args in taking_start _ a.s.now a.t.chips c.used_places-most.ensures.most.0 (omega arith)
+-- a record that gives a chip: how many came before it
+taken : (c : goal.After-set_up) → (c.loop-entry.n < c.used_places-most.result) × (c.loop-entry.n < 16)
+taken c = let e = c.in-Ok-Some in room_for _ _ _ _ _ _ c.loop-entry.invariant c.entry_at.result c.entry_at.ensures _ (e.is ∙ (λ j. Ok (e.field-0-is j)))
 
-pub overflow_sub-most : goal.overflow_sub-most
-overflow_sub-most c = omega (arith, c.loop-chips.invariant.within)
-
-pub returns-in-Done : goal.returns-in-Done
-returns-in-Done c = let s = c.loop-chips in let e = c.entry_at-entry in taking_done _ _ _ _ _ _ s.invariant e.result e.ensures c.args.places c.args.t.n c.used_places-most.ensures.value (search rules)
-
-pub offset_bounds-chips-n : goal.offset_bounds-chips-n
-offset_bounds-chips-n c = let s = c.loop-chips in let e = c.entry_at-entry in let r = room_for _ _ _ _ _ _ s.invariant e.result e.ensures _ _ _ c.in-Taken.is in record { fits = omega (arith, r.1) }
+pub loop-entry-init : goal.loop-entry-init
+loop-entry-init c = let a = c.args in taking_start _ a.s.now a.t.chips c.used_places-most.ensures.most.0 (omega arith)
 
 pub bounds-chips-n : goal.bounds-chips-n
-bounds-chips-n c = let s = c.loop-chips in let e = c.entry_at-entry in let r = room_for _ _ _ _ _ _ s.invariant e.result e.ensures _ _ _ c.in-Taken.is in omega (arith, r.1, s.invariant.long)
+bounds-chips-n c = (taken c).1
 
-pub overflow_add-n : goal.overflow_add-n
-overflow_add-n c = let s = c.loop-chips in let e = c.entry_at-entry in let r = room_for _ _ _ _ _ _ s.invariant e.result e.ensures _ _ _ c.in-Taken.is in record { fits = omega (arith, r.1) }
+pub loop-entry-smaller : goal.loop-entry-smaller
+loop-entry-smaller c = let h = (taken c).0 in omega arith
 
-pub loop-chips-smaller : goal.loop-chips-smaller
-loop-chips-smaller c = let s = c.loop-chips in let e = c.entry_at-entry in let r = room_for _ _ _ _ _ _ s.invariant e.result e.ensures _ _ _ c.in-Taken.is in omega (arith, r.0)
+pub loop-entry-preserved : goal.loop-entry-preserved
+loop-entry-preserved c =
+    let e = c.in-Ok-Some in
+    taking_next _ _ _ _ _ _ c.loop-entry.invariant c.entry_at.result c.entry_at.ensures _ _ (e.is ∙ (λ j. Ok (e.field-0-is j))) c.set_up.ensures
 
-pub loop-chips-preserved : goal.loop-chips-preserved
-loop-chips-preserved c = let s = c.loop-chips in let e = c.entry_at-entry in taking_next _ _ _ _ _ _ s.invariant e.result e.ensures _ _ _ _ c.in-Taken.is c.set_up-c.ensures
+pub returns-in-Ok-None : goal.returns-in-Ok-None
+returns-in-Ok-None c =
+    let e = c.in-Ok-None in
+    taking_done _ _ _ _ _ _ c.loop-entry.invariant c.entry_at.result c.entry_at.ensures c.args.places c.args.t.n c.used_places-most.ensures.value (e.is ∙ (λ j. Ok (e.field-0-is j)))
 
-pub returns-in-TooMany : goal.returns-in-TooMany
-returns-in-TooMany c = let s = c.loop-chips in let e = c.entry_at-entry in taking_many _ _ _ _ _ _ s.invariant e.result e.ensures c.args.places c.args.t.n c.used_places-most.ensures.value (search rules)
-
-pub returns-in-UnknownKind : goal.returns-in-UnknownKind
-returns-in-UnknownKind c = let s = c.loop-chips in let e = c.entry_at-entry in taking_kind _ _ _ _ _ _ s.invariant e.result e.ensures c.args.places c.args.t.n c.used_places-most.ensures.value (search rules)
-
-pub returns-in-WrongLength : goal.returns-in-WrongLength
-returns-in-WrongLength c = let s = c.loop-chips in let e = c.entry_at-entry in taking_length _ _ _ _ _ _ s.invariant e.result e.ensures c.args.places c.args.t.n c.used_places-most.ensures.value (search rules)
+pub returns-in-Err : goal.returns-in-Err
+returns-in-Err c =
+    taking_refused _ _ _ _ _ _ c.loop-entry.invariant c.entry_at.result c.entry_at.ensures c.args.places c.args.t.n c.used_places-most.ensures.value c.in-Err.fault c.in-Err.is
