@@ -90,6 +90,7 @@ pub fn read_full<R: Read>(input: &mut R, bytes: &mut [u8]) -> usize
     ensures prefix_len { IsPrefixLen result bytes.new }
     ensures known { Consumes (R.remaining input.old) (R.remaining input.new) (take result bytes.new) }
 {
+    // Stays: each read says how far the next one begins, so no range counts here.
     let mut done: usize = 0;
     while done < bytes.len() {
         match read_some(input, &mut bytes[done..]) {
@@ -112,6 +113,7 @@ fn move_down(at: usize, held: usize, bytes: &mut [u8]) -> usize
 }
 
 // What is at hand after so many bytes were taken: the rest, moved to the start of the buffer.
+#[tactic(auto, unfolding(crate::specs::Input::taken_of))]
 pub fn taken(h: Hand, at: usize, bytes: &mut [u8]) -> Hand
     ensures { holding result bytes.new ≡ taken_of h at bytes.old }
 {

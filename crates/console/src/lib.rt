@@ -1,11 +1,10 @@
-// What a program uses at a terminal, whatever it is about: the turns of a loop that waits for input, counts that do not wrap, its arguments and
-// room for one, and what is written on standard output and told on standard error.
+// What a program uses at a terminal, whatever it is about: counts that do not wrap, its arguments and room for one, the files that they name, and
+// what is written on standard output and told on standard error.
 #![tactic(auto)]
 
 pub mod input;
 
-ghost use Rattle.std.specs.Prelude.{◌≡◌, ◌-◌, ◌≤◌, length, replicate, pos, Some};
-ghost use Rattle.std.specs.Prelude.{IsErr, IsErrAnd, IsUtf8};
+ghost use Rattle.std.specs.Prelude.{◌≡◌, ◌-◌, ◌≤◌, length, replicate, pos, Some, IsErr, IsErrAnd, IsUtf8};
 ghost use Rattle.std.specs.IoError.{raw_os_error};
 ghost use Rattle.base.specs.Pick.{pick};
 ghost use Rattle.console.specs.Counting.{counted_on};
@@ -18,8 +17,9 @@ use std::io::{Cursor, Stderr, Stdout, Write};
 use std::rt::{Env, Files};
 use std::{io, str};
 
-// The turns that are left after one: none where it was the last. A proved loop has to end, so a program that serves until its
-// input ends counts its turns down from a number that no run uses up.
+// The turns that are left after one: none where it was the last.
+// Stays, though the programs' loops count no turns by hand: theorem console_turns_left of crate coincide is about this function.
+#[tactic(auto, unfolding(base::specs::Pick::pick))]
 pub fn turns_left(turns: u64, on: bool) -> u64
     ensures value { result ≡ pick on (turns - 1) 0 }
     ensures fewer { result ≤ turns - 1 }

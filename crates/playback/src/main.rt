@@ -41,7 +41,13 @@ impl Source {
     // One read more of the recording; a read that fails is not taken for its end.
     fn fetch(&mut self) -> Result<(), Told> {
         let input = &mut self.input;
-        self.hand = input::fetch(self.hand, input, self.errors, b"standard input", &mut self.bytes)?;
+        self.hand = input::fetch(
+            self.hand,
+            input,
+            self.errors,
+            b"standard input",
+            &mut self.bytes,
+        )?;
         Ok(())
     }
 }
@@ -75,14 +81,12 @@ fn read_card(source: &mut Source) -> Result<(Table, CardsEnding), Told> {
     Ok((table, CardsEnding::Stopped(Ending::Part)))
 }
 
-// Plays the events on a table and its buffers: first those that came with the card, then those that come.
-fn play_events(
-    source: &mut Source,
-    to: Outputs,
-    start: Table,
-    images: &mut [u8],
-    pads: &mut [u8],
-) -> Result<(), Told> {
+// Plays the events on the line that the card set up: first those that came with the card, then those that come.
+fn play_events(source: &mut Source, to: Outputs, start: Table) -> Result<(), Told> {
+    let mut images = terminal::image_room();
+    let mut pads = terminal::pad_room();
+    let images = &mut images[..line::images_asked(start)];
+    let pads = &mut pads[..line::pads_asked(start)];
     let mut text = [0u8; TEXT_MOST];
     let mut table = start;
     for _ in 0..u64::MAX {
@@ -101,21 +105,6 @@ fn play_events(
     Ok(())
 }
 
-// Sets up the line, and plays the events.
-fn start(source: &mut Source, to: Outputs, table: Table) -> Result<(), Told> {
-    let mut images = terminal::image_room();
-    let mut pads = terminal::pad_room();
-    let image_bytes = line::images_asked(table);
-    let pad_bytes = line::pads_asked(table);
-    play_events(
-        source,
-        to,
-        table,
-        &mut images[..image_bytes],
-        &mut pads[..pad_bytes],
-    )
-}
-
 // Plays the recording on standard input.
 fn play(input: Stdin, to: Outputs) -> Result<(), Told> {
     let mut source = Source {
@@ -126,7 +115,7 @@ fn play(input: Stdin, to: Outputs) -> Result<(), Told> {
     };
     let (table, ending) = read_card(&mut source)?;
     match ending {
-        CardsEnding::Events => start(&mut source, to, table),
+        CardsEnding::Events => play_events(&mut source, to, table),
         CardsEnding::Stopped(e) => write_end(to, e, source.hand.offset),
     }
 }
@@ -137,9 +126,8 @@ fn main(rt: HostRuntime) {
         errors: rt.stderr(),
     };
     if console::argument_count(&rt) != 1 {
-        console::tell(
-            to.errors,
-            b"usage: playback < RECORDING (no argument: the recording comes from standard input)\n",
+        let _ = eprintln!(to.errors;
+            "usage: playback < RECORDING (no argument: the recording comes from standard input)"
         );
         return;
     }

@@ -9,7 +9,7 @@ mod text;
 ghost use Rattle.std.specs.Prelude.{◌≡◌};
 
 use console::{Outputs, Told, input};
-use line::{Answer, SlotsAnswer, Table};
+use line::{Answer, Event, SlotsAnswer, Table};
 use runs::{Answers, BITS_SIZE, CHARACTERS_MOST, Run};
 use std::io::Stdin;
 use std::rt::{Env, Files};
@@ -29,6 +29,13 @@ struct Process<'a> {
 }
 
 impl Process<'_> {
+    // One event on the line; what it answers.
+    fn take_event(&mut self, e: Event) -> Answer {
+        let happened = line::take_event(self.table, e, self.images, self.pads);
+        self.table = happened.table;
+        happened.answer
+    }
+
     // Puts the run that waits on the line, and answers each of its slots.
     fn end_run(&mut self)
         ensures { self.new.run.slots ≡ 0 }
@@ -69,9 +76,8 @@ impl Process<'_> {
     fn take_other(&mut self, b: u8) {
         self.end_run();
         if let Some(e) = text::read_char(&mut self.begun, b) {
-            let happened = line::take_event(self.table, e, self.images, self.pads);
-            self.table = happened.table;
-            self.answers.put(text::letter(happened.answer));
+            let answer = self.take_event(e);
+            self.answers.put(text::letter(answer));
         }
     }
 
@@ -104,28 +110,7 @@ fn serve(mut stdin: Stdin, to: Outputs, process: &mut Process) -> Result<(), Tol
     Ok(())
 }
 
-// Powers the line on, and answers events.
-fn start(
-    stdin: Stdin,
-    to: Outputs,
-    table: Table,
-    images: &mut [u8],
-    pads: &mut [u8],
-) -> Result<(), Told> {
-    let powered = line::take_event(table, line::events::power_on(), images, pads);
-    let mut process = Process {
-        table: powered.table,
-        images,
-        pads,
-        begun: None,
-        run: Run::new(),
-        bus: [0; BITS_SIZE],
-        answers: Answers::new(),
-    };
-    serve(stdin, to, &mut process)
-}
-
-// Sets the line up from the bytes of a card, or says why it is refused.
+// Sets the line up from the bytes of a card, or says why it is refused; powers it on, and answers events.
 fn run(stdin: Stdin, to: Outputs, card: &[u8]) -> Result<(), Told> {
     let set_up = card::set_up(card, 16, line::tables::blank(0));
     let answer = set_up.answer;
@@ -135,15 +120,17 @@ fn run(stdin: Stdin, to: Outputs, card: &[u8]) -> Result<(), Told> {
     }
     let mut images = terminal::image_room();
     let mut pads = terminal::pad_room();
-    let image_bytes = line::images_asked(table);
-    let pad_bytes = line::pads_asked(table);
-    start(
-        stdin,
-        to,
+    let mut process = Process {
         table,
-        &mut images[..image_bytes],
-        &mut pads[..pad_bytes],
-    )
+        images: &mut images[..line::images_asked(table)],
+        pads: &mut pads[..line::pads_asked(table)],
+        begun: None,
+        run: Run::new(),
+        bus: [0; BITS_SIZE],
+        answers: Answers::new(),
+    };
+    let _ = process.take_event(line::events::power_on());
+    serve(stdin, to, &mut process)
 }
 
 // The most bytes of a card that are read, and of its file's name.
@@ -165,9 +152,8 @@ fn main(rt: HostRuntime) {
         errors: rt.stderr(),
     };
     if console::argument_count(&rt) != 2 {
-        console::tell(
-            to.errors,
-            b"usage: wire CARDFILE (one argument: a file with the card that sets up the line)\n",
+        let _ = eprintln!(to.errors;
+            "usage: wire CARDFILE (one argument: a file with the card that sets up the line)"
         );
         return;
     }
