@@ -8,14 +8,14 @@ ghost use Rattle.ds2413.specs.Switch.{switch_after, switch_power_on, switch_set_
 use base::Register;
 
 // The latches and the outside levels, bit 0 for PIOA and bit 1 for PIOB.
-#[derive(Clone, Copy)]
+#[derive(Clone, Copy, PartialEq, Eq)]
 pub struct Switch {
     pub latches: u8,
     pub outside: u8,
 }
 
 // A phase of the function level, with what it needs to go on.
-#[derive(Clone, Copy)]
+#[derive(Clone, Copy, PartialEq, Eq)]
 pub enum SwitchPhase {
     // nothing more to send
     Ones,
@@ -30,7 +30,7 @@ pub enum SwitchPhase {
 }
 
 // Where a slot leaves the part.
-#[derive(Clone, Copy)]
+#[derive(Clone, Copy, PartialEq, Eq)]
 pub struct SwitchAfter {
     pub switch: Switch,
     pub phase: SwitchPhase,
@@ -57,23 +57,19 @@ pub fn set_up() -> Switch
 pub fn set_outside(c: Switch, outside: u8) -> Switch
     ensures { result ≡ switch_outside outside c }
 {
-    Switch {
-        outside: outside,
-        ..c
-    }
+    Switch { outside, ..c }
 }
 
 // The pin at bit k.
+#[tactic(auto, unfolding(crate::specs::Switch::pin_of, base::specs::Bits::both, base::specs::Pick::pick))]
 pub fn pin(c: Switch, k: u8) -> bool
     ensures { result ≡ pin_of c k }
 {
-    base::are_both(
-        base::bit_of(c.latches as u64, k),
-        base::bit_of(c.outside as u64, k),
-    )
+    base::bit_of(c.latches as u64, k) && base::bit_of(c.outside as u64, k)
 }
 
 // A bit of the status at its place, where 1 is worth w.
+#[tactic(auto, unfolding(base::specs::Pick::pick))]
 fn flag_of(w: u8, b: bool) -> u8
     ensures value { result ≡ pick b w 0 }
     ensures small { result ≤ w }
@@ -82,6 +78,7 @@ fn flag_of(w: u8, b: bool) -> u8
 }
 
 // The status byte.
+#[tactic(auto, unfolding(crate::specs::Switch::status_of))]
 pub fn status(c: Switch) -> u8
     ensures { result ≡ status_of c }
 {
@@ -94,110 +91,93 @@ pub fn status(c: Switch) -> u8
 }
 
 // The phase that a function command begins.
+#[tactic(auto, using(base::specs::Rules::cases), unfolding(crate::specs::Switch::switch_function))]
 pub fn function(c: Switch, b: u8) -> SwitchPhase
     ensures { result ≡ switch_function c b }
 {
-    let sample = status(c);
-    if b == 0xF5 {
-        return SwitchPhase::Status {
+    match b {
+        0xF5 => SwitchPhase::Status {
             count: 0,
-            sample: sample,
-        };
+            sample: status(c),
+        },
+        0x5A => SwitchPhase::Take { count: 0, bits: 0 },
+        _ => SwitchPhase::Ones,
     }
-    if b == 0x5A {
-        return SwitchPhase::Take { count: 0, bits: 0 };
-    }
-    SwitchPhase::Ones
 }
 
 // Where a function command leaves the part at its eighth bit.
+#[tactic(auto, unfolding(crate::specs::Switch::switch_begins))]
 pub fn begins(c: Switch, b: u8) -> SwitchAfter
     ensures { result ≡ switch_begins c b }
 {
-    let phase = function(c, b);
-    goes_on(c, phase)
+    goes_on(c, function(c, b))
 }
 
 // A bit of a status byte was sent; after the last, the next is sampled.
+#[tactic(auto, using(base::specs::Rules::cases), unfolding(crate::specs::Switch::status_sent))]
 pub fn status_sent(c: Switch, count: u8, sample: u8) -> SwitchPhase
     ensures { result ≡ status_sent c count sample }
 {
-    let next = status(c);
-    if count < 7 {
-        return SwitchPhase::Status {
-            count: count + 1,
-            sample: sample,
-        };
-    }
-    SwitchPhase::Status {
-        count: 0,
-        sample: next,
-    }
+    let (count, sample) = if count < 7 {
+        (count + 1, sample)
+    } else {
+        (0, status(c))
+    };
+    SwitchPhase::Status { count, sample }
 }
 
 // A byte and its complement are in.
+#[tactic(auto, using(base::specs::Rules::cases), unfolding(crate::specs::Switch::pair_in))]
 pub fn pair_in(c: Switch, pair: u16) -> SwitchAfter
     ensures { result ≡ pair_in c pair }
 {
-    let outside = c.outside;
-    if pair % 256 + pair / 256 == 0xFF {
-        let set = Switch {
-            latches: (pair % 4) as u8,
-            outside: outside,
-        };
-        return SwitchAfter {
-            switch: set,
-            phase: SwitchPhase::Confirm { count: 0 },
-        };
+    if pair % 256 + pair / 256 != 0xFF {
+        return goes_on(c, SwitchPhase::Ones);
     }
-    SwitchAfter {
-        switch: c,
-        phase: SwitchPhase::Ones,
-    }
+    let latches = (pair % 4) as u8;
+    goes_on(Switch { latches, ..c }, SwitchPhase::Confirm { count: 0 })
 }
 
 // A bit of a byte or its complement.
+#[tactic(auto, using(base::specs::Rules::cases), unfolding(crate::specs::Switch::pair_bit))]
 pub fn pair_bit(c: Switch, count: u8, bits: u16, v: bool) -> SwitchAfter
     ensures { result ≡ pair_bit c count bits v }
 {
-    let b = bits.filled(v);
+    let bits = bits.filled(v);
     if count < 15 {
-        return SwitchAfter {
-            switch: c,
-            phase: SwitchPhase::Take {
-                count: count + 1,
-                bits: b,
-            },
-        };
+        let count = count + 1;
+        goes_on(c, SwitchPhase::Take { count, bits })
+    } else {
+        pair_in(c, bits)
     }
-    pair_in(c, b)
 }
 
 // A bit of AAh was sent; at the last, the status is sampled.
+#[tactic(auto, using(base::specs::Rules::cases), unfolding(crate::specs::Switch::confirmed))]
 pub fn confirm_sent(c: Switch, count: u8) -> SwitchPhase
     ensures { result ≡ confirmed c count }
 {
-    let sample = status(c);
     if count < 7 {
-        return SwitchPhase::Confirm { count: count + 1 };
-    }
-    SwitchPhase::Show {
-        count: 0,
-        sample: sample,
+        SwitchPhase::Confirm { count: count + 1 }
+    } else {
+        SwitchPhase::Show {
+            count: 0,
+            sample: status(c),
+        }
     }
 }
 
 // A bit of the status after AAh was sent; then comes the next pair.
+#[tactic(auto, using(base::specs::Rules::cases), unfolding(crate::specs::Switch::shown))]
 pub fn show_sent(count: u8, sample: u8) -> SwitchPhase
     ensures { result ≡ shown count sample }
 {
     if count < 7 {
-        return SwitchPhase::Show {
-            count: count + 1,
-            sample: sample,
-        };
+        let count = count + 1;
+        SwitchPhase::Show { count, sample }
+    } else {
+        SwitchPhase::Take { count: 0, bits: 0 }
     }
-    SwitchPhase::Take { count: 0, bits: 0 }
 }
 
 // Another phase, the latches as they are.
@@ -214,13 +194,14 @@ pub fn goes_on(c: Switch, p: SwitchPhase) -> SwitchAfter
 pub fn takes(c: Switch, v: bool, p: SwitchPhase) -> SwitchAfter
     ensures { result ≡ switch_takes c v p }
 {
-    match p {
-        SwitchPhase::Ones => goes_on(c, SwitchPhase::Ones),
-        SwitchPhase::Status { count, sample } => goes_on(c, status_sent(c, count, sample)),
-        SwitchPhase::Take { count, bits } => pair_bit(c, count, bits, v),
-        SwitchPhase::Confirm { count } => goes_on(c, confirm_sent(c, count)),
-        SwitchPhase::Show { count, sample } => goes_on(c, show_sent(count, sample)),
-    }
+    let next = match p {
+        SwitchPhase::Ones => SwitchPhase::Ones,
+        SwitchPhase::Status { count, sample } => status_sent(c, count, sample),
+        SwitchPhase::Take { count, bits } => return pair_bit(c, count, bits, v),
+        SwitchPhase::Confirm { count } => confirm_sent(c, count),
+        SwitchPhase::Show { count, sample } => show_sent(count, sample),
+    };
+    goes_on(c, next)
 }
 
 // What a chip sends in a slot at a phase.
@@ -228,11 +209,12 @@ pub fn sends(p: SwitchPhase) -> bool
     ensures { result ≡ switch_sends p }
 {
     match p {
-        SwitchPhase::Ones => true,
-        SwitchPhase::Status { count, sample } => base::bit_of(sample as u64, count),
-        SwitchPhase::Take { count: _, bits: _ } => true,
+        SwitchPhase::Ones | SwitchPhase::Take { .. } => true,
+        SwitchPhase::Status { count, sample } | SwitchPhase::Show { count, sample } => base::bit_of(
+            sample as u64,
+            count,
+        ),
         SwitchPhase::Confirm { count } => base::bit_of(0xAA, count),
-        SwitchPhase::Show { count, sample } => base::bit_of(sample as u64, count),
     }
 }
 
@@ -242,16 +224,17 @@ pub fn phase_in_range(p: SwitchPhase) -> bool
 {
     match p {
         SwitchPhase::Ones => true,
-        SwitchPhase::Status { count, sample: _ } => count < 8,
-        SwitchPhase::Take { count, bits: _ } => count < 16,
-        SwitchPhase::Confirm { count } => count < 8,
-        SwitchPhase::Show { count, sample: _ } => count < 8,
+        SwitchPhase::Take { count, .. } => count < 16,
+        SwitchPhase::Status { count, .. }
+        | SwitchPhase::Confirm { count }
+        | SwitchPhase::Show { count, .. } => count < 8,
     }
 }
 
 // Whether latches and outside levels are two bits each.
+#[tactic(auto, unfolding(crate::specs::Switch::switch_in_range, base::specs::Bits::both, base::specs::Pick::pick))]
 pub fn in_range(c: Switch) -> bool
     ensures { result ≡ switch_in_range c }
 {
-    base::are_both(c.latches <= 3, c.outside <= 3)
+    c.latches <= 3 && c.outside <= 3
 }
