@@ -11,11 +11,9 @@ use scratchpad::Deed;
 pub fn pair_at(m: &[u8], a: usize, b: usize) -> Seen
     ensures { result ≡ seen_in m.now m.now (Look.Memory a b) }
 {
-    let first = base::byte_at(m, a);
-    let second = base::byte_at(m, b);
     Seen {
-        first: first,
-        second: second,
+        first: base::byte_at(m, a),
+        second: base::byte_at(m, b),
     }
 }
 
@@ -23,9 +21,8 @@ pub fn pair_at(m: &[u8], a: usize, b: usize) -> Seen
 pub fn one_at(s: &[u8], o: usize) -> Seen
     ensures { result ≡ seen_in s.now s.now (Look.Pad o) }
 {
-    let first = base::byte_at(s, o);
     Seen {
-        first: first,
+        first: base::byte_at(s, o),
         second: 0,
     }
 }
@@ -45,6 +42,7 @@ pub fn fetch(look: Look, m: &[u8], s: &[u8]) -> Seen
 }
 
 // A byte sent to an address of a memory, through the rule of a byte.
+#[tactic(auto, unfolding(crate::specs::Memory::rule_at))]
 pub fn rule_at(part: Part, m: &[u8], a: usize, sent: u8) -> u8
     ensures { result ≡ rule_at (map_of part) m.now a sent }
 {

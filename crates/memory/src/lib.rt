@@ -12,13 +12,15 @@ ghost use Rattle.memory.specs.Memory.{look_of, sight, sight_by, span_of};
 use scratchpad::{Hand, Sight};
 
 // A part that has the scratchpad commands.
-#[derive(Clone, Copy)]
+// Stays an enum with a match in each function below, no trait: the part is known at run time only, so that a trait would
+// need the same match where a slot looks, sees and does.
+#[derive(Clone, Copy, PartialEq, Eq)]
 pub enum Part {
     Ds28ec20,
 }
 
 // Which bytes a slot looks at: none, two of the memory, or one of the scratchpad.
-#[derive(Clone, Copy)]
+#[derive(Clone, Copy, PartialEq, Eq)]
 pub enum Look {
     Nothing,
     Memory { first: usize, second: usize },
@@ -26,13 +28,14 @@ pub enum Look {
 }
 
 // The bytes that were looked at; 0 where there is none.
-#[derive(Clone, Copy)]
+#[derive(Clone, Copy, PartialEq, Eq)]
 pub struct Seen {
     pub first: u8,
     pub second: u8,
 }
 
 // The last address that Read Memory reads.
+#[tactic(auto, using(crate::specs::Laws::map_ds28ec20), unfolding(ds28ec20::specs::Map::ds28ec20))]
 pub fn last_address(part: Part) -> u16
     ensures { result ≡ (map_of part).last }
 {
@@ -42,6 +45,7 @@ pub fn last_address(part: Part) -> u16
 }
 
 // Where the control byte of an address stands.
+#[tactic(auto, using(crate::specs::Laws::map_ds28ec20), unfolding(ds28ec20::specs::Map::ds28ec20))]
 pub fn control_address(part: Part, a: usize) -> usize
     ensures { result ≡ (map_of part).control a }
 {
@@ -51,6 +55,7 @@ pub fn control_address(part: Part, a: usize) -> usize
 }
 
 // Where the lock byte of a page stands.
+#[tactic(auto, using(crate::specs::Laws::map_ds28ec20), unfolding(ds28ec20::specs::Map::ds28ec20))]
 pub fn lock_address(part: Part, page: usize) -> usize
     ensures { result ≡ (map_of part).lock page }
 {
@@ -60,6 +65,7 @@ pub fn lock_address(part: Part, page: usize) -> usize
 }
 
 // An address is held, by its byte and its control byte.
+#[tactic(auto, using(crate::specs::Laws::map_ds28ec20), unfolding(ds28ec20::specs::Map::ds28ec20))]
 pub fn is_held(part: Part, a: usize, byte: u8, control: u8) -> bool
     ensures { result ≡ (map_of part).held a byte control }
 {
@@ -69,6 +75,7 @@ pub fn is_held(part: Part, a: usize, byte: u8, control: u8) -> bool
 }
 
 // An address only falls, by its control byte.
+#[tactic(auto, using(crate::specs::Laws::map_ds28ec20), unfolding(ds28ec20::specs::Map::ds28ec20))]
 pub fn only_falls(part: Part, a: usize, control: u8) -> bool
     ensures { result ≡ (map_of part).falls a control }
 {
@@ -78,6 +85,7 @@ pub fn only_falls(part: Part, a: usize, control: u8) -> bool
 }
 
 // A page is closed to copying, by its control byte and its lock byte.
+#[tactic(auto, using(crate::specs::Laws::map_ds28ec20), unfolding(ds28ec20::specs::Map::ds28ec20))]
 pub fn is_closed(part: Part, page: usize, control: u8, lock: u8) -> bool
     ensures { result ≡ (map_of part).closed page control lock }
 {
@@ -87,6 +95,7 @@ pub fn is_closed(part: Part, page: usize, control: u8, lock: u8) -> bool
 }
 
 // The last offset that Read Scratchpad sends.
+#[tactic(auto, using(crate::specs::Laws::map_ds28ec20), unfolding(ds28ec20::specs::Map::ds28ec20))]
 pub fn pad_end(part: Part, es: u8) -> u8
     ensures { result ≡ (map_of part).end es }
 {
@@ -96,6 +105,7 @@ pub fn pad_end(part: Part, es: u8) -> u8
 }
 
 // Whether a reset inside the address of a write sets PF.
+#[tactic(auto, using(crate::specs::Laws::map_ds28ec20), unfolding(ds28ec20::specs::Map::ds28ec20))]
 pub fn cut_sets_pf(part: Part) -> bool
     ensures { result ≡ (map_of part).cut_sets_pf }
 {
@@ -105,6 +115,7 @@ pub fn cut_sets_pf(part: Part) -> bool
 }
 
 // A byte sent to an address, by the byte and the control byte that stand in the memory.
+#[tactic(auto, unfolding(scratchpad::specs::Map::rule_by))]
 pub fn rule(part: Part, a: usize, byte: u8, control: u8, sent: u8) -> u8
     ensures { result ≡ rule_by (map_of part) a byte control sent }
 {
@@ -131,7 +142,7 @@ pub fn looks(part: Part, h: Hand) -> Look
         Hand::Nothing => Look::Nothing,
         Hand::Byte { address } => two(address, control_address(part, address)),
         Hand::Page { start } => two(control_address(part, start), lock_address(part, start)),
-        Hand::Pad { offset } => Look::Pad { offset: offset },
+        Hand::Pad { offset } => Look::Pad { offset },
         Hand::Memory { address } => two(address, address),
     }
 }
@@ -140,16 +151,14 @@ pub fn looks(part: Part, h: Hand) -> Look
 pub fn sees(part: Part, es: u8, memory: u8, held: bool, falls: bool, closed: bool, pad: u8) -> Sight
     ensures { result ≡ sight (map_of part) es memory held falls closed pad }
 {
-    let last = last_address(part);
-    let end = pad_end(part, es);
     Sight {
-        memory: memory,
-        held: held,
-        falls: falls,
-        closed: closed,
-        pad: pad,
-        last: last,
-        end: end,
+        memory,
+        held,
+        falls,
+        closed,
+        pad,
+        last: last_address(part),
+        end: pad_end(part, es),
     }
 }
 
@@ -157,38 +166,35 @@ pub fn sees(part: Part, es: u8, memory: u8, held: bool, falls: bool, closed: boo
 pub fn sight(part: Part, es: u8, seen: Seen, h: Hand) -> Sight
     ensures { result ≡ sight_by (map_of part) es seen h }
 {
-    let first = seen.first;
-    let second = seen.second;
+    let Seen { first, second } = seen;
+    let nothing = sees(part, es, 0, false, false, false, 0);
     match h {
-        Hand::Nothing => sees(part, es, 0, false, false, false, 0),
-        Hand::Byte { address } => sees(
-            part,
-            es,
-            first,
-            is_held(part, address, first, second),
-            only_falls(part, address, second),
-            false,
-            0,
-        ),
-        Hand::Page { start } => sees(
-            part,
-            es,
-            0,
-            false,
-            false,
-            is_closed(part, start, first, second),
-            0,
-        ),
-        Hand::Pad { offset: _ } => sees(part, es, 0, false, false, false, first),
-        Hand::Memory { address: _ } => sees(part, es, first, false, false, false, 0),
+        Hand::Nothing => nothing,
+        Hand::Byte { address } => Sight {
+            memory: first,
+            held: is_held(part, address, first, second),
+            falls: only_falls(part, address, second),
+            ..nothing
+        },
+        Hand::Page { start } => Sight {
+            closed: is_closed(part, start, first, second),
+            ..nothing
+        },
+        Hand::Pad { .. } => Sight {
+            pad: first,
+            ..nothing
+        },
+        Hand::Memory { .. } => Sight {
+            memory: first,
+            ..nothing
+        },
     }
 }
 
 // How many offsets there are from T mod 32 to E.
+#[tactic(auto, unfolding(crate::specs::Memory::span_of))]
 pub fn span(t: u16, e: u8) -> u8
     ensures { result ≡ span_of t e }
 {
-    let first = (t % 32) as u8;
-    let end = e % 32 + 1;
-    if first < end { end - first } else { 0 }
+    (e % 32 + 1).saturating_sub((t % 32) as u8)
 }
