@@ -1,9 +1,15 @@
 -- The kinds by name: document 01's kinds 1 (DS28EC20) and 2 (DS2413), and what each has.
-use Rattle.std.specs.Prelude.{ℕ, Bool, true, eqb}
+use Rattle.std.specs.Prelude.{ℕ, Bool, true, eqb, Option, Some, None}
 use Rattle.base.specs.Pick.{pick}
+use Rattle.chip.specs.declared.kinds.Kind.{Kind}
+use Rattle.chip.specs.declared.kinds.Kind.TheVariants as kind
 use Rattle.rom.specs.declared.Knows.{Knows}
 use Rattle.memory.specs.declared.Part.{Part}
 use Rattle.memory.specs.declared.Part.TheVariants.{Ds28ec20}
+
+-- the kind of a number
+unfoldable pub named : ℕ → Option Kind
+named k = pick (eqb k 1) (Some kind.Ds28ec20) (pick (eqb k 2) (Some kind.Ds2413) None)
 
 -- "kind 1 or 2"
 unfoldable pub known_kind : ℕ → Bool
