@@ -14,7 +14,7 @@ use rom::RomStep;
 use scratchpad::{Deed, MemoryPhase, Registers};
 
 // The level of a chip, with what it needs to go on.
-#[derive(Clone, Copy)]
+#[derive(Clone, Copy, PartialEq, Eq)]
 pub enum Level {
     // until the next reset
     Waiting,
@@ -29,7 +29,8 @@ pub enum Level {
 }
 
 // A chip's record. The registers of T and E/S are a DS28EC20's, the latches and outside levels a DS2413's.
-#[derive(Clone, Copy)]
+// Stays a number: the kind, since a table from C may hold one that names no kind, which `range::is_in_range` finds.
+#[derive(Clone, Copy, PartialEq, Eq)]
 pub struct Chip {
     pub code: u64,
     pub kind: u8,
@@ -40,32 +41,30 @@ pub struct Chip {
 }
 
 // Where a slot leaves a chip, and what is to be done to its memory and scratchpad.
-#[derive(Clone, Copy)]
+#[derive(Clone, Copy, PartialEq, Eq)]
 pub struct ChipAfter {
     pub chip: Chip,
     pub deed: Deed,
 }
 
 // Which bytes a slot looks at.
+#[tactic(auto, unfolding(crate::specs::Chip::looks_of))]
 pub fn looks(c: Chip) -> Look
     ensures { result ≡ looks_of c }
 {
-    let level = c.level;
-    match level {
-        Level::Waiting => Look::Nothing,
-        Level::Rom(_) => Look::Nothing,
-        Level::FunctionCommand { count: _, bits: _ } => Look::Nothing,
+    match c.level {
         Level::Memory(phase) => parts::memory_looks(c, phase),
-        Level::Pio(_) => Look::Nothing,
+        Level::Waiting | Level::Rom(_) | Level::FunctionCommand { .. } | Level::Pio(_) =>
+            Look::Nothing,
     }
 }
 
 // Where a slot of the value v leaves a chip, by what it saw.
+#[tactic(auto, unfolding(crate::specs::Chip::takes_by))]
 pub fn takes_by(c: Chip, v: bool, seen: Seen) -> ChipAfter
     ensures { result ≡ takes_by c v seen }
 {
-    let level = c.level;
-    match level {
+    match c.level {
         Level::Waiting => parts::still(c),
         Level::Rom(step) => parts::still(parts::rom_slot(c, step, v)),
         Level::FunctionCommand { count, bits } => parts::function_slot(c, count, bits, v),
@@ -75,14 +74,13 @@ pub fn takes_by(c: Chip, v: bool, seen: Seen) -> ChipAfter
 }
 
 // The bit that a chip sends in a slot, by what it saw.
+#[tactic(auto, unfolding(crate::specs::Chip::sends_by))]
 pub fn sends_by(c: Chip, seen: Seen) -> bool
     ensures { result ≡ sends_by c seen }
 {
-    let level = c.level;
-    match level {
-        Level::Waiting => true,
+    match c.level {
+        Level::Waiting | Level::FunctionCommand { .. } => true,
         Level::Rom(step) => rom::sends(c.code, step),
-        Level::FunctionCommand { count: _, bits: _ } => true,
         Level::Memory(phase) => parts::memory_sends(c, phase, seen),
         Level::Pio(phase) => ds2413::sends(phase),
     }
@@ -95,11 +93,9 @@ pub fn takes(c: Chip, v: bool, m: &mut [u8], s: &mut [u8]) -> Chip
     let look = looks(c);
     let seen = memory::flat::fetch(look, m, s);
     let to = takes_by(c, v, seen);
-    let after = to.chip;
-    let deed = to.deed;
     let part = kinds::part_of(c.kind);
-    memory::flat::carry_out(part, deed, m, s);
-    after
+    memory::flat::carry_out(part, to.deed, m, s);
+    to.chip
 }
 
 // The bit that a chip sends in a slot.
@@ -115,68 +111,62 @@ pub fn sends(c: Chip, m: &[u8], s: &[u8]) -> bool
 pub fn registers_after_reset(c: Chip, level: Level) -> Registers
     ensures { result ≡ level_reset c level }
 {
-    let registers = c.registers;
     match level {
-        Level::Waiting => registers,
-        Level::Rom(_) => registers,
-        Level::FunctionCommand { count: _, bits: _ } => registers,
         Level::Memory(phase) => parts::memory_after_reset(c, phase),
-        Level::Pio(_) => registers,
+        Level::Waiting | Level::Rom(_) | Level::FunctionCommand { .. } | Level::Pio(_) =>
+            c.registers,
     }
 }
 
 // A reset.
+#[tactic(auto, unfolding(crate::specs::Chip::reset_chip))]
 pub fn reset(c: Chip) -> Chip
     ensures { result ≡ reset_chip c }
 {
-    let level = c.level;
-    let registers = registers_after_reset(c, level);
     Chip {
         level: Level::Rom(RomStep::Command { count: 0, bits: 0 }),
-        registers: registers,
+        registers: registers_after_reset(c, c.level),
         ..c
     }
 }
 
 // Power on, with what it does to the scratchpad.
+#[tactic(auto, unfolding(crate::specs::Chip::power_on_chip))]
 pub fn power_on(c: Chip, s: &mut [u8]) -> Chip
     ensures { (result ≡ power_on_chip c) × (s.new ≡ power_on_pad c.kind s.old) }
 {
     parts::fill_pad(c.kind, s);
-    let registers = parts::registers_after_power_on(c);
-    let switch = parts::switch_after_power_on(c);
     Chip {
         rc: false,
         level: Level::Waiting,
-        registers: registers,
-        switch: switch,
+        registers: parts::registers_after_power_on(c),
+        switch: parts::switch_after_power_on(c),
         ..c
     }
 }
 
 // New outside levels.
+#[tactic(auto, unfolding(crate::specs::Chip::outside_chip))]
 pub fn set_outside(c: Chip, outside: u8) -> Chip
     ensures { result ≡ outside_chip outside c }
 {
-    let switch = parts::switch_with_outside(c, outside);
     Chip {
-        switch: switch,
+        switch: parts::switch_with_outside(c, outside),
         ..c
     }
 }
 
 // A chip as set-up leaves it: as after power on, with every field written.
+#[tactic(auto, unfolding(crate::specs::Chip::set_up_chip))]
 pub fn set_up(code: u64, kind: u8) -> Chip
     ensures { result ≡ set_up_chip code kind }
 {
-    let registers = scratchpad::power_on();
-    let switch = ds2413::set_up();
     Chip {
-        code: code,
-        kind: kind,
+        code,
+        kind,
         rc: false,
         level: Level::Waiting,
-        registers: registers,
-        switch: switch,
+        registers: scratchpad::power_on(),
+        switch: ds2413::set_up(),
     }
 }

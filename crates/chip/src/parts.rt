@@ -36,16 +36,14 @@ pub fn level_of(next: RomNext) -> Level
 }
 
 // A slot at the ROM level.
+#[tactic(auto, using(base::specs::Rules::cases), unfolding(crate::specs::Chip::rom_slot))]
 pub fn rom_slot(c: Chip, step: RomStep, v: bool) -> Chip
     ensures { result ≡ rom_slot c step v }
 {
-    let knows = kinds::knows_of(c.kind);
-    let to = rom::takes(c.code, c.rc, v, knows, step);
-    let next = to.next;
-    let level = level_of(next);
+    let to = rom::takes(c.code, c.rc, v, kinds::knows_of(c.kind), step);
     Chip {
         rc: to.rc,
-        level: level,
+        level: level_of(to.next),
         ..c
     }
 }
@@ -54,17 +52,14 @@ pub fn rom_slot(c: Chip, step: RomStep, v: bool) -> Chip
 pub fn after_memory(c: Chip, to: MemoryAfter) -> ChipAfter
     ensures { result ≡ after_memory c to }
 {
-    let registers = to.registers;
-    let phase = to.phase;
-    let deed = to.deed;
-    let after = Chip {
-        level: Level::Memory(phase),
-        registers: registers,
+    let chip = Chip {
+        level: Level::Memory(to.phase),
+        registers: to.registers,
         ..c
     };
     ChipAfter {
-        chip: after,
-        deed: deed,
+        chip,
+        deed: to.deed,
     }
 }
 
@@ -72,11 +67,9 @@ pub fn after_memory(c: Chip, to: MemoryAfter) -> ChipAfter
 pub fn after_switch(c: Chip, to: SwitchAfter) -> Chip
     ensures { result ≡ after_switch c to }
 {
-    let switch = to.switch;
-    let phase = to.phase;
     Chip {
-        level: Level::Pio(phase),
-        switch: switch,
+        level: Level::Pio(to.phase),
+        switch: to.switch,
         ..c
     }
 }
@@ -85,150 +78,143 @@ pub fn after_switch(c: Chip, to: SwitchAfter) -> Chip
 pub fn memory_begins(c: Chip, b: u8) -> ChipAfter
     ensures { result ≡ after_memory c (memory_begins c.registers b) }
 {
-    let registers = c.registers;
-    let to = scratchpad::begins(registers, b);
-    after_memory(c, to)
+    after_memory(c, scratchpad::begins(c.registers, b))
 }
 
 // A function command of a switch.
 pub fn switch_begins(c: Chip, b: u8) -> Chip
     ensures { result ≡ after_switch c (switch_begins c.switch b) }
 {
-    let switch = c.switch;
-    let to = ds2413::begins(switch, b);
-    after_switch(c, to)
+    after_switch(c, ds2413::begins(c.switch, b))
 }
 
 // A function command, by the kind of the chip.
+#[tactic(auto, using(base::specs::Rules::cases), unfolding(crate::specs::Chip::function_in))]
 pub fn function_in(c: Chip, b: u8) -> ChipAfter
     ensures { result ≡ function_in c b }
 {
-    let kind = c.kind;
-    if kinds::has_memory(kind) {
-        return memory_begins(c, b);
+    if kinds::has_memory(c.kind) {
+        memory_begins(c, b)
+    } else if kinds::has_switch(c.kind) {
+        still(switch_begins(c, b))
+    } else {
+        still(Chip {
+            level: Level::Waiting,
+            ..c
+        })
     }
-    if kinds::has_switch(kind) {
-        return still(switch_begins(c, b));
-    }
-    still(Chip {
-        level: Level::Waiting,
-        ..c
-    })
 }
 
 // A bit of the function command.
+#[tactic(auto, using(base::specs::Rules::cases), unfolding(crate::specs::Chip::function_slot))]
 pub fn function_slot(c: Chip, count: u8, bits: u8, v: bool) -> ChipAfter
     ensures { result ≡ function_slot c count bits v }
 {
-    let b = bits.filled(v);
+    let bits = bits.filled(v);
     if count < 7 {
-        return still(Chip {
-            level: Level::FunctionCommand {
-                count: count + 1,
-                bits: b,
-            },
+        let count = count + 1;
+        still(Chip {
+            level: Level::FunctionCommand { count, bits },
             ..c
-        });
+        })
+    } else {
+        function_in(c, bits)
     }
-    function_in(c, b)
 }
 
 // What a memory looks at, at a phase.
+#[tactic(auto, using(base::specs::Rules::cases), unfolding(crate::specs::Chip::memory_look))]
 pub fn memory_looks(c: Chip, phase: MemoryPhase) -> Look
     ensures { result ≡ memory_look c phase }
 {
-    let registers = c.registers;
-    let part = kinds::part_of(c.kind);
-    let hand = scratchpad::at_hand(registers.t, phase);
-    memory::looks(part, hand)
+    let hand = scratchpad::at_hand(c.registers.t, phase);
+    memory::looks(kinds::part_of(c.kind), hand)
 }
 
 // What a memory sees, at a phase.
+#[tactic(auto, using(base::specs::Rules::cases), unfolding(crate::specs::Chip::memory_sight))]
 pub fn memory_sight(c: Chip, phase: MemoryPhase, seen: Seen) -> Sight
     ensures { result ≡ memory_sight c phase seen }
 {
-    let registers = c.registers;
-    let part = kinds::part_of(c.kind);
-    let hand = scratchpad::at_hand(registers.t, phase);
-    memory::sight(part, registers.es, seen, hand)
+    let hand = scratchpad::at_hand(c.registers.t, phase);
+    memory::sight(kinds::part_of(c.kind), c.registers.es, seen, hand)
 }
 
 // A slot at a phase of a memory.
+#[tactic(auto, using(base::specs::Rules::cases), unfolding(crate::specs::Chip::memory_slot))]
 pub fn memory_slot(c: Chip, phase: MemoryPhase, v: bool, seen: Seen) -> ChipAfter
     ensures { result ≡ memory_slot c phase v seen }
 {
-    let registers = c.registers;
     let see = memory_sight(c, phase, seen);
-    let to = scratchpad::takes(registers, v, see, phase);
-    after_memory(c, to)
+    after_memory(c, scratchpad::takes(c.registers, v, see, phase))
 }
 
 // What a memory sends in a slot at a phase.
 pub fn memory_sends(c: Chip, phase: MemoryPhase, seen: Seen) -> bool
     ensures { result ≡ memory_sends c.registers (memory_sight c phase seen) phase }
 {
-    let registers = c.registers;
     let see = memory_sight(c, phase, seen);
-    scratchpad::sends(registers, see, phase)
+    scratchpad::sends(c.registers, see, phase)
 }
 
 // A slot at a phase of a DS2413.
+#[tactic(auto, using(base::specs::Rules::cases), unfolding(crate::specs::Chip::switch_slot))]
 pub fn switch_slot(c: Chip, phase: SwitchPhase, v: bool) -> Chip
     ensures { result ≡ switch_slot c phase v }
 {
-    let switch = c.switch;
-    let to = ds2413::takes(switch, v, phase);
-    after_switch(c, to)
+    after_switch(c, ds2413::takes(c.switch, v, phase))
 }
 
 // T and E/S of a memory after a reset at a phase.
 pub fn memory_after_reset(c: Chip, phase: MemoryPhase) -> Registers
     ensures { result ≡ memory_reset c.registers (chip_map c).cut_sets_pf phase }
 {
-    let registers = c.registers;
-    let part = kinds::part_of(c.kind);
-    let cut = memory::cut_sets_pf(part);
-    scratchpad::reset(registers, cut, phase)
+    let cut = memory::cut_sets_pf(kinds::part_of(c.kind));
+    scratchpad::reset(c.registers, cut, phase)
 }
 
 // T and E/S after power on, of a kind that has them.
+#[tactic(auto, using(base::specs::Rules::cases))]
 pub fn registers_after_power_on(c: Chip) -> Registers
     ensures { result ≡ pick (has_registers c.kind) power_on_registers c.registers }
 {
-    let registers = c.registers;
     if kinds::has_registers(c.kind) {
-        return scratchpad::power_on();
+        scratchpad::power_on()
+    } else {
+        c.registers
     }
-    registers
 }
 
 // The latches after power on, of a kind that has them.
+#[tactic(auto, using(base::specs::Rules::cases))]
 pub fn switch_after_power_on(c: Chip) -> Switch
     ensures { result ≡ pick (has_switch c.kind) (switch_power_on c.switch) c.switch }
 {
-    let switch = c.switch;
     if kinds::has_switch(c.kind) {
-        return ds2413::power_on(switch);
+        ds2413::power_on(c.switch)
+    } else {
+        c.switch
     }
-    switch
 }
 
 // The switch with new outside levels, of a kind that takes them.
+#[tactic(auto, using(base::specs::Rules::cases))]
 pub fn switch_with_outside(c: Chip, outside: u8) -> Switch
     ensures { result ≡ pick (takes_outside c.kind) (switch_outside outside c.switch) c.switch }
 {
-    let switch = c.switch;
     if kinds::takes_outside(c.kind) {
-        return ds2413::set_outside(switch, outside);
+        ds2413::set_outside(c.switch, outside)
+    } else {
+        c.switch
     }
-    switch
 }
 
 // The scratchpad after power on, of a kind that has one.
+#[tactic(auto, using(base::specs::Rules::cases), unfolding(crate::specs::Chip::power_on_pad))]
 pub fn fill_pad(kind: u8, s: &mut [u8])
     ensures { s.new ≡ power_on_pad kind s.old }
 {
     if kinds::has_scratchpad(kind) {
-        base::fill(s, 0xFF);
+        s.fill(0xFF);
     }
 }
