@@ -11,7 +11,7 @@ use Rattle.intelhex.specs.Bytes.{is_digit, sum_of}
 use Rattle.intelhex.specs.Written.{line_feed}
 use Rattle.intelhex.specs.Lines.{before, carriage_return, without_return, standing, all_digits, form_of, count_in, address_in, type_in, is_bad_end, is_above, judged}
 use Rattle.intelhex.specs.Ends.{colon_some, ended_at, unended, digits_all}
-use Rattle.intelhex.specs.declared.Fault.TheVariants.{NoColon, NoDigit, OddDigits, FewBytes}
+use Rattle.intelhex.specs.declared.Fault.TheVariants.{NoColon, NoDigit, OddDigits, FewBytes, WrongCount, EndNotZero, CheckByte, UnknownType, AboveImage}
 use Rattle.intelhex.specs.declared.lines.Standing.{Standing}
 use Rattle.intelhex.specs.declared.lines.Standing.TheVariants.{Nothing, Unended, Endless, Line}
 use Rattle.intelhex.specs.declared.record.Judged.{Judged}
@@ -178,17 +178,51 @@ record_fits bytes =
     tt))
     (λ l. tt)
 
--- a data record, by what was found of it
-pub data_judged : (bytes : List ℕ) (count address kind sum : ℕ) (bad above : Bool) → count ≡ count_in bytes → address ≡ address_in bytes → kind ≡ type_in bytes → length bytes ≡ count + 5
-    → bad ≡ is_bad_end kind count address → bad ≡ false → sum ≡ sum_of bytes → sum ≡ 0 → (kind ≢ 1) → kind ≡ 0 → above ≡ is_above count address → above ≡ false
-    → Ok (judged-as.Data address count) ≡ judged bytes
-unfolding judged
-data_judged bytes count address kind sum bad above c a k l b b' s s' one zero v v' =
-    (λ j. Ok (judged-as.Data (a j) (c j)))
-    ∙ sym (
-    pick_true _ _ _ (eq-eqb (length bytes) (count_in bytes + 5) (l ∙ ap (λ (n : ℕ). n + 5) c))
-    ∙ pick_false _ _ _ ((λ j. is_bad_end (sym k j) (sym c j) (sym a j)) ∙ sym b ∙ b')
-    ∙ pick_true _ _ _ (eq-eqb (sum_of bytes) 0 (sym s ∙ s'))
-    ∙ pick_false _ _ _ (ne_eqb (type_in bytes) 1 (λ e. one (k ∙ e)))
-    ∙ pick_true _ _ _ (eq-eqb (type_in bytes) 0 (sym k ∙ zero))
-    ∙ pick_false _ _ _ ((λ j. is_above (sym c j) (sym a j)) ∙ sym v ∙ v'))
+-- a record, by what was found of it
+module _ (bytes : List ℕ) where
+  pub judged_miscounted : (length bytes ≢ count_in bytes + 5) → Err WrongCount ≡ judged bytes
+  unfolding judged
+  judged_miscounted n = sym (pick_false _ _ _ (ne_eqb (length bytes) (count_in bytes + 5) n))
+
+  module _ (address : ℕ) (a : address ≡ address_in bytes) (l : length bytes ≡ count_in bytes + 5) (bad : Bool) (b : bad ≡ is_bad_end (type_in bytes) (count_in bytes) address) where
+    counted : length bytes == count_in bytes + 5 ≡ true
+    counted = eq-eqb (length bytes) (count_in bytes + 5) l
+
+    ended : is_bad_end (type_in bytes) (count_in bytes) (address_in bytes) ≡ bad
+    ended = (λ j. is_bad_end (type_in bytes) (count_in bytes) (sym a j)) ∙ sym b
+
+    pub judged_bad_end : bad ≡ true → Err EndNotZero ≡ judged bytes
+    unfolding judged
+    judged_bad_end t = sym (pick_true _ _ _ counted ∙ pick_true _ _ _ (ended ∙ t))
+
+    module _ (f : bad ≡ false) (sum : ℕ) (s : sum ≡ sum_of bytes) where
+      pub judged_unsummed : (sum ≢ 0) → Err CheckByte ≡ judged bytes
+      unfolding judged
+      judged_unsummed n = sym (pick_true _ _ _ counted ∙ pick_false _ _ _ (ended ∙ f) ∙ pick_false _ _ _ (ne_eqb (sum_of bytes) 0 (λ z. n (s ∙ z))))
+
+      module _ (z : sum ≡ 0) where
+        summed : (j : Result Judged Fault)
+            → j ≡ pick (type_in bytes == 1) (Ok judged-as.End)
+            (pick (type_in bytes == 0) (pick (is_above (count_in bytes) (address_in bytes)) (Err AboveImage) (Ok (judged-as.Data (address_in bytes) (count_in bytes)))) (Err UnknownType))
+            → j ≡ judged bytes
+        unfolding judged
+        summed j e = e ∙ sym (pick_true _ _ _ counted ∙ pick_false _ _ _ (ended ∙ f) ∙ pick_true _ _ _ (eq-eqb (sum_of bytes) 0 (sym s ∙ z)))
+
+        pub judged_end : type_in bytes ≡ 1 → Ok judged-as.End ≡ judged bytes
+        judged_end t = summed _ (sym (pick_true _ _ _ (eq-eqb (type_in bytes) 1 t)))
+
+        pub judged_unknown : (type_in bytes ≢ 0) → (type_in bytes ≢ 1) → Err UnknownType ≡ judged bytes
+        judged_unknown m n = summed _ (sym (pick_false _ _ _ (ne_eqb (type_in bytes) 1 n) ∙ pick_false _ _ _ (ne_eqb (type_in bytes) 0 m)))
+
+        module _ (t : type_in bytes ≡ 0) (above : Bool) (v : above ≡ is_above (count_in bytes) address) where
+          lies : is_above (count_in bytes) (address_in bytes) ≡ above
+          lies = (λ j. is_above (count_in bytes) (sym a j)) ∙ sym v
+
+          typed : (j : Result Judged Fault) → j ≡ pick (is_above (count_in bytes) (address_in bytes)) (Err AboveImage) (Ok (judged-as.Data (address_in bytes) (count_in bytes))) → j ≡ judged bytes
+          typed j e = summed j (e ∙ sym (pick_false _ _ _ (ne_eqb (type_in bytes) 1 (λ o. omega arith)) ∙ pick_true _ _ _ (eq-eqb (type_in bytes) 0 t)))
+
+          pub judged_above : above ≡ true → Err AboveImage ≡ judged bytes
+          judged_above q = typed _ (sym (pick_true _ _ _ (lies ∙ q)))
+
+          pub judged_data : above ≡ false → Ok (judged-as.Data address (count_in bytes)) ≡ judged bytes
+          judged_data q = (λ j. Ok (judged-as.Data (a j) (count_in bytes))) ∙ typed _ (sym (pick_false _ _ _ (lies ∙ q)))

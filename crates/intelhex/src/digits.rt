@@ -3,6 +3,7 @@ ghost use Rattle.std.specs.Prelude.{◌≡◌};
 ghost use Rattle.intelhex.specs.Bytes.{is_digit, worth, byte_of, sum_of, check_of};
 
 // A character is a hex digit, of either case.
+#[tactic(auto, unfolding(crate::specs::Bytes::is_digit, crate::specs::Bytes::between, base::specs::Bits::both, base::specs::Pick::pick))]
 pub fn is_digit(c: u8) -> bool
     ensures { result ≡ is_digit c }
 {
@@ -10,6 +11,8 @@ pub fn is_digit(c: u8) -> bool
 }
 
 // What a hex digit is worth, 0 for any other character.
+// Stays without an `Option`: the definition `worth` gives 0 there too, and `decode` asks it of digits alone.
+#[tactic(auto, unfolding(crate::specs::Bytes::worth, crate::specs::Bytes::between, base::specs::Bits::both, base::specs::Pick::pick))]
 fn worth_of(c: u8) -> u8
     ensures { result ≡ worth c }
 {

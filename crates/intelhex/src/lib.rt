@@ -84,6 +84,7 @@ pub struct Taken {
 }
 
 // The number of a refusal.
+// Stays in place of a `From<Fault> for u8`: the theorem `intelhex_number_of` of `coincide` speaks of this function.
 pub fn number_of(f: Fault) -> u8
     ensures { result ≡ number_of_fault f }
 {

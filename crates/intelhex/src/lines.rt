@@ -32,6 +32,7 @@ fn before_end(text: &[u8]) -> Option<usize>
 }
 
 // How many characters a line has, of so many before its LF: a CR right before the LF belongs to the line's end.
+#[tactic(auto, unfolding(crate::specs::Lines::without_return, base::specs::Pick::pick))]
 fn without_return(text: &[u8], n: usize) -> usize
     ensures { result ≡ without_return text.now n }
 {

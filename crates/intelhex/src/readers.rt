@@ -43,17 +43,13 @@ fn take_record(bytes: &[u8], size: usize, image: &mut [u8]) -> Result<Turn, Faul
 }
 
 // A line's turn.
-fn take_line(
-    line: &[u8],
-    size: usize,
-    bytes: &mut [u8; RECORD_MOST],
-    image: &mut [u8],
-) -> Result<Turn, Fault>
+fn take_line(line: &[u8], size: usize, image: &mut [u8]) -> Result<Turn, Fault>
     requires { length line.now ≤ 522 }
     ensures { turned result image.new ≡ turned_by image.old (next_in size line.now (form_of line.now)) }
 {
     let n = record::form_of(line)?;
-    record::decode(&line[1..], bytes);
+    let mut bytes = [0u8; RECORD_MOST];
+    record::decode(&line[1..], &mut bytes);
     take_record(&bytes[..n], size, image)
 }
 
@@ -65,19 +61,14 @@ fn awaited(more: bool, fault: Fault) -> Result<Ending, Fault>
 }
 
 // The turn of a text before its end record.
-fn take_before(
-    text: &[u8],
-    more: bool,
-    bytes: &mut [u8; RECORD_MOST],
-    image: &mut [u8],
-) -> Result<Turn, Fault>
+fn take_before(text: &[u8], more: bool, image: &mut [u8]) -> Result<Turn, Fault>
     ensures { turned result image.new ≡ turned_by image.old (next_of more text.now (standing text.now)) }
 {
     match lines::standing_in(text) {
         Standing::Nothing => Ok(Turn::Stop(awaited(more, Fault::NoEndRecord)?)),
         Standing::Unended => Ok(Turn::Stop(awaited(more, Fault::NoLineEnd)?)),
         Standing::Endless => Err(Fault::TooLong),
-        Standing::Line { characters, size } => take_line(&text[..characters], size, bytes, image),
+        Standing::Line { characters, size } => take_line(&text[..characters], size, image),
     }
 }
 
@@ -95,31 +86,24 @@ fn end_after(text: &[u8], more: bool) -> Result<Ending, Fault>
 }
 
 // The turn of a text.
-fn take_next(
-    over: bool,
-    text: &[u8],
-    more: bool,
-    bytes: &mut [u8; RECORD_MOST],
-    image: &mut [u8],
-) -> Result<Turn, Fault>
+fn take_next(over: bool, text: &[u8], more: bool, image: &mut [u8]) -> Result<Turn, Fault>
     ensures { turned result image.new ≡ turned_by image.old (next over more text.now) }
 {
     if over {
         return Ok(Turn::Stop(end_after(text, more)?));
     }
-    take_before(text, more, bytes, image)
+    take_before(text, more, image)
 }
 
 // All lines of what is there of a text, put into an image.
 fn read_all(over: bool, text: &[u8], more: bool, image: &mut [u8]) -> Taken
     ensures { went result.ending result.at result.lines result.over image.new ≡ went_by image.old (lines_of more over text.now) }
 {
-    let mut bytes = [0u8; RECORD_MOST];
     let mut at: usize = 0;
     let mut lines: usize = 0;
     let mut past = over;
     loop {
-        match take_next(past, &text[at..], more, &mut bytes, image) {
+        match take_next(past, &text[at..], more, image) {
             Ok(Turn::On { size, over }) => {
                 at += size;
                 lines += 1;

@@ -3,7 +3,7 @@ ghost use Rattle.std.specs.Prelude.{◌≡◌, ◌/◌, ◌≤◌, length};
 ghost use Rattle.std.proofs.lemmas.List.Edits.{sets};
 ghost use Rattle.std.specs.List.{list_all};
 ghost use Rattle.intelhex.specs.Bytes.{is_digit, bytes_of};
-ghost use Rattle.intelhex.specs.Lines.{form_of, address_in, is_bad_end, is_above, judged};
+ghost use Rattle.intelhex.specs.Lines.{form_of, is_bad_end, is_above, judged};
 
 use crate::{Fault, digits};
 
@@ -55,14 +55,8 @@ pub fn decode(digits: &[u8], bytes: &mut [u8])
     }
 }
 
-// The address that a record gives.
-fn address_in(bytes: &[u8]) -> u16
-    ensures { result ≡ address_in bytes.now }
-{
-    256 * (base::byte_at(bytes, 1) as u16) + (base::byte_at(bytes, 2) as u16)
-}
-
 // An end record whose count or address is not 0.
+#[tactic(auto, unfolding(crate::specs::Lines::is_bad_end, base::specs::Bits::both, base::specs::Pick::pick))]
 fn is_bad_end(record_type: u8, count: u8, address: u16) -> bool
     ensures { result ≡ is_bad_end record_type count address }
 {
@@ -70,6 +64,7 @@ fn is_bad_end(record_type: u8, count: u8, address: u16) -> bool
 }
 
 // One of so many data bytes has an address above the last.
+#[tactic(auto, unfolding(crate::specs::Lines::is_above, base::specs::Pick::pick))]
 fn is_above(count: u8, address: u16) -> bool
     ensures { result ≡ is_above count address }
 {
@@ -80,9 +75,10 @@ fn is_above(count: u8, address: u16) -> bool
 pub fn judge(bytes: &[u8]) -> Result<Judged, Fault>
     ensures { result ≡ judged bytes.now }
 {
-    let count = base::byte_at(bytes, 0);
-    let address = address_in(bytes);
-    let record_type = base::byte_at(bytes, 3);
+    let [count, high, low, record_type, ..] = *bytes else {
+        return Err(Fault::WrongCount);
+    };
+    let address = u16::from_be_bytes([high, low]);
     if bytes.len() != (count as usize) + 5 {
         return Err(Fault::WrongCount);
     }
@@ -92,14 +88,10 @@ pub fn judge(bytes: &[u8]) -> Result<Judged, Fault>
     if digits::sum_of(bytes) != 0 {
         return Err(Fault::CheckByte);
     }
-    if record_type == 1 {
-        return Ok(Judged::End);
+    match record_type {
+        0 if is_above(count, address) => Err(Fault::AboveImage),
+        0 => Ok(Judged::Data { address, count }),
+        1 => Ok(Judged::End),
+        _ => Err(Fault::UnknownType),
     }
-    if record_type != 0 {
-        return Err(Fault::UnknownType);
-    }
-    if is_above(count, address) {
-        return Err(Fault::AboveImage);
-    }
-    Ok(Judged::Data { address, count })
 }

@@ -1,32 +1,38 @@
-use Rattle.base.specs.Rules.{cases}
-use Rattle.intelhex.specs.Lines.{judged}
-use Rattle.intelhex.specs.Sound.{data_judged}
-use Rattle.std.proofs.Common.{rules}
+use Rattle.std.proofs.Common.{arith, rules}
+use Rattle.intelhex.specs.Sound.{judged_miscounted, judged_bad_end, judged_unsummed, judged_end, judged_unknown, judged_above, judged_data}
 use Rattle.intelhex.proofs.record.judge.Goals as goal
 
+pub returns-in_default : goal.returns-in_default
+returns-in_default c = judged_miscounted _ (λ e. let h = c.in_default.len_below in omega arith)
+
 pub returns-then-bytes-count : goal.returns-then-bytes-count
-unfolding judged
-returns-then-bytes-count c = search (cases, ← c.byte_at-count.ensures, ← c.address_in-address.ensures, ← c.byte_at-record_type.ensures)
+returns-then-bytes-count c = judged_miscounted _ c.if-bytes-count.true
 
 pub returns-then-is_bad_end : goal.returns-then-is_bad_end
-unfolding judged
-returns-then-is_bad_end c = search (cases, ← c.byte_at-count.ensures, ← c.address_in-address.ensures, ← c.byte_at-record_type.ensures, ← c.is_bad_end.ensures)
+returns-then-is_bad_end c =
+    let a = c.from_be_bytes-address.ensures in judged_bad_end _ _ (omega arith) c.if-bytes-count.false _ c.is_bad_end.ensures c.if-is_bad_end.true
 
 pub returns-then-sum_of-ne0 : goal.returns-then-sum_of-ne0
-unfolding judged
-returns-then-sum_of-ne0 c = search (cases, ← c.byte_at-count.ensures, ← c.address_in-address.ensures, ← c.byte_at-record_type.ensures, ← c.sum_of.ensures, ← c.is_bad_end.ensures)
+returns-then-sum_of-ne0 c =
+    let a = c.from_be_bytes-address.ensures in
+    judged_unsummed _ _ (omega arith) c.if-bytes-count.false _ c.is_bad_end.ensures c.if-is_bad_end.false _ c.sum_of.ensures c.if-sum_of-ne0.true
 
-pub returns-then-record_type-eq1 : goal.returns-then-record_type-eq1
-unfolding judged
-returns-then-record_type-eq1 c = search (cases, ← c.byte_at-count.ensures, ← c.address_in-address.ensures, ← c.byte_at-record_type.ensures, ← c.sum_of.ensures, ← c.is_bad_end.ensures)
+pub returns-in-0 : goal.returns-in-0
+returns-in-0 c =
+    let a = c.from_be_bytes-address.ensures in
+    judged_above _ _ (omega arith) c.if-bytes-count.false _ c.is_bad_end.ensures c.if-is_bad_end.false _ c.sum_of.ensures c.if-sum_of-ne0.false c.in-0.is _ c.is_above.ensures c.if-is_above.true
 
-pub returns-then-record_type-ne0 : goal.returns-then-record_type-ne0
-unfolding judged
-returns-then-record_type-ne0 c = search (cases, ← c.byte_at-count.ensures, ← c.address_in-address.ensures, ← c.byte_at-record_type.ensures, ← c.sum_of.ensures, ← c.is_bad_end.ensures)
+pub returns-in-0-2 : goal.returns-in-0-2
+returns-in-0-2 c =
+    let a = c.from_be_bytes-address.ensures in
+    judged_data _ _ (omega arith) c.if-bytes-count.false _ c.is_bad_end.ensures c.if-is_bad_end.false _ c.sum_of.ensures c.if-sum_of-ne0.false c.in-0.is _ c.is_above.ensures c.if-is_above.false
 
-pub returns-then-is_above : goal.returns-then-is_above
-unfolding judged
-returns-then-is_above c = search (cases, ← c.byte_at-count.ensures, ← c.address_in-address.ensures, ← c.byte_at-record_type.ensures, ← c.is_above.ensures, ← c.sum_of.ensures, ← c.is_bad_end.ensures)
+pub returns-in-1 : goal.returns-in-1
+returns-in-1 c =
+    let a = c.from_be_bytes-address.ensures in
+    judged_end _ _ (omega arith) c.if-bytes-count.false _ c.is_bad_end.ensures c.if-is_bad_end.false _ c.sum_of.ensures c.if-sum_of-ne0.false c.in-1.is
 
-pub returns : goal.returns
-returns c = data_judged c.args.bytes.now _ _ _ _ _ _ c.byte_at-count.ensures c.address_in-address.ensures c.byte_at-record_type.ensures (search rules) c.is_bad_end.ensures (search rules) c.sum_of.ensures (search rules) (search rules) (search rules) c.is_above.ensures (search rules)
+pub returns-in_default-record_type : goal.returns-in_default-record_type
+returns-in_default-record_type c =
+    let a = c.from_be_bytes-address.ensures in
+    judged_unknown _ _ (omega arith) c.if-bytes-count.false _ c.is_bad_end.ensures c.if-is_bad_end.false _ c.sum_of.ensures c.if-sum_of-ne0.false (search rules) (search rules)
