@@ -1,6 +1,7 @@
 -- The lent form and the plain form agree: a table by value with the places Z past its chips, and the chips alone as a lent
 -- slice, come to the same by every event, by every search and by every card, and the places Z stay.
-use Rattle.std.specs.Prelude.{ℕ, ◌≡◌, refl, length, drop, Result}
+use Rattle.std.specs.Prelude.{ℕ, ◌≡◌, refl, length, drop, Result, Bool}
+use Rattle.line.specs.declared.Refusal.{Refusal}
 use Rattle.std.proofs.Common.{arith, ◌∙◌}
 use mathlib.Core.List.{List, ◌++◌, append_assoc}
 use Rattle.std.proofs.Math.Path.{ap, sym}
@@ -9,7 +10,6 @@ use Rattle.chip.specs.declared.Chip.{Chip}
 use Rattle.line.specs.Event.{answered, Outcome, outcome, event_of}
 use Rattle.line.specs.Layout.{lent, capped}
 use Rattle.line.specs.Prefix.{with_rest, event_rest}
-use Rattle.line.specs.declared.Answer.{Answer}
 use Rattle.line.specs.declared.Event.{Event}
 use Rattle.card.specs.Card.{carded, Read, all, none, read_from, SetUp, set_up, from_read, set_up_of}
 use Rattle.card.specs.declared.Refused.{Refused}
@@ -24,7 +24,7 @@ use Rattle.coincide.specs.Searched.{searched_once}
 
 module _ (cs Z : List Chip) where
   -- what `line::take_event` leaves of a table, and `lent::take_event` of its chips
-  pub event_agrees : (e : Event) (ms ss : List ℕ) (a b : Answer) (n : ℕ) (ds ks : List Chip) (is ps js qs : List ℕ)
+  pub event_agrees : (e : Event) (ms ss : List ℕ) (a b : Result Bool Refusal) (n : ℕ) (ds ks : List Chip) (is ps js qs : List ℕ)
       → outcome (answered a) n (lent ds is ps) ≡ event_of (length cs) (cs ++ Z) e ms ss
       → outcome (answered b) (length ks) (lent ks js qs) ≡ event_of (length cs) cs e ms ss
       → (a ≡ b) × (n ≡ length ks) × (ds ≡ ks ++ Z) × (is ≡ js) × (ps ≡ qs)

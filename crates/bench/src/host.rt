@@ -1,7 +1,7 @@
 // The host at the terminal: what it does on a line, and what it writes out of that.
 use crate::text;
 use base::Register;
-use line::{Answer, Event, Table};
+use line::{Event, Refusal, Table};
 use std::io::Stdout;
 
 // One thing that the host does: nothing, an event but for slots, eight slots that write a byte, a byte read, or a slot read.
@@ -16,10 +16,10 @@ pub enum Action {
 }
 
 // Writes out a refusal, where an event was refused.
-fn say_refusal(out: Stdout, answer: Answer) {
+fn say_refusal(out: Stdout, answer: Result<bool, Refusal>) {
     match answer {
-        Answer::Bit(_) => {}
-        Answer::Refused(r) => text::refused(out, line::number_of(r) as u64),
+        Ok(_) => {}
+        Err(r) => text::refused(out, line::number_of(r) as u64),
     }
 }
 

@@ -1,6 +1,7 @@
 -- The plain form: a table by value. A call is one of `line::take_event`, of `search::search_line` or of `line::take_slots`, with an outcome that its
 -- own contract permits.
-use Rattle.std.specs.Prelude.{ℕ, Bool, true, false, List, ◌≡◌, refl}
+use Rattle.std.specs.Prelude.{ℕ, Bool, true, false, List, ◌≡◌, refl, Result, Ok, Err}
+use Rattle.line.specs.declared.Refusal.{Refusal}
 use Rattle.std.proofs.Common.{◌∙◌, ap, sym}
 use contract.Lifetimes.{Lfts}
 use Rattle.std.specs.Borrow.{Bor, MutBor}
@@ -11,14 +12,8 @@ use Rattle.chip.specs.declared.Chip.{Chip}
 use Rattle.line.specs.Event.{Answered, answered, Outcome, outcome, plan_of, done_of, event_of}
 use Rattle.line.specs.Slots.{slotted, run_outcome, run_verdict, run_by, slots_of}
 use Rattle.line.specs.declared.Event.{Event}
-use Rattle.line.specs.declared.Answer.{Answer}
-use Rattle.line.specs.declared.Answer.TheVariants as answer
-use Rattle.line.specs.declared.SlotsAnswer.{SlotsAnswer}
-use Rattle.line.specs.declared.SlotsAnswer.TheVariants as slots
 use Rattle.line.specs.declared.Plan.{Plan}
 use Rattle.line.specs.declared.Plan.TheVariants as plan
-use Rattle.line.specs.declared.Verdict.{Verdict}
-use Rattle.line.specs.declared.Verdict.TheVariants as verdict
 use Rattle.line.specs.declared.Table.{Table}
 use Rattle.line.specs.contracts.take_event as take-event
 use Rattle.line.proofs.take_event.Reads as take-event-reads
@@ -46,7 +41,7 @@ pub record PermitsEvent (e : Event) (l : Attached) (a : Answered) (k : Attached)
   pub pads : MutBor (List ℕ)
   pub from_images : images.now ≡ l.lent.images
   pub from_pads : pads.now ≡ l.lent.pads
-  pub answer : Answer
+  pub answer : Result Bool Refusal
   pub permits : take-event-reads.Learnt κs (table_of l, (e, (images, (pads, tt)))) (record { answer = answer; table = table_of k })
       (at_exit take-event.ended κs (table_of l, (e, (images, (pads, tt)))) (tt, (tt, (k.lent.images, (k.lent.pads, tt)))))
   pub tells : a ≡ answered answer
@@ -95,7 +90,7 @@ pub record PermitsSlots (n : ℕ) (bits out : List ℕ) (l : Attached) (a : Told
   pub from_answers : answers.now ≡ out
   pub from_images : images.now ≡ l.lent.images
   pub from_pads : pads.now ≡ l.lent.pads
-  pub answer : SlotsAnswer
+  pub answer : Result ℕ Refusal
   pub permits : take-slots-reads.Learnt κs (table_of l, (host, (n, (answers, (images, (pads, tt)))))) (record { answer = answer; table = table_of k })
       (at_exit take-slots.ended κs (table_of l, (host, (n, (answers, (images, (pads, tt)))))) (tt, (tt, (tt, (a.answers, (k.lent.images, (k.lent.pads, tt)))))))
   pub tells : a.answer ≡ slotted answer
@@ -128,25 +123,25 @@ plain = record {
 }
 
 -- the answer that an event comes to, and those of a search and of a run
-answer-for : (p : Plan) (n : ℕ) (cs : List Chip) (ms ss : List ℕ) → (a : Answer) × (answered a ≡ (done_of p n cs ms ss).answer)
-answer-for (plan.Refused r) n cs ms ss = (answer.Refused r, refl)
-answer-for (plan.Slot b) n cs ms ss = (answer.Bit _, refl)
-answer-for plan.Reset n cs ms ss = (answer.Bit _, refl)
-answer-for plan.PowerOn n cs ms ss = (answer.Bit true, refl)
-answer-for (plan.Outside i x) n cs ms ss = (answer.Bit true, refl)
+answer-for : (p : Plan) (n : ℕ) (cs : List Chip) (ms ss : List ℕ) → (a : Result Bool Refusal) × (answered a ≡ (done_of p n cs ms ss).answer)
+answer-for (plan.Refused r) n cs ms ss = (Err r, refl)
+answer-for (plan.Slot b) n cs ms ss = (Ok _, refl)
+answer-for plan.Reset n cs ms ss = (Ok _, refl)
+answer-for plan.PowerOn n cs ms ss = (Ok true, refl)
+answer-for (plan.Outside i x) n cs ms ss = (Ok true, refl)
 
 complete_for : (b : Bool) → (a : SearchAnswer) × (searched a ≡ complete_or4 b)
 unfolding pick
 complete_for true = (search.Complete, refl)
 complete_for false = (search.TooFewPlaces, refl)
 
-search_for : (v : Verdict) (list : List ℕ) (l : Attached) → (a : SearchAnswer) × (searched a ≡ (search_by v list l).answer)
-search_for verdict.Well list l = complete_for _
-search_for (verdict.Refused r) list l = (search.Refused r, refl)
+search_for : (v : Result (Unit {0}) Refusal) (list : List ℕ) (l : Attached) → (a : SearchAnswer) × (searched a ≡ (search_by v list l).answer)
+search_for (Ok tt) list l = complete_for _
+search_for (Err r) list l = (search.Refused r, refl)
 
-slots_for : (v : Verdict) (n : ℕ) (cs : List Chip) (m : ℕ) (bits out ms ss : List ℕ) → (a : SlotsAnswer) × (slotted a ≡ (run_by v n cs m bits out ms ss).answer)
-slots_for verdict.Well n cs m bits out ms ss = (slots.Put _, refl)
-slots_for (verdict.Refused r) n cs m bits out ms ss = (slots.Refused r, refl)
+slots_for : (v : Result (Unit {0}) Refusal) (n : ℕ) (cs : List Chip) (m : ℕ) (bits out ms ss : List ℕ) → (a : Result ℕ Refusal) × (slotted a ≡ (run_by v n cs m bits out ms ss).answer)
+slots_for (Ok tt) n cs m bits out ms ss = (Ok _, refl)
+slots_for (Err r) n cs m bits out ms ss = (Err r, refl)
 
 -- THEOREM: every call has an outcome that its contract permits, whatever is lent and however long it lives
 pub some_event : Lfts 2 → (e : Event) (l : Attached) → PermitsEvent e l (says_of e l) (leaves_of e l)

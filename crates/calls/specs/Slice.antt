@@ -1,6 +1,7 @@
 -- The lent form: a slice of chips behind `&mut`. A call is one of `lent::take_event` or of `lent::search_line`, with an outcome that its own
 -- contract permits. Such a contract is a promise over memory; what a caller learns of it is each fact that it comes to.
-use Rattle.std.specs.Prelude.{ℕ, List, ◌≡◌, length}
+use Rattle.std.specs.Prelude.{ℕ, List, ◌≡◌, length, Result, Bool}
+use Rattle.line.specs.declared.Refusal.{Refusal}
 use Rattle.std.proofs.Common.{◌∙◌, ap}
 use seplogic.Ra.Ura.{Ura}
 use base.Logic.{SProp, ent, id⊢}
@@ -15,7 +16,6 @@ use Rattle.chip.specs.declared.Chip.{Chip}
 use Rattle.line.specs.Layout.{Lent}
 use Rattle.line.specs.Event.{Answered, answered, Outcome, outcome, event_of}
 use Rattle.line.specs.declared.Event.{Event}
-use Rattle.line.specs.declared.Answer.{Answer}
 use Rattle.lent.specs.contracts.take_event as take-event
 use Rattle.lent.specs.contracts.search_line as search-line
 use Rattle.lent.specs.declared.Told.{Told as Returned}
@@ -48,7 +48,7 @@ pub record PermitsEvent (e : Event) (x : Lent) (a : Answered) (y : Lent) : Type 
   pub from_images : images.now ≡ x.images
   pub from_pads : pads.now ≡ x.pads
   pub ghost : (take-event.clauses world.𝓛 world.memory world.routines κs (chips, (e, (images, (pads, tt))))).ghost
-  pub answer : Answer
+  pub answer : Result Bool Refusal
   pub permits : Learnt world
       ((take-event.clauses world.𝓛 world.memory world.routines κs (chips, (e, (images, (pads, tt))))).ensures ghost answer
       (at_exit take-event.ended κs (chips, (e, (images, (pads, tt)))) (y.chips, (tt, (y.images, (y.pads, tt))))))

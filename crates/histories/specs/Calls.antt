@@ -1,12 +1,12 @@
 -- Calls: events, searches and runs of slots, one after the other, on a table with its buffers. A host leaves a table as the history of
 -- its events does, and so does a run, so calls with searches and runs among them are a history.
-use Rattle.std.specs.Prelude.{ℕ, List, [], ◌∷◌, ◌++◌, ◌≡◌, refl, length}
+use Rattle.std.specs.Prelude.{ℕ, List, [], ◌∷◌, ◌++◌, ◌≡◌, refl, length, Result}
+use Rattle.line.specs.declared.Refusal.{Refusal}
 use Rattle.std.proofs.Common.{◌∙◌, ap, sym}
 use Rattle.base.specs.Pick.{pick, pick_if}
 use Rattle.line.specs.Slots.{run_fits}
 use Rattle.line.specs.Refusals.{well_judged}
 use Rattle.line.specs.declared.Event.{Event}
-use Rattle.line.specs.declared.Verdict.{Verdict}
 use Rattle.search.specs.Host.{Host, done, ask, play, search_host}
 use Rattle.line.specs.Attached.{Attached, says_of, leaves_of, Stands}
 use Rattle.search.specs.Search.{wire, search_by, search_of}
@@ -60,7 +60,7 @@ pub call_runs : (c : Call) (l : Attached) → Stands l → leaves_call c l ≡ r
 unfolding search_of
 call_runs (event_call e) l s = refl
 call_runs (search_call list) l s =
-    ap (λ (v : Verdict). (search_by v list l).line) (well_judged l.count l.lent.chips l.lent.images l.lent.pads s.range s.sizes)
+    ap (λ (v : Result (Unit {0}) Refusal). (search_by v list l).line) (well_judged l.count l.lent.chips l.lent.images l.lent.pads s.range s.sizes)
     ∙ play_runs (search_host (length list)) l
 call_runs (slots_call n bits out) l s =
     pick_if (λ (es : List Event). left_by_run (slots_on n bits out l) ≡ run_on es l) _ _ _

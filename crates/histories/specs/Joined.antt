@@ -1,12 +1,12 @@
 -- One host on a table with its buffers, and on the line of whole chips: what it comes to is the same.
-use Rattle.std.specs.Prelude.{ℕ, List, [], ◌∷◌, ◌≡◌, refl, length}
+use Rattle.std.specs.Prelude.{ℕ, List, [], ◌∷◌, ◌≡◌, refl, length, Result}
+use Rattle.line.specs.declared.Refusal.{Refusal}
 use Rattle.std.proofs.Common.{◌∙◌, ap, sym}
 use Rattle.chip.specs.Chip.{Whole}
 use Rattle.line.specs.Event.{Answered}
 use Rattle.line.specs.declared.Event.{Event}
 use Rattle.search.specs.Host.{Host, done, ask, Played, played, more, resets_of, slots_of, play, search_host}
 use Rattle.line.specs.Refusals.{well_judged}
-use Rattle.line.specs.declared.Verdict.{Verdict}
 use Rattle.line.specs.Attached.{Attached, says_of, leaves_of, Stands, line_from, with_line}
 use Rattle.search.specs.Search.{wire, from_played, search_by, search_of}
 use Rattle.histories.specs.Histories.{answer_of, after_of, run, answers, line_wire}
@@ -35,7 +35,7 @@ pub search_joined : (list : List ℕ) (l : Attached) → Stands l
     → search_of list l ≡ from_played list (in_table l (play line_wire (search_host (length list)) (line_from l)))
 unfolding search_of
 search_joined list l s =
-    ap (λ (v : Verdict). search_by v list l) (well_judged l.count l.lent.chips l.lent.images l.lent.pads s.range s.sizes)
+    ap (λ (v : Result (Unit {0}) Refusal). search_by v list l) (well_judged l.count l.lent.chips l.lent.images l.lent.pads s.range s.sizes)
     ∙ ap (from_played list) (play_joined (search_host (length list)) l s)
 
 -- a history of the public event on a table with its buffers: what it leaves, and what it answers

@@ -1,6 +1,7 @@
 -- Document 01, "Search": "the search's list, counts and the line it leaves are those of one run of events". Which events: resets and slots alone;
 -- and the counts are theirs, "resets and slots are counted apart".
-use Rattle.std.specs.Prelude.{ℕ, zero, suc, ◌+◌, ◌-◌, Bool, true, List, [], ◌∷◌, ◌++◌, ◌≡◌, refl, length}
+use Rattle.std.specs.Prelude.{ℕ, zero, suc, ◌+◌, ◌-◌, Bool, true, List, [], ◌∷◌, ◌++◌, ◌≡◌, refl, length, Result}
+use Rattle.line.specs.declared.Refusal.{Refusal}
 use Rattle.std.proofs.Common.{◌∙◌, ap}
 use Rattle.base.specs.Pick.{pick_if}
 use Rattle.base.specs.Bits.{bit_of}
@@ -9,7 +10,6 @@ use Rattle.line.specs.Events.{slot_event, reset_event}
 use Rattle.line.specs.Layout.{capped}
 use Rattle.line.specs.Refusals.{well_judged}
 use Rattle.line.specs.declared.Event.{Event}
-use Rattle.line.specs.declared.Verdict.{Verdict}
 use Rattle.search.specs.Host.{Host, done, ask, bind, resets_of, slots_of, play, End, UnderWay, begun, pass, write, Listed, up_to, passes, search_host}
 use Rattle.line.specs.Attached.{Attached, says_of, leaves_of, Stands}
 use Rattle.search.specs.Search.{wire, Search, search_by, search_of}
@@ -102,7 +102,7 @@ search_is_run list l s =
     let well = well_judged l.count l.lent.chips l.lent.images l.lent.pads s.range s.sizes in
     record {
       only = asked_events h l (passes_ask (capped (length list)) 0 []);
-      line = ap (λ (v : Verdict). (search_by v list l).line) well ∙ play_runs h l;
-      resets = ap (λ (v : Verdict). (search_by v list l).resets) well ∙ play_resets h l;
-      slots = ap (λ (v : Verdict). (search_by v list l).slots) well ∙ play_slots h l;
+      line = ap (λ (v : Result (Unit {0}) Refusal). (search_by v list l).line) well ∙ play_runs h l;
+      resets = ap (λ (v : Result (Unit {0}) Refusal). (search_by v list l).resets) well ∙ play_resets h l;
+      slots = ap (λ (v : Result (Unit {0}) Refusal). (search_by v list l).slots) well ∙ play_slots h l;
     }

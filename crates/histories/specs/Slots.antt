@@ -1,5 +1,6 @@
 -- A run of slots on a table that stands well is the history of that many slot events.
-use Rattle.std.specs.Prelude.{ℕ, Bool, true, false, List, [], ◌∷◌, map, ◌≡◌, refl, length}
+use Rattle.std.specs.Prelude.{ℕ, Bool, true, false, List, [], ◌∷◌, map, ◌≡◌, refl, length, Result, Ok, Err}
+use Rattle.line.specs.declared.Refusal.{Refusal}
 use Rattle.std.proofs.Common.{◌∙◌, sym}
 use Rattle.std.proofs.Math.Path.{ap}
 use Rattle.base.specs.Pick.{pick, pick_true, pick_false}
@@ -16,8 +17,6 @@ use Rattle.line.specs.declared.Event.{Event}
 use Rattle.line.specs.declared.Plan.{Plan}
 use Rattle.line.specs.declared.Plan.TheVariants as plan
 use Rattle.line.specs.declared.Refusal.TheVariants.{WrongSize}
-use Rattle.line.specs.declared.Verdict.{Verdict}
-use Rattle.line.specs.declared.Verdict.TheVariants as verdict
 use Rattle.line.specs.Attached.{Attached, Stands, line_from, with_line}
 use Rattle.histories.specs.Histories.{answer_of, after_of, run, answers}
 use Rattle.histories.specs.Sent.{slots}
@@ -68,11 +67,11 @@ module _ (bs : List Bool) (l : Attached) (s : Stands l) where
 
 -- a run is judged well where the table is in range and all sizes fit, and to 5 where one does not
 module _ (n : ℕ) (cs : List Chip) (slots : ℕ) (bits out ms ss : List ℕ) where
-  pub well_run : table_in_range n cs ≡ true → both (sizes_fit n cs ms ss) (run_fits slots (length bits) (length out)) ≡ true → run_verdict n cs slots bits out ms ss ≡ verdict.Well
+  pub well_run : table_in_range n cs ≡ true → both (sizes_fit n cs ms ss) (run_fits slots (length bits) (length out)) ≡ true → run_verdict n cs slots bits out ms ss ≡ Ok tt
   unfolding run_verdict
   well_run h k = simp (h, k, pick_true)
 
-  unfit_run : table_in_range n cs ≡ true → both (sizes_fit n cs ms ss) (run_fits slots (length bits) (length out)) ≡ false → run_verdict n cs slots bits out ms ss ≡ verdict.Refused WrongSize
+  unfit_run : table_in_range n cs ≡ true → both (sizes_fit n cs ms ss) (run_fits slots (length bits) (length out)) ≡ false → run_verdict n cs slots bits out ms ss ≡ Err WrongSize
   unfolding run_verdict
   unfit_run h k = simp (h, k, pick_true, pick_false)
 
@@ -87,10 +86,10 @@ module _ (n : ℕ) (bits out : List ℕ) (l : Attached) (s : Stands l) where
   abbrev fits : Bool
   fits = run_fits n (length bits) (length out)
 
-  by_verdict : (v : Verdict) → run_verdict l.count l.lent.chips n bits out l.lent.images l.lent.pads ≡ v
+  by_verdict : (v : Result (Unit {0}) Refusal) → run_verdict l.count l.lent.chips n bits out l.lent.images l.lent.pads ≡ v
       → slots_on n bits out l ≡ run_by v l.count l.lent.chips n bits out l.lent.images l.lent.pads
   unfolding slots_of
-  by_verdict v e = ap (λ (q : Verdict). run_by q l.count l.lent.chips n bits out l.lent.images l.lent.pads) e
+  by_verdict v e = ap (λ (q : Result (Unit {0}) Refusal). run_by q l.count l.lent.chips n bits out l.lent.images l.lent.pads) e
 
   -- THEOREM: a run that fits is the history of its slot events
   pub slots_as_events : fits ≡ true → IsHistory (events_of_run n bits) n out l (slots_on n bits out l)
@@ -103,7 +102,7 @@ module _ (n : ℕ) (bits out : List ℕ) (l : Attached) (s : Stands l) where
       record {
         bits = r.bits;
         answered = slots_answered bs l s;
-        comes = by_verdict verdict.Well e
+        comes = by_verdict (Ok tt) e
             ∙ sym (put_all l.count l.lent.chips n bits out l.lent.images l.lent.pads w _ _ _ _ _ refl refl refl)
             ∙ (λ j. run_outcome (put n) (bytes_from (length out) r.bits) (left j).count (left j).lent);
       }
@@ -111,5 +110,5 @@ module _ (n : ℕ) (bits out : List ℕ) (l : Attached) (s : Stands l) where
   -- any other is refused by 5, with nothing changed
   pub slots_refused : fits ≡ false → slots_on n bits out l ≡ run_outcome (refused 5) out l.count l.lent
   slots_refused h =
-      by_verdict (verdict.Refused WrongSize) (unfit_run l.count l.lent.chips n bits out l.lent.images l.lent.pads s.range
+      by_verdict (Err WrongSize) (unfit_run l.count l.lent.chips n bits out l.lent.images l.lent.pads s.range
       (ap (λ (t : Bool). both t fits) s.sizes ∙ true_both fits ∙ h))

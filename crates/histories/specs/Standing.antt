@@ -1,6 +1,7 @@
 -- A line that stands well goes on standing well: refusals 8 and 5 never come up in a history from a good line, and what the public
 -- event does to a table and its buffers is what happens to the line of whole chips.
-use Rattle.std.specs.Prelude.{ℕ, zero, suc, ◌≡◌, refl, length, take, get_or}
+use Rattle.std.specs.Prelude.{ℕ, zero, suc, ◌≡◌, refl, length, take, get_or, Result}
+use Rattle.line.specs.declared.Refusal.{Refusal}
 use mathlib.Core.List.{List, [], ◌∷◌, map}
 use Rattle.std.proofs.Common.{◌∙◌, sym}
 use Rattle.std.proofs.Math.Path.{ap}
@@ -14,7 +15,6 @@ use Rattle.line.specs.Refusals.{chips_split, well_judged, comes}
 use Rattle.line.specs.Prefix.{length_after}
 use Rattle.line.specs.declared.Event.{Event}
 use Rattle.line.specs.declared.Plan.{Plan}
-use Rattle.line.specs.declared.Verdict.{Verdict}
 use Rattle.line.specs.declared.Plan.TheVariants as plan
 use Rattle.line.specs.Attached.{Attached, says_of, leaves_of, left_by, Stands, line_from, with_line}
 use Rattle.histories.specs.Histories.{at, codes_of, answer_of, after_of}
@@ -44,7 +44,7 @@ module _ (l : Attached) (s : Stands l) where
   plan_same : (e : Event) → plan_of l.count l.lent.chips e l.lent.images l.lent.pads ≡ plan_on e (line_from l)
   unfolding plan_of
   plan_same e =
-      ap (λ (v : Verdict). plan_by v (plan_in (take l.count l.lent.chips) e)) (well_judged l.count l.lent.chips l.lent.images l.lent.pads s.range s.sizes)
+      ap (λ (v : Result (Unit {0}) Refusal). plan_by v (plan_in (take l.count l.lent.chips) e)) (well_judged l.count l.lent.chips l.lent.images l.lent.pads s.range s.sizes)
       ∙ ap (λ (cs : List Chip). plan_in cs e) (sym (chips_split (take l.count l.lent.chips) l.lent.images l.lent.pads))
 
   done_answer : (p : Plan) → (done_of p l.count l.lent.chips l.lent.images l.lent.pads).answer ≡ answer_by p (line_from l)

@@ -1,5 +1,5 @@
 -- Laws: the loops over a lent slice of chips, and what they come to.
-use Rattle.std.specs.Prelude.{ℕ, zero, suc, Bool, List, ◌≡◌, length, get_or, set}
+use Rattle.std.specs.Prelude.{ℕ, zero, suc, Bool, List, ◌≡◌, length, get_or, set, Result}
 use Rattle.std.proofs.Common.{arith, add-one, ◌∙◌, ap, sym}
 use Rattle.std.proofs.Math.Path.{refl}
 use Rattle.chip.specs.declared.Chip.{Chip}
@@ -9,7 +9,6 @@ use Rattle.line.specs.Layout.{lent}
 use Rattle.line.specs.Carrier.{over, first_spot, first_survey, survey_chip, surveyed, verdict_by, plan_seen, bus_over, turned, turn_of, acts, answer_for}
 use Rattle.line.specs.Carried.{Surveyed, over_line, plan_is, stands_is, walked, refused_walked}
 use Rattle.line.proofs.Walked.{plan_walked}
-use Rattle.line.specs.declared.Answer.{Answer}
 use Rattle.line.specs.declared.Event.{Event}
 use Rattle.line.specs.declared.Refusal.{Refusal}
 use Rattle.line.specs.declared.Survey.{Survey}
@@ -40,7 +39,7 @@ acts_none d v i p cs ms ss = refl
 abbrev pub plan_done : Plan → List Chip → List ℕ → List ℕ → Outcome
 plan_done p cs ms ss = walked (length cs) (length cs) cs ms ss p
 
-pub plan-done : (p : Plan) (cs ds : List Chip) (ms ss xs ys : List ℕ) (v : Bool) (a : Answer) → v ≡ (bus_over p (length cs) cs ms ss).value
+pub plan-done : (p : Plan) (cs ds : List Chip) (ms ss xs ys : List ℕ) (v : Bool) (a : Result Bool Refusal) → v ≡ (bus_over p (length cs) cs ms ss).value
     → lent ds xs ys ≡ acts p v (length cs) 0 first_spot cs ms ss → a ≡ answer_for p v → length ds ≡ length cs → outcome (answered a) (length ds) (lent ds xs ys) ≡ plan_done p cs ms ss
 plan-done p cs ds ms ss xs ys v a f k m l =
     (λ j. outcome (answered (m j)) (l j) (k j))

@@ -12,7 +12,7 @@ ghost use Rattle.lent.specs.Turning.{plan_done};
 
 use chip::Chip;
 pub use gathered::{search_line, set_up};
-use line::{Answer, Event, Plan, Survey};
+use line::{Event, Plan, Refusal, Survey};
 use search::{Resets, SearchAnswer, Slots};
 
 // What a search answers, how many codes it listed, and what it put on the line.
@@ -65,7 +65,7 @@ fn all_turn(table: &mut [Chip], plan: Plan, value: bool, ms: &mut [u8], ss: &mut
 }
 
 // What a plan comes to on the table.
-fn do_plan(table: &mut [Chip], plan: Plan, ms: &mut [u8], ss: &mut [u8]) -> Answer
+fn do_plan(table: &mut [Chip], plan: Plan, ms: &mut [u8], ss: &mut [u8]) -> Result<bool, Refusal>
     ensures { outcome (answered result) (length table.new) (lent table.new ms.new ss.new) ≡ plan_done plan table.old ms.old ss.old }
 {
     let value = line_value(table, plan, ms, ss);
@@ -74,7 +74,12 @@ fn do_plan(table: &mut [Chip], plan: Plan, ms: &mut [u8], ss: &mut [u8]) -> Answ
 }
 
 // One event on a lent table: its refusals in their order (`line::take_event`), each with nothing changed; else the bus bit.
-pub fn take_event(table: &mut [Chip], e: Event, ms: &mut [u8], ss: &mut [u8]) -> Answer
+pub fn take_event(
+    table: &mut [Chip],
+    e: Event,
+    ms: &mut [u8],
+    ss: &mut [u8],
+) -> Result<bool, Refusal>
     ensures { outcome (answered result) (length table.new) (lent table.new ms.new ss.new)
         ≡ event_of (length table.old) table.old e ms.old ss.old }
 {

@@ -1,6 +1,7 @@
 -- Laws: a table that neither 8 nor 5 refuses is refused by neither after a run of slots, and what events and runs keep of its chips and
 -- of its places.
-use Rattle.std.specs.Prelude.{ℕ, zero, suc, ◌≤◌, Bool, true, List, [], ◌∷◌, ◌++◌, map, ◌≡◌, leb, length, take}
+use Rattle.std.specs.Prelude.{ℕ, zero, suc, ◌≤◌, Bool, true, List, [], ◌∷◌, ◌++◌, map, ◌≡◌, leb, length, take, Result, Ok, Err}
+use Rattle.line.specs.declared.Refusal.{Refusal}
 use Rattle.std.proofs.Common.{arith, true≢false, ◌∙◌, sym, length-drop, take-append-drop, length-take-le, take_at, drop_at, le-leb, eq-eqb}
 use Rattle.std.proofs.Math.Bool.{false}
 use Rattle.std.proofs.Math.Path.{refl, ap}
@@ -26,8 +27,6 @@ use Rattle.line.specs.declared.Act.TheVariants.{Take, Reset, PowerOn}
 use Rattle.line.specs.declared.Plan.{Plan}
 use Rattle.line.specs.declared.Plan.TheVariants as plan
 use Rattle.line.specs.declared.Event.{Event}
-use Rattle.line.specs.declared.Verdict.{Verdict}
-use Rattle.line.specs.declared.Verdict.TheVariants as verdict
 
 -- every chip of a line is good
 abbrev pub AllGood : List Whole → Type 0
@@ -127,7 +126,7 @@ again l L K k =
     (drop_at (chips_of L) (drop l.count l.lent.chips) l.count (length_chips L ∙ k))
 
 -- a table of 16 places that is judged well stands well
-pub judged_stands : (n : ℕ) (cs : List Chip) (ms ss : List ℕ) → 16 ≤ length cs → verdict.Well ≡ verdict_of n cs ms ss → Stands (attached n cs ms ss)
+pub judged_stands : (n : ℕ) (cs : List Chip) (ms ss : List ℕ) → 16 ≤ length cs → Ok tt ≡ verdict_of n cs ms ss → Stands (attached n cs ms ss)
 judged_stands n cs ms ss h e = let b = judged_well n cs ms ss e in let f = in_range_few n cs b.0 in record { range = b.0; sizes = b.1; places = omega arith }
 
 -- so does the table that a run of slots leaves, and its line is that of the run
@@ -146,7 +145,7 @@ with-places n cs L k h = let a = length_chips L in simp (length-append, length-d
 
 module _ (n : ℕ) (cs : List Chip) (ms ss : List ℕ) (places : 16 ≤ length cs) where
   -- the line of a table that is judged well has as many chips as the table counts, and there is a place for each
-  line_full : verdict.Well ≡ verdict_of n cs ms ss → (length (line_of n cs ms ss) ≡ n) × (n ≤ length cs)
+  line_full : Ok tt ≡ verdict_of n cs ms ss → (length (line_of n cs ms ss) ≡ n) × (n ≤ length cs)
   line_full e = let s = judged_stands n cs ms ss places e in (line_length (attached n cs ms ss) s, s.places)
 
   -- a plan that is carried out leaves as many places
@@ -161,14 +160,14 @@ module _ (n : ℕ) (cs : List Chip) (ms ss : List ℕ) (places : 16 ≤ length c
   done_places plan.PowerOn f = after_places plan.PowerOn f
   done_places (plan.Outside i x) f = after_places (plan.Outside i x) f
 
-  planned_places : (v : Verdict) (p : Plan) → v ≡ verdict_of n cs ms ss → length (done_of (plan_by v p) n cs ms ss).lent.chips ≡ length cs
-  planned_places verdict.Well p e = done_places p (line_full e)
-  planned_places (verdict.Refused r) p e = refl
+  planned_places : (v : Result (Unit {0}) Refusal) (p : Plan) → v ≡ verdict_of n cs ms ss → length (done_of (plan_by v p) n cs ms ss).lent.chips ≡ length cs
+  planned_places (Ok tt) p e = done_places p (line_full e)
+  planned_places (Err r) p e = refl
 
   -- every event leaves as many places, and every run of slots on a table that is judged well
   pub event_places : (e : Event) → length (leaves_of e (attached n cs ms ss)).lent.chips ≡ length cs
   unfolding leaves_of event_of plan_of
   event_places e = planned_places (verdict_of n cs ms ss) _ refl
 
-  pub run_places : (bs : List Bool) → verdict.Well ≡ verdict_of n cs ms ss → length (lent_from n cs (run_on bs (line_of n cs ms ss)).line).chips ≡ length cs
+  pub run_places : (bs : List Bool) → Ok tt ≡ verdict_of n cs ms ss → length (lent_from n cs (run_on bs (line_of n cs ms ss)).line).chips ≡ length cs
   run_places bs e = with-places n cs (run_on bs (line_of n cs ms ss)).line (run_full bs (line_of n cs ms ss) ∙ (line_full e).0) (line_full e).1

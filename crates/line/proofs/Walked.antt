@@ -1,5 +1,6 @@
 -- Laws: what the walks of a plan over a table come to is what the line does, and the event.
-use Rattle.std.specs.Prelude.{ℕ, ◌≤◌, Bool, List, ◌++◌, ◌≡◌, length, take, drop}
+use Rattle.std.specs.Prelude.{ℕ, ◌≤◌, Bool, List, ◌++◌, ◌≡◌, length, take, drop, Result, Ok, Err}
+use Rattle.line.specs.declared.Refusal.{Refusal}
 use Rattle.std.proofs.Common.{zero-add, ◌∙◌, refl, ap, drop_at}
 use Rattle.std.proofs.lemmas.List.{length-map}
 use Rattle.chip.specs.Chip.{Whole}
@@ -15,13 +16,10 @@ use Rattle.line.specs.Carried as carried
 use Rattle.line.specs.Carried.{Surveyed, walked, refused_walked, plan_is, done_map, done_outside, bus_one}
 use Rattle.line.specs.RunTables.{Carrying, carrying_fits, carrying_line, carrying_places}
 use Rattle.line.specs.declared.Act.TheVariants as act
-use Rattle.line.specs.declared.Answer.{Answer}
 use Rattle.line.specs.declared.Event.{Event}
 use Rattle.line.specs.declared.Plan.{Plan}
 use Rattle.line.specs.declared.Plan.TheVariants as plan
 use Rattle.line.specs.declared.Survey.{Survey}
-use Rattle.line.specs.declared.Verdict.{Verdict}
-use Rattle.line.specs.declared.Verdict.TheVariants as verdict
 
 module _ (n k : ℕ) (cs : List Chip) (ms ss : List ℕ) where
   abbrev valued : Plan → Bool
@@ -50,9 +48,9 @@ module _ (n k : ℕ) (cs : List Chip) (ms ss : List ℕ) where
         λ j. outcome (bit ((valued_is (plan.Outside i x) ∙ bus_one L) j)) n (both_are (plan.Outside i x) _ (done_outside i i x 0 (bus_of (plan.Outside i x) L) L (zero-add i)) _ refl j)
 
   module _ (h : n ≤ 16 → (n ≤ length cs) × (k ≡ n)) where
-    judged_walked : (d : Plan) (q : Verdict) → q ≡ verdict_of n cs ms ss → walked n k cs ms ss (plan_by q d) ≡ done_of (plan_by q d) n cs ms ss
-    judged_walked d (verdict.Refused r) e = refused_walked n k cs ms ss r
-    judged_walked d verdict.Well e =
+    judged_walked : (d : Plan) (q : Result (Unit {0}) Refusal) → q ≡ verdict_of n cs ms ss → walked n k cs ms ss (plan_by q d) ≡ done_of (plan_by q d) n cs ms ss
+    judged_walked d (Err r) e = refused_walked n k cs ms ss r
+    judged_walked d (Ok tt) e =
         let ok = judged_fit n cs ms ss e in
         fine_walked (h ok.few).0 ok (h ok.few).1 d
 
@@ -61,7 +59,7 @@ module _ (n k : ℕ) (cs : List Chip) (ms ss : List ℕ) where
     plan_walked e = judged_walked (plan_in (take n cs) e) (verdict_of n cs ms ss) refl
 
     -- the event, from what the walks leave
-    pub event_walked : (e : Event) (l : Survey) (d : Plan) (v : Bool) (a : Answer) (m : ℕ) (g : Lent) → Surveyed e.chip n cs l → d ≡ plan_seen l n e (length ms) (length ss)
+    pub event_walked : (e : Event) (l : Survey) (d : Plan) (v : Bool) (a : Result Bool Refusal) (m : ℕ) (g : Lent) → Surveyed e.chip n cs l → d ≡ plan_seen l n e (length ms) (length ss)
         → v ≡ (bus_over d k cs ms ss).value → g ≡ acts d v k 0 first_spot cs ms ss → a ≡ answer_for d v → m ≡ n → outcome (answered a) m g ≡ event_of n cs e ms ss
     event_walked e l d v a m g hl hd hv hg ha hm =
         (λ j. outcome (answered (ha j)) (hm j) (hg j))

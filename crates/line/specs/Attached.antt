@@ -1,11 +1,11 @@
 -- A table of chips with its buffers, as events find and leave it.
-use Rattle.std.specs.Prelude.{ℕ, ◌≤◌, true, List, ◌≡◌, length}
+use Rattle.std.specs.Prelude.{ℕ, ◌≤◌, true, List, ◌≡◌, length, Result}
+use Rattle.line.specs.declared.Refusal.{Refusal}
 use Rattle.chip.specs.Chip.{Whole}
 use Rattle.chip.specs.declared.Chip.{Chip}
 use Rattle.line.specs.Layout.{Lent, lent, line_of, lent_from}
 use Rattle.line.specs.Event.{table_in_range, sizes_fit, verdict_of, Answered, Outcome, event_of}
 use Rattle.line.specs.declared.Event.{Event}
-use Rattle.line.specs.declared.Verdict.{Verdict}
 
 -- so many chips, and the table with its buffers
 pub record Attached : Type 0 where
@@ -30,7 +30,7 @@ unfoldable pub leaves_of : Event → Attached → Attached
 leaves_of e l = left_by (event_on e l)
 
 -- how they are judged: 8, then 5
-abbrev pub verdict_at : Attached → Verdict
+abbrev pub verdict_at : Attached → Result (Unit {0}) Refusal
 verdict_at l = verdict_of l.count l.lent.chips l.lent.images l.lent.pads
 
 -- a table with its buffers that is refused by neither 8 nor 5, and has its chips in its places

@@ -1,5 +1,5 @@
 -- Laws: what a carrier comes to, chip by chip, is the event.
-use Rattle.std.specs.Prelude.{ℕ, zero, suc, ◌+◌, ◌*◌, ◌<◌, ◌≤◌, Bool, ◌≡◌, eqb, leb, get_or, set}
+use Rattle.std.specs.Prelude.{ℕ, zero, suc, ◌+◌, ◌*◌, ◌<◌, ◌≤◌, Bool, ◌≡◌, eqb, leb, get_or, set, Result, Ok, Err}
 use Rattle.std.proofs.Common.{arith, zero-add, true≢false, ◌∙◌, leb-true, leb-false, eq-eqb, ne_eqb, le-leb, take-append-drop}
 use Rattle.std.proofs.Math.Bool.{true, false}
 use mathlib.Core.List.{List, [], ◌∷◌, ◌++◌, map, append_assoc}
@@ -29,8 +29,6 @@ use Rattle.line.specs.Slots.{run_fits, run_verdict}
 use Rattle.line.specs.declared.Act.TheVariants as act
 use Rattle.line.specs.declared.Event.{Event}
 use Rattle.line.specs.declared.Refusal.{Refusal}
-use Rattle.line.specs.declared.Verdict.{Verdict}
-use Rattle.line.specs.declared.Verdict.TheVariants as verdict
 use Rattle.line.specs.declared.Spot.{Spot}
 use Rattle.line.specs.declared.Survey.{Survey}
 use Rattle.line.specs.declared.Bus.{Bus}
@@ -183,10 +181,10 @@ module _ (chip n : ℕ) (cs : List Chip) (ms ss : List ℕ) (l : Survey) (h : Su
   run_stands_is slots bits answers = tests_are (run_fits slots (length bits) (length answers))
 
 -- the plan, by a survey
-planned : (n : ℕ) (cs : List Chip) (e : Event) (ms ss : List ℕ) (l : Survey) → Surveyed e.chip n cs l → (q : Verdict) → q ≡ verdict_of n cs ms ss
+planned : (n : ℕ) (cs : List Chip) (e : Event) (ms ss : List ℕ) (l : Survey) → Surveyed e.chip n cs l → (q : Result (Unit {0}) Refusal) → q ≡ verdict_of n cs ms ss
     → plan_by q (plan_event e n l.kind) ≡ plan_by q (plan_in (take n cs) e)
-planned n cs e ms ss l h (verdict.Refused r) k = refl
-planned n cs e ms ss l h verdict.Well k =
+planned n cs e ms ss l h (Err r) k = refl
+planned n cs e ms ss l h (Ok tt) k =
     let few = (judged_fit n cs ms ss k).few in
     λ j. plan_event e (sym (length-take-le n cs (h few).0) j) (named_is e.chip n cs ms ss l h few j)
 
@@ -195,7 +193,7 @@ unfolding plan_seen plan_of
 plan_is n cs e ms ss l h =
     let s = stands_is e.chip n cs ms ss l h in
     planned n cs e ms ss l h (verdict_by l n (length ms) (length ss)) s
-    ∙ ap (λ (q : Verdict). plan_by q (plan_in (take n cs) e)) s
+    ∙ ap (λ (q : Result (Unit {0}) Refusal). plan_by q (plan_in (take n cs) e)) s
 
 -- what one chip puts on the bus
 module _ (c : Chip) (i image pad : ℕ) (A B S T : List ℕ) (p : length A ≡ image) (q : length S ≡ pad) (h : image_size c.kind ≤ length B) (k : pad_size c.kind ≤ length T) where
@@ -380,9 +378,9 @@ pub happens_few : (n : ℕ) (cs : List Chip) (e : Event) (ms ss : List ℕ) → 
 unfolding plan_of
 happens_few n cs e ms ss h = go (verdict_of n cs ms ss) refl h
   where
-    go : (q : Verdict) → q ≡ verdict_of n cs ms ss → happens_by (plan_by q (plan_in (take n cs) e)) ≡ true → n ≤ 16
-    go verdict.Well f k = (judged_fit n cs ms ss f).few
-    go (verdict.Refused r) f k = absurd (true≢false (sym k))
+    go : (q : Result (Unit {0}) Refusal) → q ≡ verdict_of n cs ms ss → happens_by (plan_by q (plan_in (take n cs) e)) ≡ true → n ≤ 16
+    go (Ok tt) f k = (judged_fit n cs ms ss f).few
+    go (Err r) f k = absurd (true≢false (sym k))
 
 -- the most that is asked, and what is asked of over 16 chips
 take_few : (n : ℕ) (cs : List Chip) → length (take n cs) ≤ n

@@ -1,5 +1,6 @@
 -- Form: the event, chip by chip, for whoever carries a table: what each turn does, and what all of them come to.
-use Rattle.std.specs.Prelude.{ℕ, zero, suc, ◌+◌, ◌-◌, ◌<◌, ◌≤◌, Bool, true, false, List, ◌≡◌, eqb, leb, get_or, set}
+use Rattle.std.specs.Prelude.{ℕ, zero, suc, ◌+◌, ◌-◌, ◌<◌, ◌≤◌, Bool, true, false, List, ◌≡◌, eqb, leb, get_or, set, Result, Ok, Err}
+use Rattle.line.specs.declared.Refusal.{Refusal}
 use Rattle.std.proofs.Common.{arith}
 use Rattle.base.specs.Along.{along}
 use Rattle.base.specs.Pick.{pick}
@@ -15,10 +16,7 @@ use Rattle.line.specs.Layout.{Lent, lent}
 use Rattle.line.specs.Line.{act_of, host_of}
 use Rattle.line.specs.Slots.{run_fits}
 use Rattle.line.specs.declared.Act.TheVariants as act
-use Rattle.line.specs.declared.Answer.{Answer}
-use Rattle.line.specs.declared.Answer.TheVariants as answer
 use Rattle.line.specs.declared.Event.{Event}
-use Rattle.line.specs.declared.Verdict.{Verdict}
 use Rattle.line.specs.declared.Spot.{Spot}
 use Rattle.line.specs.declared.Survey.{Survey}
 use Rattle.line.specs.declared.Bus.{Bus}
@@ -57,15 +55,15 @@ survey_chip chip c s =
     }
 
 -- what a table is judged to that was surveyed: it has n chips, buffers of two sizes are lent with it, and more sizes fit or do not
-unfoldable pub verdict_with : Survey → ℕ → ℕ → ℕ → Bool → Verdict
+unfoldable pub verdict_with : Survey → ℕ → ℕ → ℕ → Bool → Result (Unit {0}) Refusal
 verdict_with s n images pads more =
     judge (table_tests (both (leb n 16) s.within) (both (both (eqb images s.spot.image) (eqb pads s.spot.pad)) more))
 
-unfoldable pub verdict_by : Survey → ℕ → ℕ → ℕ → Verdict
+unfoldable pub verdict_by : Survey → ℕ → ℕ → ℕ → Result (Unit {0}) Refusal
 verdict_by s n images pads = verdict_with s n images pads true
 
 -- what a run of slots is judged to on it: bits and answers are of two sizes
-unfoldable pub run_verdict_by : Survey → ℕ → ℕ → ℕ → ℕ → ℕ → ℕ → Verdict
+unfoldable pub run_verdict_by : Survey → ℕ → ℕ → ℕ → ℕ → ℕ → ℕ → Result (Unit {0}) Refusal
 run_verdict_by s n images pads slots bits answers = verdict_with s n images pads (run_fits slots bits answers)
 
 -- what an event comes to on it
@@ -135,12 +133,12 @@ happens_by plan.PowerOn = true
 happens_by (plan.Outside i l) = true
 
 -- what is answered
-abbrev pub answer_for : Plan → Bool → Answer
-answer_for (plan.Refused r) v = answer.Refused r
-answer_for (plan.Slot b) v = answer.Bit v
-answer_for plan.Reset v = answer.Bit v
-answer_for plan.PowerOn v = answer.Bit v
-answer_for (plan.Outside i l) v = answer.Bit v
+abbrev pub answer_for : Plan → Bool → Result Bool Refusal
+answer_for (plan.Refused r) v = Err r
+answer_for (plan.Slot b) v = Ok v
+answer_for plan.Reset v = Ok v
+answer_for plan.PowerOn v = Ok v
+answer_for (plan.Outside i l) v = Ok v
 
 -- what a match of the code found, taken to what it matched
 pub puts-at : (c : Chip) (s : Spot) (ms ss : List ℕ) (q p : Plan) (r : Bool) → q ≡ p → r ≡ puts_at p c s ms ss → r ≡ puts_at q c s ms ss
@@ -149,10 +147,10 @@ puts-at c s ms ss q p r = along (λ (k : Plan). puts_at k c s ms ss) q p r
 pub does-at : (v : Bool) (c : Chip) (s : Spot) (ms ss : List ℕ) (q p : Plan) (r : Whole) → q ≡ p → r ≡ does_at p v c s ms ss → r ≡ does_at q v c s ms ss
 does-at v c s ms ss q p r = along (λ (k : Plan). does_at k v c s ms ss) q p r
 
-pub plan_at : (d : Plan) (q p : Verdict) (r : Plan) → q ≡ p → r ≡ plan_by p d → r ≡ plan_by q d
-plan_at d q p r = along (λ (k : Verdict). plan_by k d) q p r
+pub plan_at : (d : Plan) (q p : Result (Unit {0}) Refusal) (r : Plan) → q ≡ p → r ≡ plan_by p d → r ≡ plan_by q d
+plan_at d q p r = along (λ (k : Result (Unit {0}) Refusal). plan_by k d) q p r
 
-pub answer_at : (v : Bool) (q p : Plan) (r : Answer) → q ≡ p → r ≡ answer_for p v → r ≡ answer_for q v
+pub answer_at : (v : Bool) (q p : Plan) (r : Result Bool Refusal) → q ≡ p → r ≡ answer_for p v → r ≡ answer_for q v
 answer_at v q p r = along (λ (k : Plan). answer_for k v) q p r
 
 pub turn_is : (d : Plan) (v : Bool) (c : Chip) (p : Spot) (ms ss : List ℕ) (a : Chip) (x y : List ℕ) (s : Spot) → whole a x y ≡ does_at d v c p ms ss → s ≡ spot_after c.kind p

@@ -1,5 +1,5 @@
 -- Document 01, "Refusal numbers": the event over a table and its buffers, for every input.
-use Rattle.std.specs.Prelude.{ℕ, ◌≤◌, Bool, true, false, List, [], ◌∷◌, ◌≡◌, eqb, ltb, leb, length, take, get_or}
+use Rattle.std.specs.Prelude.{ℕ, ◌≤◌, Bool, true, false, List, [], ◌∷◌, ◌≡◌, eqb, ltb, leb, length, take, get_or, Result, Ok, Err}
 use Rattle.base.specs.Pick.{pick}
 use Rattle.base.specs.Bits.{both}
 use Rattle.chip.specs.Chip.{Whole}
@@ -12,10 +12,6 @@ use Rattle.line.specs.Layout.{images_size, pads_size, chips_of, line_of, Lent, l
 use Rattle.line.specs.declared.Event.{Event}
 use Rattle.line.specs.declared.Refusal.{Refusal}
 use Rattle.line.specs.declared.Refusal.TheVariants.{OutOfRange, WrongSize, NoSuchEvent, NoSuchOutside}
-use Rattle.line.specs.declared.Verdict.{Verdict}
-use Rattle.line.specs.declared.Verdict.TheVariants as verdict
-use Rattle.line.specs.declared.Answer.{Answer}
-use Rattle.line.specs.declared.Answer.TheVariants as answer
 use Rattle.line.specs.declared.Plan.{Plan}
 use Rattle.line.specs.declared.Plan.TheVariants as plan
 
@@ -32,9 +28,9 @@ number_of NoSuchEvent = 6
 number_of NoSuchOutside = 7
 
 -- the number and value of each answer
-abbrev pub answered : Answer → Answered
-answered (answer.Bit b) = bit b
-answered (answer.Refused r) = refused (number_of r)
+abbrev pub answered : Result Bool Refusal → Answered
+answered (Ok b) = bit b
+answered (Err r) = refused (number_of r)
 
 -- every chip's fields lie in their ranges
 abbrev pub all_in_range : List Chip → Bool
@@ -62,9 +58,9 @@ abbrev pub test : Bool → Refusal → Test
 test t r = record { holds = t; refusal = r }
 
 -- "Where several hold, the first in order is given."
-abbrev pub judge : List Test → Verdict
-judge [] = verdict.Well
-judge (t ∷ ts) = pick t.holds (judge ts) (verdict.Refused t.refusal)
+abbrev pub judge : List Test → Result (Unit {0}) Refusal
+judge [] = Ok tt
+judge (t ∷ ts) = pick t.holds (judge ts) (Err t.refusal)
 
 -- "Event: 8, 5, 6, 7.": the first two judge the table and its buffers
 abbrev pub table_tests : Bool → Bool → List Test
@@ -75,7 +71,7 @@ abbrev pub event_tests : Event → ℕ → ℕ → List Test
 event_tests e n kind = test (leb e.number 4) NoSuchEvent ∷ test (outside_fits e n kind) NoSuchOutside ∷ []
 
 -- what a table and its buffers are judged to
-unfoldable pub verdict_of : ℕ → List Chip → List ℕ → List ℕ → Verdict
+unfoldable pub verdict_of : ℕ → List Chip → List ℕ → List ℕ → Result (Unit {0}) Refusal
 verdict_of n cs ms ss = judge (table_tests (table_in_range n cs) (sizes_fit n cs ms ss))
 
 -- what an event answers, and what it leaves
@@ -102,9 +98,9 @@ asked_by e =
     (plan.Outside e.chip e.outside)))
 
 -- a plan, where nothing refuses it
-abbrev pub plan_by : Verdict → Plan → Plan
-plan_by verdict.Well p = p
-plan_by (verdict.Refused r) p = plan.Refused r
+abbrev pub plan_by : Result (Unit {0}) Refusal → Plan → Plan
+plan_by (Ok tt) p = p
+plan_by (Err r) p = plan.Refused r
 
 -- what an event comes to on n chips that stand well, where the one that it names has a kind
 unfoldable pub plan_event : Event → ℕ → ℕ → Plan

@@ -1,5 +1,5 @@
 -- Laws: an event on a table goes by the places of its line alone, and leaves the places past them; and how many places are used.
-use Rattle.std.specs.Prelude.{ℕ, zero, suc, ◌<◌, ◌≤◌, Bool, true, false, ◌≡◌, refl, eqb, ltb, leb, length, take, drop}
+use Rattle.std.specs.Prelude.{ℕ, zero, suc, ◌<◌, ◌≤◌, Bool, true, false, ◌≡◌, refl, eqb, ltb, leb, length, take, drop, Err}
 use Rattle.std.proofs.Common.{arith, ◌∙◌, sym, length-append, length-drop, length-take-le, ltb-true, ltb-false}
 use mathlib.Core.List.{List, [], ◌∷◌, ◌++◌, append_assoc}
 use Rattle.std.proofs.Math.Path.{ap}
@@ -16,7 +16,6 @@ use Rattle.line.specs.declared.Event.{Event}
 use Rattle.line.specs.declared.Plan.{Plan}
 use Rattle.line.specs.declared.Plan.TheVariants as plan
 use Rattle.line.specs.declared.Refusal.TheVariants.{OutOfRange}
-use Rattle.line.specs.declared.Verdict.TheVariants as verdict
 
 -- the same outcome on a table that has the places Z after its own
 abbrev pub with_rest : List Chip → Outcome → Outcome
@@ -72,7 +71,7 @@ module _ (n : ℕ) (cs Z : List Chip) (l : n ≤ length cs) where
   event_rest e ms ss = ap (λ (p : Plan). done_of p n (cs ++ Z) ms ss) (plan_rest e ms ss) ∙ done_rest (plan_of n cs e ms ss) ms ss
 
 -- a table of over 16 chips is refused by 8, whatever is lent with it
-pub many_verdict : (n : ℕ) (cs : List Chip) (ms ss : List ℕ) → 16 < n → verdict_of n cs ms ss ≡ verdict.Refused OutOfRange
+pub many_verdict : (n : ℕ) (cs : List Chip) (ms ss : List ℕ) → 16 < n → verdict_of n cs ms ss ≡ Err OutOfRange
 unfolding verdict_of table_in_range pick
 many_verdict n cs ms ss h = ap (λ (b : Bool). judge (table_tests b (sizes_fit n cs ms ss))) (pick_false (leb n 16) _ _ (lt-leb n 16 h))
 

@@ -1,5 +1,5 @@
 -- Laws: what the code knows of a table and an event that are not refused, and what it puts together of an event.
-use Rattle.std.specs.Prelude.{ℕ, ◌<◌, ◌≤◌, Bool, true, false, List, [], ◌∷◌, ◌++◌, ◌≡◌, eqb, ltb, leb, length, take, drop, get_or}
+use Rattle.std.specs.Prelude.{ℕ, ◌<◌, ◌≤◌, Bool, true, false, List, [], ◌∷◌, ◌++◌, ◌≡◌, eqb, ltb, leb, length, take, drop, get_or, Result, Ok, Err}
 use native.Mathlib.Omega.{arith}
 use Rattle.std.proofs.Common.{true≢false, ◌∙◌, ap, sym, eqb-true, ltb-true, ltb-false, leb-true, eq-eqb, take-append-drop, length-drop}
 use Rattle.std.proofs.Math.Path.{refl}
@@ -17,8 +17,6 @@ use Rattle.line.specs.Event.{table_in_range, all_in_range, sizes_fit, Fits, outs
 use Rattle.line.specs.declared.Event.{Event}
 use Rattle.line.specs.declared.Refusal.{Refusal}
 use Rattle.line.specs.declared.Refusal.TheVariants.{OutOfRange, WrongSize, NoSuchEvent, NoSuchOutside}
-use Rattle.line.specs.declared.Verdict.{Verdict}
-use Rattle.line.specs.declared.Verdict.TheVariants as verdict
 use Rattle.line.specs.declared.Plan.{Plan}
 use Rattle.line.specs.declared.Plan.TheVariants as plan
 
@@ -75,26 +73,23 @@ presence [] = refl
 presence (w ∷ L) = bus_zero L
 
 -- a test that did not refuse holds
-pub held : (t : Bool) (q : Verdict) (r : Refusal) → verdict.Well ≡ pick t q (verdict.Refused r) → (t ≡ true) × (verdict.Well ≡ q)
+pub held : (t : Bool) (q : Result (Unit {0}) Refusal) (r : Refusal) → Ok tt ≡ pick t q (Err r) → (t ≡ true) × (Ok tt ≡ q)
 unfolding pick
 held true q r e = (refl, e)
-held false q r e = absurd (other e)
-  where
-    other : verdict.Well ≡ verdict.Refused r → ⊥
-    other z = let y : ◌≡◌ {A = ℕ} 0 1 = cc in omega arith
+held false q r e = absurd cc
 
 -- a table that stands well, with its buffers
-pub judged_well : (n : ℕ) (cs : List Chip) (ms ss : List ℕ) → verdict.Well ≡ verdict_of n cs ms ss → (table_in_range n cs ≡ true) × (sizes_fit n cs ms ss ≡ true)
+pub judged_well : (n : ℕ) (cs : List Chip) (ms ss : List ℕ) → Ok tt ≡ verdict_of n cs ms ss → (table_in_range n cs ≡ true) × (sizes_fit n cs ms ss ≡ true)
 unfolding verdict_of
 judged_well n cs ms ss h =
     let a = held (table_in_range n cs) _ OutOfRange h in
     (a.0, (held (sizes_fit n cs ms ss) _ WrongSize a.1).0)
 
-pub well_judged : (n : ℕ) (cs : List Chip) (ms ss : List ℕ) → table_in_range n cs ≡ true → sizes_fit n cs ms ss ≡ true → verdict_of n cs ms ss ≡ verdict.Well
+pub well_judged : (n : ℕ) (cs : List Chip) (ms ss : List ℕ) → table_in_range n cs ≡ true → sizes_fit n cs ms ss ≡ true → verdict_of n cs ms ss ≡ Ok tt
 unfolding verdict_of
 well_judged n cs ms ss h k = simp (h, k, pick_true)
 
-pub judged_fit : (n : ℕ) (cs : List Chip) (ms ss : List ℕ) → verdict.Well ≡ verdict_of n cs ms ss → Fits n cs ms ss
+pub judged_fit : (n : ℕ) (cs : List Chip) (ms ss : List ℕ) → Ok tt ≡ verdict_of n cs ms ss → Fits n cs ms ss
 judged_fit n cs ms ss h = let b = judged_well n cs ms ss h in fit n cs ms ss b.0 b.1
 
 -- event 4 that fits names a chip that takes it, and two bits
@@ -136,9 +131,9 @@ module _ (cs : List Chip) (e : Event) where
       four p q r s = omega arith
 
   -- by what its tests come to
-  judged_comes : (v : Verdict) → v ≡ judge (event_tests e (length cs) kind) → Comes cs (plan_by v (asked_by e))
-  judged_comes (verdict.Refused r) h = refused r
-  judged_comes verdict.Well h =
+  judged_comes : (v : Result (Unit {0}) Refusal) → v ≡ judge (event_tests e (length cs) kind) → Comes cs (plan_by v (asked_by e))
+  judged_comes (Err r) h = refused r
+  judged_comes (Ok tt) h =
       let a = held (leb e.number 4) _ NoSuchEvent h in
       asked_comes a.0 (held (outside_fits e (length cs) kind) _ NoSuchOutside a.1).0
 

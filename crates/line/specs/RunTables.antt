@@ -1,5 +1,6 @@
 -- Laws: a run of slots on a table and its buffers, of which the line is carried from slot to slot.
-use Rattle.std.specs.Prelude.{ℕ, ◌+◌, ◌≤◌, List, ◌++◌, ◌≡◌, refl, eqb, leb, length, take, drop}
+use Rattle.std.specs.Prelude.{ℕ, ◌+◌, ◌≤◌, List, ◌++◌, ◌≡◌, refl, eqb, leb, length, take, drop, Result, Ok}
+use Rattle.line.specs.declared.Refusal.{Refusal}
 use Rattle.std.proofs.Common.{arith, ◌∙◌, ap, sym, take-append-drop, length-append, take_at, drop_at, length-take-le}
 use Rattle.std.proofs.lemmas.List.{length-map}
 use borrow.Author.Tests.{leb-true, eqb-true}
@@ -18,8 +19,6 @@ use Rattle.line.specs.Slots.{bits_of, bytes_from, host_bits, run_on, bytes_asked
 use Rattle.line.specs.Runs.{run_length, run_keeps, run_full, host_many, InByte, Running}
 use Rattle.line.specs.declared.Act.TheVariants as act
 use Rattle.line.specs.declared.Refusal.TheVariants.{OutOfRange, WrongSize}
-use Rattle.line.specs.declared.Verdict.{Verdict}
-use Rattle.line.specs.declared.Verdict.TheVariants as verdict
 
 -- a table of n chips and its buffers hold a line in the place of another one
 pub record Carrying (n : ℕ) (cs₀ : List Chip) (L : List Whole) (m : ℕ) (cs : List Chip) (ms ss : List ℕ) : Type 0 where
@@ -116,7 +115,7 @@ pub record RunWell (n : ℕ) (cs : List Chip) (slots : ℕ) (bits answers ms ss 
   pub answers_size : length answers ≡ bytes_asked slots
 
 module _ (n : ℕ) (cs : List Chip) (slots : ℕ) (bits answers ms ss : List ℕ) where
-  pub run_well : verdict.Well ≡ run_verdict n cs slots bits answers ms ss → RunWell n cs slots bits answers ms ss
+  pub run_well : Ok tt ≡ run_verdict n cs slots bits answers ms ss → RunWell n cs slots bits answers ms ss
   unfolding run_verdict run_fits
   run_well h =
       let a = held (table_in_range n cs) _ OutOfRange h in
@@ -137,10 +136,10 @@ module _ (n : ℕ) (cs : List Chip) (slots : ℕ) (bits answers ms ss : List ℕ
 
   pub put_all : RunWell n cs slots bits answers ms ss → (out : List ℕ) (p : ℕ) (ds : List Chip) (xs ys : List ℕ)
       → out ≡ bytes_from (length answers) (run_on (host_bits slots bits) (line_of n cs ms ss)).bits → lent ds xs ys ≡ lent_from n cs (run_on (host_bits slots bits) (line_of n cs ms ss)).line → p ≡ n
-      → run_outcome (put slots) out p (lent ds xs ys) ≡ run_by verdict.Well n cs slots bits answers ms ss
+      → run_outcome (put slots) out p (lent ds xs ys) ≡ run_by (Ok tt) n cs slots bits answers ms ss
   put_all w out p ds xs ys a h q = λ j. run_outcome (put (sym (all_put w (line_of n cs ms ss)) j)) (a j) (q j) (h j)
 
 -- what a match of the code found, taken to what it matched
-pub run_at : (n : ℕ) (cs : List Chip) (slots : ℕ) (bits answers ms ss : List ℕ) (q p : Verdict) (r : RunOutcome) → q ≡ p
+pub run_at : (n : ℕ) (cs : List Chip) (slots : ℕ) (bits answers ms ss : List ℕ) (q p : Result (Unit {0}) Refusal) (r : RunOutcome) → q ≡ p
     → r ≡ run_by p n cs slots bits answers ms ss → r ≡ run_by q n cs slots bits answers ms ss
-run_at n cs slots bits answers ms ss = along (λ (k : Verdict). run_by k n cs slots bits answers ms ss)
+run_at n cs slots bits answers ms ss = along (λ (k : Result (Unit {0}) Refusal). run_by k n cs slots bits answers ms ss)

@@ -1,6 +1,7 @@
 -- A run of slots: "a run of host bits packed least significant first, how many slots, a lent buffer for the answers (packed
 -- likewise)", over a table and its buffers, for every input.
-use Rattle.std.specs.Prelude.{ℕ, zero, suc, ◌+◌, ◌*◌, ◌/◌, ◌%◌, ◌^◌, Bool, List, [], ◌∷◌, ◌++◌, eqb, leb, length, take, drop, get_or, set}
+use Rattle.std.specs.Prelude.{ℕ, zero, suc, ◌+◌, ◌*◌, ◌/◌, ◌%◌, ◌^◌, Bool, List, [], ◌∷◌, ◌++◌, eqb, leb, length, take, drop, get_or, set, Result, Ok, Err}
+use Rattle.line.specs.declared.Refusal.{Refusal}
 use Rattle.base.specs.Pick.{pick}
 use Rattle.base.specs.Bits.{both, bit_of}
 use Rattle.chip.specs.Chip.{Whole}
@@ -9,10 +10,6 @@ use Rattle.line.specs.Line.{value_of, after_by}
 use Rattle.line.specs.Layout.{Lent, lent, line_of, lent_from}
 use Rattle.line.specs.Event.{number_of, judge, table_tests, table_in_range, sizes_fit}
 use Rattle.line.specs.declared.Plan.TheVariants as plan
-use Rattle.line.specs.declared.SlotsAnswer.{SlotsAnswer}
-use Rattle.line.specs.declared.SlotsAnswer.TheVariants as answer
-use Rattle.line.specs.declared.Verdict.{Verdict}
-use Rattle.line.specs.declared.Verdict.TheVariants as verdict
 
 -- n bits of a number, and the bits of a run of bytes, least significant first
 abbrev pub bits_of : ℕ → ℕ → List Bool
@@ -74,9 +71,9 @@ pub data Slotted : Type 0 where
   put : ℕ → Slotted
   refused : ℕ → Slotted
 
-abbrev pub slotted : SlotsAnswer → Slotted
-slotted (answer.Put n) = put n
-slotted (answer.Refused r) = refused (number_of r)
+abbrev pub slotted : Result ℕ Refusal → Slotted
+slotted (Ok n) = put n
+slotted (Err r) = refused (number_of r)
 
 -- what a run answers, and what it leaves: the answers, the table and the buffers
 pub record RunOutcome : Type 0 where
@@ -89,15 +86,15 @@ abbrev pub run_outcome : Slotted → List ℕ → ℕ → Lent → RunOutcome
 run_outcome a bs n g = record { answer = a; answers = bs; count = n; lent = g }
 
 -- "Judged once: 8, then 5 for images, scratchpads, and for bits or answers"
-unfoldable pub run_verdict : ℕ → List Chip → ℕ → List ℕ → List ℕ → List ℕ → List ℕ → Verdict
+unfoldable pub run_verdict : ℕ → List Chip → ℕ → List ℕ → List ℕ → List ℕ → List ℕ → Result (Unit {0}) Refusal
 run_verdict n cs slots bits answers ms ss = judge (table_tests (table_in_range n cs) (both (sizes_fit n cs ms ss) (run_fits slots (length bits) (length answers))))
 
 -- what a run comes to by its verdict; refused, nothing changes
-abbrev pub run_by : Verdict → ℕ → List Chip → ℕ → List ℕ → List ℕ → List ℕ → List ℕ → RunOutcome
-run_by verdict.Well n cs slots bits answers ms ss =
+abbrev pub run_by : Result (Unit {0}) Refusal → ℕ → List Chip → ℕ → List ℕ → List ℕ → List ℕ → List ℕ → RunOutcome
+run_by (Ok tt) n cs slots bits answers ms ss =
     let r = run_on (host_bits slots bits) (line_of n cs ms ss) in
     run_outcome (put (length r.bits)) (bytes_from (length answers) r.bits) n (lent_from n cs r.line)
-run_by (verdict.Refused r) n cs slots bits answers ms ss = run_outcome (refused (number_of r)) answers n (lent cs ms ss)
+run_by (Err r) n cs slots bits answers ms ss = run_outcome (refused (number_of r)) answers n (lent cs ms ss)
 
 unfoldable pub slots_of : ℕ → List Chip → ℕ → List ℕ → List ℕ → List ℕ → List ℕ → RunOutcome
 slots_of n cs slots bits answers ms ss = run_by (run_verdict n cs slots bits answers ms ss) n cs slots bits answers ms ss

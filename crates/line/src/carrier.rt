@@ -10,9 +10,7 @@ ghost use Rattle.line.specs.Slots.{run_fits};
 ghost use Rattle.line.specs.Runs.{count_of};
 ghost use Rattle.line.specs.Carrier.{first_spot, spot_after, first_survey, survey_chip, verdict_with, verdict_by, run_verdict_by, plan_seen, first_bus, puts_at, bus_with, does_at, turned, turn_of, happens_by, answer_for};
 
-use crate::{
-    Act, Answer, Bus, Event, Plan, Refusal, SLOTS_MOST, Spot, Survey, Turned, Verdict, loops,
-};
+use crate::{Act, Bus, Event, Plan, Refusal, SLOTS_MOST, Spot, Survey, Turned, loops};
 use chip::Chip;
 
 // Where the first chip stands.
@@ -84,20 +82,20 @@ pub fn survey_chip(c: Chip, s: Survey, chip: u32) -> Survey
 }
 
 // 8, then 5, by what a table and its buffers are tested for.
-fn judged(range: bool, sizes: bool) -> Verdict
+fn judged(range: bool, sizes: bool) -> Result<(), Refusal>
     ensures { result ≡ judge (table_tests range sizes) }
 {
     if range {
         if sizes {
-            return Verdict::Well;
+            return Ok(());
         }
-        return Verdict::Refused(Refusal::WrongSize);
+        return Err(Refusal::WrongSize);
     }
-    Verdict::Refused(Refusal::OutOfRange)
+    Err(Refusal::OutOfRange)
 }
 
 // What a table of n chips is judged to that was surveyed, where more sizes than those of its buffers fit or do not.
-fn verdict_with(s: Survey, n: usize, images: usize, pads: usize, more: bool) -> Verdict
+fn verdict_with(s: Survey, n: usize, images: usize, pads: usize, more: bool) -> Result<(), Refusal>
     ensures { result ≡ verdict_with s n images pads more }
 {
     let spot = s.spot;
@@ -108,7 +106,7 @@ fn verdict_with(s: Survey, n: usize, images: usize, pads: usize, more: bool) -> 
 }
 
 // What a table of n chips is judged to that was surveyed: 8, then 5.
-pub fn verdict_by(s: Survey, n: usize, images: usize, pads: usize) -> Verdict
+pub fn verdict_by(s: Survey, n: usize, images: usize, pads: usize) -> Result<(), Refusal>
     ensures { result ≡ verdict_by s n images pads }
 {
     verdict_with(s, n, images, pads, true)
@@ -134,7 +132,7 @@ pub fn run_verdict_by(
     slots: usize,
     bits: usize,
     answers: usize,
-) -> Verdict
+) -> Result<(), Refusal>
     ensures { result ≡ run_verdict_by s n images pads slots bits answers }
 {
     let run = run_fits(slots, bits, answers);
@@ -189,12 +187,12 @@ pub fn plan_event(e: Event, n: usize, kind: u8) -> Plan
 }
 
 // What an event comes to on a table that is judged so.
-pub fn plan_by(judged: Verdict, e: Event, n: usize, kind: u8) -> Plan
+pub fn plan_by(judged: Result<(), Refusal>, e: Event, n: usize, kind: u8) -> Plan
     ensures { result ≡ plan_by judged (plan_event e n kind) }
 {
     match judged {
-        Verdict::Well => plan_event(e, n, kind),
-        Verdict::Refused(r) => Plan::Refused(r),
+        Ok(()) => plan_event(e, n, kind),
+        Err(r) => Plan::Refused(r),
     }
 }
 
@@ -316,18 +314,18 @@ pub fn turn(c: Chip, p: Spot, plan: Plan, value: bool, ms: &mut [u8], ss: &mut [
 }
 
 // What is answered.
-pub fn answer_of(plan: Plan, value: bool) -> Answer
+pub fn answer_of(plan: Plan, value: bool) -> Result<bool, Refusal>
     ensures { result ≡ answer_for plan value }
 {
     match plan {
-        Plan::Refused(r) => Answer::Refused(r),
-        Plan::Slot(_) => Answer::Bit(value),
-        Plan::Reset => Answer::Bit(value),
-        Plan::PowerOn => Answer::Bit(value),
+        Plan::Refused(r) => Err(r),
+        Plan::Slot(_) => Ok(value),
+        Plan::Reset => Ok(value),
+        Plan::PowerOn => Ok(value),
         Plan::Outside {
             chip: _,
             outside: _,
-        } => Answer::Bit(value),
+        } => Ok(value),
     }
 }
 

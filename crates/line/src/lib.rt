@@ -46,7 +46,7 @@ pub struct Event {
 }
 
 // A refusal of an event.
-#[derive(Clone, Copy)]
+#[derive(Clone, Copy, PartialEq, Eq)]
 pub enum Refusal {
     // refusal 8
     OutOfRange,
@@ -58,38 +58,17 @@ pub enum Refusal {
     NoSuchOutside,
 }
 
-// What an event answers: the bus bit, or a refusal.
-#[derive(Clone, Copy)]
-pub enum Answer {
-    Bit(bool),
-    Refused(Refusal),
-}
-
-// What a table and its buffers are judged to: they stand well, or they are refused.
-#[derive(Clone, Copy)]
-pub enum Verdict {
-    Well,
-    Refused(Refusal),
-}
-
-// What an event answers, and the table that it leaves.
+// What an event answers, the bus bit or a refusal, and the table that it leaves.
 #[derive(Clone, Copy)]
 pub struct Happened {
-    pub answer: Answer,
+    pub answer: Result<bool, Refusal>,
     pub table: Table,
 }
 
-// What a run of slots answers: how many were put on the line, or a refusal.
-#[derive(Clone, Copy)]
-pub enum SlotsAnswer {
-    Put(usize),
-    Refused(Refusal),
-}
-
-// What a run of slots answers, and the table that it leaves.
+// What a run of slots answers, how many were put on the line or a refusal, and the table that it leaves.
 #[derive(Clone, Copy)]
 pub struct Ran {
-    pub answer: SlotsAnswer,
+    pub answer: Result<usize, Refusal>,
     pub table: Table,
 }
 
@@ -200,7 +179,7 @@ pub fn put_slot_bit(bits: &mut [u8], slot: usize, bit: bool)
 }
 
 // How a table and its buffers stand: refusal 8, then 5.
-pub fn how_stands(t: Table, ms: &[u8], ss: &[u8]) -> Verdict
+pub fn how_stands(t: Table, ms: &[u8], ss: &[u8]) -> Result<(), Refusal>
     ensures { result ≡ verdict_of t.n t.chips ms.now ss.now }
 {
     let survey = loops::survey_table(t, 0);

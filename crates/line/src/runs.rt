@@ -4,7 +4,7 @@ ghost use Rattle.line.specs.Layout.{lent, line_of, lent_from};
 ghost use Rattle.line.specs.Event.{Fits};
 ghost use Rattle.line.specs.Slots.{bits_of, number_from, run_on, slotted, run_outcome, run_verdict, run_by, slots_of, host_bits, bytes_from, bytes_asked};
 
-use crate::{ByteRan, Plan, Ran, SlotsAnswer, Table, Verdict, carrier, loops};
+use crate::{ByteRan, Plan, Ran, Refusal, Table, carrier, loops};
 
 // Up to eight slots, whose host bits are the first of a byte.
 fn run_byte(t: Table, bits: u8, count: usize, ms: &mut [u8], ss: &mut [u8]) -> ByteRan
@@ -67,7 +67,7 @@ fn run_all(
 
 // The slots of a run by its verdict.
 fn run_by(
-    judged: Verdict,
+    judged: Result<(), Refusal>,
     t: Table,
     bits: &[u8],
     slots: usize,
@@ -80,12 +80,12 @@ fn run_by(
         ≡ run_by judged t.n t.chips slots bits.now answers.old ms.old ss.old }
 {
     match judged {
-        Verdict::Well => Ran {
+        Ok(()) => Ran {
             table: run_all(t, bits, slots, answers, ms, ss),
-            answer: SlotsAnswer::Put(slots),
+            answer: Ok(slots),
         },
-        Verdict::Refused(r) => Ran {
-            answer: SlotsAnswer::Refused(r),
+        Err(r) => Ran {
+            answer: Err(r),
             table: t,
         },
     }

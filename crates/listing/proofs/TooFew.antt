@@ -1,6 +1,6 @@
 -- Document 01, "Refusal numbers", of the public search: 4 is given exactly when "the list has fewer places than distinct codes", where neither
 -- 8 nor 5 is.
-use Rattle.std.specs.Prelude.{ℕ, ◌<◌, ◌≤◌, List, ◌⊎◌, ◌≡◌, leb, length}
+use Rattle.std.specs.Prelude.{ℕ, ◌<◌, ◌≤◌, List, ◌⊎◌, ◌≡◌, leb, length, Result, Ok, Err}
 use Rattle.std.proofs.Common.{arith, inl, inr, ◌∙◌, sym, leb-true, leb-false, le-leb}
 use Rattle.std.proofs.Math.Path.{refl}
 use Rattle.std.proofs.lemmas.Bool.{lt-leb}
@@ -10,8 +10,6 @@ use Rattle.base.specs.Exactly.{Iff, then_exactly, by_first, by_else}
 use Rattle.line.specs.Refusals.{in_range_few, judged_well}
 use Rattle.line.specs.declared.Refusal.{Refusal}
 use Rattle.line.specs.declared.Refusal.TheVariants.{OutOfRange, WrongSize, NoSuchEvent, NoSuchOutside}
-use Rattle.line.specs.declared.Verdict.{Verdict}
-use Rattle.line.specs.declared.Verdict.TheVariants as verdict
 use Rattle.line.specs.Attached.{Attached, Stands, line_from, verdict_at}
 use Rattle.search.specs.Search.{Searched, complete, refused, search_by, search_of}
 use Rattle.histories.specs.Below.{Codes}
@@ -27,7 +25,7 @@ complete_4 : complete ≡ refused 4 → ⊥
 complete_4 e = let z : ◌≡◌ {A = ℕ} 0 1 = cc in omega arith
 
 module _ (list : List ℕ) (l : Attached) where
-  not_done : (r : Refusal) → Done (search_by (verdict.Refused r) list l).answer → ⊥
+  not_done : (r : Refusal) → Done (search_by (Err r) list l).answer → ⊥
   not_done r (inl e) = no e
     where
       no : {n : ℕ} → refused n ≡ complete → ⊥
@@ -39,11 +37,11 @@ module _ (list : List ℕ) (l : Attached) where
 
   -- the places of a table hold its chips where it has at most 16: a `Table` has 16 places, a slice as many as chips
   module _ (places : l.count ≤ 16 → l.count ≤ length l.lent.chips) (fits : Codes (codes_of (line_from l))) where
-    well : (v : Verdict) → v ≡ verdict_at l → Done (search_by v list l).answer → Stands l
-    well verdict.Well h d =
+    well : (v : Result (Unit {0}) Refusal) → v ≡ verdict_at l → Done (search_by v list l).answer → Stands l
+    well (Ok tt) h d =
         let j = judged_well l.count l.lent.chips l.lent.images l.lent.pads h in
         record { range = j.0; sizes = j.1; places = places (in_range_few l.count l.lent.chips j.0) }
-    well (verdict.Refused r) h d = absurd (not_done r d)
+    well (Err r) h d = absurd (not_done r d)
 
     stands : Done (search_of list l).answer → Stands l
     unfolding search_of

@@ -1,5 +1,6 @@
 -- Calls of `rounds::make_round` and `rounds::pages_asked`: whoever makes one is told what its contract says, and so what the theorems say.
-use Rattle.std.specs.Prelude.{ℕ, ◌≤◌, Bool, true, false, List, [], ◌∷◌, ◌≡◌, refl, length, take}
+use Rattle.std.specs.Prelude.{ℕ, ◌≤◌, Bool, true, false, List, [], ◌∷◌, ◌≡◌, refl, length, take, Result, Ok, Err}
+use Rattle.line.specs.declared.Refusal.{Refusal}
 use Rattle.std.proofs.Common.{sym, ◌∙◌, subst}
 use contract.Lifetimes.{Lfts}
 use Rattle.std.specs.Borrow.{MutBor}
@@ -8,8 +9,6 @@ use Rattle.base.specs.Lent.{lent_to_change}
 use Rattle.base.specs.Pick.{pick}
 use Rattle.line.specs.Attached.{Attached, attached, Stands, line_from}
 use Rattle.line.specs.declared.Table.{Table}
-use Rattle.line.specs.declared.Verdict.{Verdict}
-use Rattle.line.specs.declared.Verdict.TheVariants as verdict
 use Rattle.search.specs.Search.{searched, complete_or4, outcome}
 use Rattle.search.specs.declared.SearchAnswer.{SearchAnswer}
 use Rattle.search.specs.declared.SearchAnswer.TheVariants as search
@@ -90,9 +89,9 @@ unfolding pick
 complete_for true = (search.Complete, refl)
 complete_for false = (search.TooFewPlaces, refl)
 
-answer-for : (v : Verdict) (list pages : List ℕ) (l : Attached) → (a : SearchAnswer) × (searched a ≡ (round_by v list pages l).found.answer)
-answer-for verdict.Well list pages l = complete_for _
-answer-for (verdict.Refused r) list pages l = (search.Refused r, refl)
+answer-for : (v : Result (Unit {0}) Refusal) (list pages : List ℕ) (l : Attached) → (a : SearchAnswer) × (searched a ≡ (round_by v list pages l).found.answer)
+answer-for (Ok tt) list pages l = complete_for _
+answer-for (Err r) list pages l = (search.Refused r, refl)
 
 -- THEOREM: every call has an outcome that its contract permits, whatever is lent and however long it lives
 pub some_round : Lfts 4 → (list pages : List ℕ) (l : Attached) → MakeRound list pages l (round_of list pages l)

@@ -1,6 +1,7 @@
 -- The request M-108, "How long is a morning round?": "Slots: 200 n + 352 m, at most 8,832 with 16 chips. Resets: n (1 if n is 0) and m
 -- more, counted apart. Under refusal 4 both counts are the search's."
-use Rattle.std.specs.Prelude.{ℕ, max, ◌+◌, ◌*◌, ◌<◌, ◌≤◌, true, List, [], ◌++◌, ◌≡◌, refl, leb, length, take, drop}
+use Rattle.std.specs.Prelude.{ℕ, max, ◌+◌, ◌*◌, ◌<◌, ◌≤◌, true, List, [], ◌++◌, ◌≡◌, refl, leb, length, take, drop, Result, Ok}
+use Rattle.line.specs.declared.Refusal.{Refusal}
 use Rattle.std.proofs.Common.{arith, append-nil, sym, ◌∙◌, drop_of_length-le, take_all, length-take-le}
 use Rattle.std.proofs.Math.Path.{ap}
 use Rattle.std.proofs.Math.Seq.{take-append_seam}
@@ -12,8 +13,6 @@ use Rattle.base.specs.Exactly.{Iff}
 use Rattle.line.specs.Attached.{Attached, Stands, line_from}
 use Rattle.line.specs.Event.{table_in_range}
 use Rattle.line.specs.Refusals.{well_judged, in_range_few}
-use Rattle.line.specs.declared.Verdict.{Verdict}
-use Rattle.line.specs.declared.Verdict.TheVariants as verdict
 use Rattle.search.specs.Host.{play, search_host}
 use Rattle.search.specs.Search.{complete, refused, number_in, wire, Search, outcome, from_played, search_of}
 use Rattle.rounds.specs.Borne.{only_borne, page_size, pages_asked}
@@ -92,8 +91,8 @@ module _ (list pages : List ℕ) (l : Attached) (s : Stands l) (size : Sized pag
   pub round_well : round_of list pages l ≡ from_round list pages (play wire (round_host (length list) (borne_on l)) l)
   unfolding round_of round_verdict
   round_well =
-      let v : round_verdict pages l ≡ verdict.Well = simp (s.range, s.sizes, eq-eqb (length pages) (pages_asked l.count l.lent.chips) size, pick_true) in
-      ap (λ (q : Verdict). round_by q list pages l) v
+      let v : round_verdict pages l ≡ Ok tt = simp (s.range, s.sizes, eq-eqb (length pages) (pages_asked l.count l.lent.chips) size, pick_true) in
+      ap (λ (q : Result (Unit {0}) Refusal). round_by q list pages l) v
 
   -- and so does its search
   searches : search_of list l ≡ from_played list (play wire (search_host (length list)) l)

@@ -1,7 +1,8 @@
 -- The request M-108: "Refusals: 8; 5 for images or scratchpads; 5 for a page buffer not of 32 m bytes, m being that of the whole table; these
 -- without an event, counts 0, list and pages as found. Then 4: list filled to its end, no page read, the buffer as found." Each exactly when,
 -- for every input, and what it leaves.
-use Rattle.std.specs.Prelude.{ℕ, ◌<◌, ◌≤◌, Bool, true, false, List, ◌⊎◌, ◌≡◌, refl, eqb, leb, length}
+use Rattle.std.specs.Prelude.{ℕ, ◌<◌, ◌≤◌, Bool, true, false, List, ◌⊎◌, ◌≡◌, refl, eqb, leb, length, Result}
+use Rattle.line.specs.declared.Refusal.{Refusal}
 use Rattle.std.proofs.Common.{arith, true≢false, inl, inr, sym, ◌∙◌, leb-true, leb-false, eqb-true}
 use Rattle.std.proofs.Math.Path.{ap}
 use Rattle.base.specs.Pick.{pick, pick_if, pick_of}
@@ -9,7 +10,6 @@ use Rattle.base.specs.Exactly.{Iff, No, itself, then_exactly, or_exactly, unequa
 use Rattle.line.specs.Attached.{Attached, Stands, line_from}
 use Rattle.line.specs.Event.{table_in_range, sizes_fit}
 use Rattle.line.specs.Refusals.{in_range_few}
-use Rattle.line.specs.declared.Verdict.{Verdict}
 use Rattle.search.specs.Host.{play}
 use Rattle.search.specs.Search.{Searched, complete, refused, complete_or4, wire, outcome}
 use Rattle.rounds.specs.Borne.{pages_asked}
@@ -63,7 +63,7 @@ module _ (list pages : List ℕ) (l : Attached) where
   answer_is : answer ≡ pick ranged (pick sized (pick asked (complete_or4 whole) (refused 5)) (refused 5)) (refused 8)
   unfolding round_of round_verdict
   answer_is =
-      let f : Verdict → Searched = λ (v : Verdict). (round_by v list pages l).found.answer in
+      let f : Result (Unit {0}) Refusal → Searched = λ (v : Result (Unit {0}) Refusal). (round_by v list pages l).found.answer in
       pick_of f _ _ _
       ∙ ap (λ (x : Searched). pick ranged x (refused 8)) (pick_of f _ _ _ ∙ ap (λ (x : Searched). pick sized x (refused 5)) (pick_of f _ _ _))
 
@@ -84,9 +84,9 @@ module _ (list pages : List ℕ) (l : Attached) where
   eventless : (r : ℕ) → (r ≡ 4 → ⊥) → answer ≡ refused r → Eventless r
   unfolding round_of round_verdict
   eventless =
-      pick_if (λ (v : Verdict). Plain (round_by v list pages l)) _ _ _
-      (λ a. pick_if (λ (v : Verdict). Plain (round_by v list pages l)) _ _ _
-      (λ b. pick_if (λ (v : Verdict). Plain (round_by v list pages l)) _ _ _ (λ c r k p. absurd (past_4 r (λ q. k (sym q)) p)) (λ c. plainly 5))
+      pick_if (λ (v : Result (Unit {0}) Refusal). Plain (round_by v list pages l)) _ _ _
+      (λ a. pick_if (λ (v : Result (Unit {0}) Refusal). Plain (round_by v list pages l)) _ _ _
+      (λ b. pick_if (λ (v : Result (Unit {0}) Refusal). Plain (round_by v list pages l)) _ _ _ (λ c r k p. absurd (past_4 r (λ q. k (sym q)) p)) (λ c. plainly 5))
       (λ b. plainly 5))
       (λ a. plainly 8)
 

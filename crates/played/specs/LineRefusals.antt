@@ -1,5 +1,5 @@
 -- Laws: what the events of a record are refused by is the number of a refusal of the line.
-use Rattle.std.specs.Prelude.{ℕ, Bool, List, ◌≡◌, refl, eqb}
+use Rattle.std.specs.Prelude.{ℕ, Bool, List, ◌≡◌, refl, eqb, Result, Ok, Err}
 use Rattle.base.specs.Pick.{pick_both}
 use Rattle.chip.specs.declared.Chip.{Chip}
 use Rattle.line.specs.Attached.{Attached, says_of, verdict_at}
@@ -9,8 +9,6 @@ use Rattle.line.specs.declared.Event.{Event}
 use Rattle.line.specs.declared.Plan.{Plan}
 use Rattle.line.specs.declared.Plan.TheVariants as plan
 use Rattle.line.specs.declared.Refusal.{Refusal}
-use Rattle.line.specs.declared.Verdict.{Verdict}
-use Rattle.line.specs.declared.Verdict.TheVariants as verdict
 use Rattle.recording.specs.Playing.{Said, bits, none, Step, said_by, run_step, slots_step, record_step}
 use Rattle.recording.specs.declared.Record.{Record}
 use Rattle.recording.specs.declared.Record.TheVariants as record_of
@@ -33,9 +31,9 @@ unfolding says_of event_of
 event_refusal e l = plan_refusal (plan_of l.count l.lent.chips e l.lent.images l.lent.pads) l.count l.lent.chips l.lent.images l.lent.pads
 
 -- of a run of slots, by its verdict
-run_refusal : (v : Verdict) (hs : List Bool) (l : Attached) → RefusalFor (run_step v hs l).said
-run_refusal verdict.Well hs l = tt
-run_refusal (verdict.Refused r) hs l = (r, refl)
+run_refusal : (v : Result (Unit {0}) Refusal) (hs : List Bool) (l : Attached) → RefusalFor (run_step v hs l).said
+run_refusal (Ok tt) hs l = tt
+run_refusal (Err r) hs l = (r, refl)
 
 slots_refusal : (count : ℕ) (bytes : List ℕ) (l : Attached) → RefusalFor (slots_step count bytes l).said
 unfolding slots_step

@@ -1,5 +1,6 @@
 -- Laws: runs of slots that are joined into one play as the records that they stand in.
-use Rattle.std.specs.Prelude.{ℕ, suc, ◌+◌, ◌-◌, ◌≤◌, Bool, true, List, [], ◌++◌, ◌≡◌, refl, eqb, length, take, drop}
+use Rattle.std.specs.Prelude.{ℕ, suc, ◌+◌, ◌-◌, ◌≤◌, Bool, true, List, [], ◌++◌, ◌≡◌, refl, eqb, length, take, drop, Result, Ok, Err}
+use Rattle.line.specs.declared.Refusal.{Refusal}
 use Rattle.std.proofs.Common.{arith, append_assoc, ◌∙◌, ap, sym, eqb-true}
 use Rattle.base.specs.Pick.{pick_if}
 use Rattle.chip.specs.Chip.{Whole}
@@ -8,8 +9,6 @@ use Rattle.line.specs.Refusals.{well_judged}
 use Rattle.line.specs.Runs.{run_append, run_full}
 use Rattle.line.specs.Slots.{host_bits, Run, run_on}
 use Rattle.line.proofs.Standing.{line_length, put_back, again, judged_stands, run_stands, run_line}
-use Rattle.line.specs.declared.Verdict.{Verdict}
-use Rattle.line.specs.declared.Verdict.TheVariants as verdict
 use Rattle.recording.specs.Reading.{found_at}
 use Rattle.recording.specs.Cards.{room_for}
 use Rattle.recording.specs.Playing.{bits, Step, step, run_step, slots_step, record_step, Played, played, after, on_step, play_on, play_from}
@@ -35,7 +34,7 @@ after_run hs l = with_line l (run_of hs l).line
 
 -- it is put on the line
 well_step : (hs : List Bool) (l : Attached) → Stands l → run_step (verdict_at l) hs l ≡ step (bits (run_of hs l).bits) (after_run hs l)
-well_step hs l s = ap (λ (v : Verdict). run_step v hs l) (well_judged l.count l.lent.chips l.lent.images l.lent.pads s.range s.sizes)
+well_step hs l s = ap (λ (v : Result (Unit {0}) Refusal). run_step v hs l) (well_judged l.count l.lent.chips l.lent.images l.lent.pads s.range s.sizes)
 
 -- so is one of a record, and one without a slot leaves the line as it is
 pub slots-step : (count : ℕ) (bytes : List ℕ) (l : Attached) → Stands l → slots_step count bytes l ≡ step (bits (run_of (host_bits count bytes) l).bits) (after_run (host_bits count bytes) l)
@@ -118,12 +117,12 @@ module _ (more : Bool) (s : List ℕ) (room at next : ℕ) (l : Attached) (q : r
   goes_on d = on_step (λ n m. play_from (suc turns) more s n m) at next d.said d.line
 
   -- a run with some that follow it, by the verdict
-  runs_play : (hs bs : List Bool) (end : ℕ) → Row more s room next bs end → (v : Verdict) → v ≡ verdict_at l → Onward more s at end (run_step v (hs ++ bs) l) (goes_on (run_step v hs l))
-  runs_play hs bs end j verdict.Well e =
+  runs_play : (hs bs : List Bool) (end : ℕ) → Row more s room next bs end → (v : Result (Unit {0}) Refusal) → v ≡ verdict_at l → Onward more s at end (run_step v (hs ++ bs) l) (goes_on (run_step v hs l))
+  runs_play hs bs end j (Ok tt) e =
       let w = judged_stands l.count l.lent.chips l.lent.images l.lent.pads places e in
       let r = row_plays j at (after_run hs l) (run_stands hs l w) q turns h in
       record { turns = r.turns; enough = r.enough; goes = all_runs more s hs bs l w r.turns end (play_from (suc turns) more s next (after_run hs l)) r.goes }
-  runs_play hs bs end j (verdict.Refused r) e = record { turns = turns; enough = let f = row_further j in omega arith; goes = refl }
+  runs_play hs bs end j (Err r) e = record { turns = turns; enough = let f = row_further j in omega arith; goes = refl }
 
   -- what is put on the line for a record, a run with some that follow it or the record alone, plays as the records that it stands for
   pub joined_plays : {taken : Record} {host : List ℕ} {r : Record} {end : ℕ} → PlaysAs more s room taken next host r end → Onward more s at end (record_step host r l) (goes_on (record_step s taken l))

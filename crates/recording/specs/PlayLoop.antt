@@ -1,5 +1,6 @@
 -- Laws: the loop that plays the records of a recording.
-use Rattle.std.specs.Prelude.{ℕ, suc, ◌+◌, ◌-◌, ◌*◌, ◌<◌, ◌≤◌, Bool, List, [], ◌++◌, ◌≡◌, refl, eqb, length, take, drop}
+use Rattle.std.specs.Prelude.{ℕ, suc, ◌+◌, ◌-◌, ◌*◌, ◌<◌, ◌≤◌, Bool, List, [], ◌++◌, ◌≡◌, refl, eqb, length, take, drop, Result, Ok, Err}
+use Rattle.line.specs.declared.Refusal.{Refusal}
 use Rattle.std.proofs.Common.{arith, zero-add, append-nil, ◌∙◌, sym, length-append}
 use Rattle.std.proofs.Math.Bool.{true}
 use Rattle.std.proofs.Math.Path.{ap}
@@ -9,8 +10,6 @@ use Rattle.line.specs.Event.{Answered, bit, refused}
 use Rattle.line.specs.Runs.{run_length, host_most}
 use Rattle.line.specs.Slots.{host_bits}
 use Rattle.line.proofs.Standing.{event_places, run_places}
-use Rattle.line.specs.declared.Verdict.{Verdict}
-use Rattle.line.specs.declared.Verdict.TheVariants as verdict
 use Rattle.recording.specs.Reading.{found_at}
 use Rattle.recording.specs.Cards.{room_for, stopped_by}
 use Rattle.recording.specs.Playing.{Ends, ends_of, Said, bits, none, Step, said_by, run_step, slots_step, record_step, Played, played, after, on_step, play_on, play_from, play_all, put_digits, handed, handed_from}
@@ -38,12 +37,12 @@ event_few (bit b) = omega arith
 event_few (refused r) = omega arith
 
 -- a run has no more answers than slots, by its verdict
-run_few : (v : Verdict) (count : ℕ) (host : List ℕ) (l : Attached) → length (bits_said (run_step v (host_bits count host) l).said) ≤ count
-run_few verdict.Well count host l =
+run_few : (v : Result (Unit {0}) Refusal) (count : ℕ) (host : List ℕ) (l : Attached) → length (bits_said (run_step v (host_bits count host) l).said) ≤ count
+run_few (Ok tt) count host l =
     let h = run_length (host_bits count host) (line_from l) in
     let m = host_most count host in
     omega arith
-run_few (verdict.Refused r) count host l = omega arith
+run_few (Err r) count host l = omega arith
 
 -- a run has no more answers than slots
 slots_few : (count : ℕ) (host : List ℕ) (l : Attached) → length (bits_said (slots_step count host l).said) ≤ count
@@ -59,10 +58,10 @@ said_few s (record_of.Slots count from to) l = slots_few count (take (to - from)
 said_few s (record_of.Event e) l = event_few (says_of e l)
 
 -- a record leaves as many places in the table: a run by its verdict, and so any
-run_leaves : (v : Verdict) (hs : List Bool) (l : Attached) → 16 ≤ length l.lent.chips → v ≡ verdict_at l
+run_leaves : (v : Result (Unit {0}) Refusal) (hs : List Bool) (l : Attached) → 16 ≤ length l.lent.chips → v ≡ verdict_at l
     → length (run_step v hs l).line.lent.chips ≡ length l.lent.chips
-run_leaves verdict.Well hs l h e = run_places l.count l.lent.chips l.lent.images l.lent.pads h hs e
-run_leaves (verdict.Refused r) hs l h e = refl
+run_leaves (Ok tt) hs l h e = run_places l.count l.lent.chips l.lent.images l.lent.pads h hs e
+run_leaves (Err r) hs l h e = refl
 
 step_places : (s : List ℕ) (r : Record) (l : Attached) → 16 ≤ length l.lent.chips → length (record_step s r l).line.lent.chips ≡ length l.lent.chips
 unfolding slots_step

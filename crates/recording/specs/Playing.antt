@@ -1,7 +1,8 @@
 -- Document 02, M-103: "reads the hall adapter's recording and prints every event's bus answer, one line of 0 and 1 without spaces": the records
 -- of a recording on a line, for every table, buffers and bytes.
 use Prim.Native.Char.{code as letter}
-use Rattle.std.specs.Prelude.{ℕ, zero, suc, ◌+◌, ◌-◌, ◌*◌, Bool, true, false, List, [], ◌∷◌, ◌++◌, eqb, length, take, drop, set, replicate}
+use Rattle.std.specs.Prelude.{ℕ, zero, suc, ◌+◌, ◌-◌, ◌*◌, Bool, true, false, List, [], ◌∷◌, ◌++◌, eqb, length, take, drop, set, replicate, Result, Ok, Err}
+use Rattle.line.specs.declared.Refusal.{Refusal}
 use Rattle.base.specs.Pick.{pick}
 use Rattle.line.specs.Attached.{Attached, attached, says_of, leaves_of, verdict_at, line_from, with_line}
 use Rattle.line.specs.Event.{Answered, bit, refused, number_of}
@@ -10,8 +11,6 @@ use Rattle.line.specs.Slots.{host_bits, run_on}
 use Rattle.line.specs.Tables.{blank_table}
 use Rattle.line.specs.declared.Event.{Event}
 use Rattle.line.specs.declared.Table.{Table}
-use Rattle.line.specs.declared.Verdict.{Verdict}
-use Rattle.line.specs.declared.Verdict.TheVariants as verdict
 use Rattle.recording.specs.Reading.{number_of_fault, found_at}
 use Rattle.recording.specs.Cards.{room_for, cards_of}
 use Rattle.recording.specs.declared.Record.{Record}
@@ -56,9 +55,9 @@ abbrev pub event_step : Event → Attached → Step
 event_step e l = step (said_by (says_of e l)) (leaves_of e l)
 
 -- a run of slots, judged once: 8, then 5
-abbrev pub run_step : Verdict → List Bool → Attached → Step
-run_step verdict.Well hs l = let r = run_on hs (line_from l) in step (bits r.bits) (with_line l r.line)
-run_step (verdict.Refused r) hs l = step (none (number_of r)) l
+abbrev pub run_step : Result (Unit {0}) Refusal → List Bool → Attached → Step
+run_step (Ok tt) hs l = let r = run_on hs (line_from l) in step (bits r.bits) (with_line l r.line)
+run_step (Err r) hs l = step (none (number_of r)) l
 
 -- the request: "Count 0 is a record without an event"
 unfoldable pub slots_step : ℕ → List ℕ → Attached → Step

@@ -1,5 +1,5 @@
 -- Laws: what the code hands back of an event, of a run of slots and of a record is what they come to.
-use Rattle.std.specs.Prelude.{ℕ, ◌≤◌, Bool, true, false, List, [], ◌++◌, ◌≡◌, eqb, leb, length, set}
+use Rattle.std.specs.Prelude.{ℕ, ◌≤◌, Bool, true, false, List, [], ◌++◌, ◌≡◌, eqb, leb, length, set, Result, Ok, Err}
 use Rattle.std.proofs.Common.{arith, ◌∙◌, sym, eq-eqb, ne_eqb, le-leb}
 use Rattle.std.proofs.Math.Path.{ap}
 use Rattle.base.specs.Along.{along}
@@ -14,14 +14,8 @@ use Rattle.line.specs.Packing.{host_before}
 use Rattle.line.specs.Runs.{run_length, host_many}
 use Rattle.line.specs.Slots.{host_bits, bytes_from, run_on, bytes_asked, run_fits, Slotted, slotted, RunOutcome, run_outcome, run_verdict, run_by, slots_of}
 use Rattle.line.specs.Slots as slots
-use Rattle.line.specs.declared.Answer.{Answer}
-use Rattle.line.specs.declared.Answer.TheVariants as answer
 use Rattle.line.specs.declared.Event.{Event}
 use Rattle.line.specs.declared.Refusal.{Refusal}
-use Rattle.line.specs.declared.SlotsAnswer.{SlotsAnswer}
-use Rattle.line.specs.declared.SlotsAnswer.TheVariants as slots_answer
-use Rattle.line.specs.declared.Verdict.{Verdict}
-use Rattle.line.specs.declared.Verdict.TheVariants as verdict
 use Rattle.recording.specs.Playing.{step, bits, said_by, event_step, run_step, slots_step, record_step, digit, put_digits}
 use Rattle.recording.specs.Putting.{Written, wrote, unwritten, written_in, written_run, Put, put, put_from}
 use Rattle.recording.specs.declared.Record.{Record}
@@ -29,24 +23,24 @@ use Rattle.recording.specs.Unpacked.{unpacked, bytes_length}
 
 -- ---- an event
 
-module _ (e : Event) (n : ℕ) (cs : List Chip) (ms ss : List ℕ) (a : Answer) (m : ℕ) (ds : List Chip) (xs ys : List ℕ)
+module _ (e : Event) (n : ℕ) (cs : List Chip) (ms ss : List ℕ) (a : Result Bool Refusal) (m : ℕ) (ds : List Chip) (xs ys : List ℕ)
     (h : outcome (answered a) m (lent ds xs ys) ≡ event_of n cs e ms ss) (place : ℕ) (out : List ℕ) where
   -- its answer and what it leaves, by the outcome
-  event_put : (p : Answer) → a ≡ p → put_from place out (step (said_by (answered p)) (attached m ds xs ys)) ≡ put_from place out (event_step e (attached n cs ms ss))
+  event_put : (p : Result Bool Refusal) → a ≡ p → put_from place out (step (said_by (answered p)) (attached m ds xs ys)) ≡ put_from place out (event_step e (attached n cs ms ss))
   unfolding says_of leaves_of
   event_put p k =
-      ap (λ (q : Answer). put_from place out (step (said_by (answered q)) (attached m ds xs ys))) (sym k)
+      ap (λ (q : Result Bool Refusal). put_from place out (step (said_by (answered q)) (attached m ds xs ys))) (sym k)
       ∙ ap (λ (o : Outcome). put_from place out (step (said_by o.answer) (left_by o))) h
 
   -- answered by a bit, whose character is put
-  pub event_bit : (b : Bool) (d : ℕ) (text : List ℕ) → a ≡ answer.Bit b → d ≡ digit b → text ≡ set out place d
+  pub event_bit : (b : Bool) (d : ℕ) (text : List ℕ) → a ≡ Ok b → d ≡ digit b → text ≡ set out place d
       → put (wrote 1) text (attached m ds xs ys) ≡ put_from place out (event_step e (attached n cs ms ss))
-  event_bit b d text k f t = ap (λ (x : List ℕ). put (wrote 1) x (attached m ds xs ys)) (t ∙ ap (λ (x : ℕ). set out place x) f) ∙ event_put (answer.Bit b) k
+  event_bit b d text k f t = ap (λ (x : List ℕ). put (wrote 1) x (attached m ds xs ys)) (t ∙ ap (λ (x : ℕ). set out place x) f) ∙ event_put (Ok b) k
 
   -- refused
-  pub event_refused : (r : Refusal) (w : Written) → a ≡ answer.Refused r → w ≡ written_in (answered a) → put w out (attached m ds xs ys) ≡ put_from place out (event_step e (attached n cs ms ss))
+  pub event_refused : (r : Refusal) (w : Written) → a ≡ Err r → w ≡ written_in (answered a) → put w out (attached m ds xs ys) ≡ put_from place out (event_step e (attached n cs ms ss))
   event_refused r w k f =
-      ap (λ (x : Written). put x out (attached m ds xs ys)) (f ∙ ap (λ (q : Answer). written_in (answered q)) k) ∙ event_put (answer.Refused r) k
+      ap (λ (x : Written). put x out (attached m ds xs ys)) (f ∙ ap (λ (q : Result Bool Refusal). written_in (answered q)) k) ∙ event_put (Err r) k
 
 -- ---- a run of slots
 
@@ -75,35 +69,35 @@ number_in (slots.put n) = n
 number_in (slots.refused r) = r
 
 module _ (n : ℕ) (cs : List Chip) (count : ℕ) (host answers ms ss : List ℕ) (few : count ≤ 65535) (asked : length host ≡ bytes_asked count) (as_many : length answers ≡ bytes_asked count)
-    (a : SlotsAnswer) (back : List ℕ) (m : ℕ) (ds : List Chip) (xs ys : List ℕ) (h : run_outcome (slotted a) back m (lent ds xs ys) ≡ slots_of n cs count host answers ms ss) where
+    (a : Result ℕ Refusal) (back : List ℕ) (m : ℕ) (ds : List Chip) (xs ys : List ℕ) (h : run_outcome (slotted a) back m (lent ds xs ys) ≡ slots_of n cs count host answers ms ss) where
   -- the outcome, by the table's verdict
-  by_verdict : (p : SlotsAnswer) → a ≡ p → run_outcome (slotted p) back m (lent ds xs ys) ≡ run_by (verdict_of n cs ms ss) n cs count host answers ms ss
+  by_verdict : (p : Result ℕ Refusal) → a ≡ p → run_outcome (slotted p) back m (lent ds xs ys) ≡ run_by (verdict_of n cs ms ss) n cs count host answers ms ss
   unfolding slots_of
   by_verdict p k =
-      ap (λ (q : SlotsAnswer). run_outcome (slotted q) back m (lent ds xs ys)) (sym k) ∙ h
-      ∙ ap (λ (v : Verdict). run_by v n cs count host answers ms ss) (judged n cs count host answers ms ss few asked as_many)
+      ap (λ (q : Result ℕ Refusal). run_outcome (slotted q) back m (lent ds xs ys)) (sym k) ∙ h
+      ∙ ap (λ (v : Result (Unit {0}) Refusal). run_by v n cs count host answers ms ss) (judged n cs count host answers ms ss few asked as_many)
 
   -- an answer for each slot
   all_put : length (run_on (host_bits count host) (line_of n cs ms ss)).bits ≡ count
   all_put = run_length (host_bits count host) (line_of n cs ms ss) ∙ host_many count host (omega arith)
 
   -- as many answers as slots, by the verdict
-  count_by : (v : Verdict) (k : ℕ) → run_outcome (slots.put k) back m (lent ds xs ys) ≡ run_by v n cs count host answers ms ss → k ≡ count
-  count_by verdict.Well k g = ap (λ (o : RunOutcome). number_in o.answer) g ∙ all_put
-  count_by (verdict.Refused r) k g =
+  count_by : (v : Result (Unit {0}) Refusal) (k : ℕ) → run_outcome (slots.put k) back m (lent ds xs ys) ≡ run_by v n cs count host answers ms ss → k ≡ count
+  count_by (Ok tt) k g = ap (λ (o : RunOutcome). number_in o.answer) g ∙ all_put
+  count_by (Err r) k g =
       let d : slots.put k ≡ slots.refused (number_of r) = ap (λ (o : RunOutcome). o.answer) g in
       let z : ◌≡◌ {A = ℕ} 0 1 = cc in
       absurd (omega arith)
 
   -- as many answers as slots
-  pub slots_count : (k : ℕ) → a ≡ slots_answer.Put k → k ≡ count
-  slots_count k e = count_by (verdict_of n cs ms ss) k (by_verdict (slots_answer.Put k) e)
+  pub slots_count : (k : ℕ) → a ≡ Ok k → k ≡ count
+  slots_count k e = count_by (verdict_of n cs ms ss) k (by_verdict (Ok k) e)
 
   module _ (place : ℕ) (out : List ℕ) where
     -- put on the line, by the verdict
-    put_by : (v : Verdict) (k : ℕ) (rest text : List ℕ) → run_outcome (slots.put k) back m (lent ds xs ys) ≡ run_by v n cs count host answers ms ss
+    put_by : (v : Result (Unit {0}) Refusal) (k : ℕ) (rest text : List ℕ) → run_outcome (slots.put k) back m (lent ds xs ys) ≡ run_by v n cs count host answers ms ss
         → text ≡ put_digits (host_bits k (back ++ rest)) place out → put (wrote k) text (attached m ds xs ys) ≡ put_from place out (run_step v (host_bits count host) (attached n cs ms ss))
-    put_by verdict.Well k rest text g t =
+    put_by (Ok tt) k rest text g t =
         let r = run_on (host_bits count host) (line_of n cs ms ss) in
         let l : k ≡ length r.bits = ap (λ (o : RunOutcome). number_in o.answer) g in
         let b : back ≡ bytes_from (length answers) r.bits = ap (λ (o : RunOutcome). o.answers) g in
@@ -112,35 +106,35 @@ module _ (n : ℕ) (cs : List Chip) (count : ℕ) (host answers ms ss : List ℕ
         let u : host_bits k (back ++ rest) ≡ r.bits
         = host_before k back rest (omega arith) ∙ (λ j. host_bits (l j) (b j)) ∙ unpacked (length answers) r.bits (omega arith) in
         λ j. put (wrote (l j)) ((t ∙ ap (λ (bs : List Bool). put_digits bs place out) u) j) (record { count = (g j).count; lent = (g j).lent })
-    put_by (verdict.Refused r) k rest text g t =
+    put_by (Err r) k rest text g t =
         let d : slots.put k ≡ slots.refused (number_of r) = ap (λ (o : RunOutcome). o.answer) g in
         let z : ◌≡◌ {A = ℕ} 0 1 = cc in
         absurd (omega arith)
 
     -- refused, by the verdict
-    refused_by : (v : Verdict) (r : ℕ) → run_outcome (slots.refused r) back m (lent ds xs ys) ≡ run_by v n cs count host answers ms ss
+    refused_by : (v : Result (Unit {0}) Refusal) (r : ℕ) → run_outcome (slots.refused r) back m (lent ds xs ys) ≡ run_by v n cs count host answers ms ss
         → put (unwritten r) out (attached m ds xs ys) ≡ put_from place out (run_step v (host_bits count host) (attached n cs ms ss))
-    refused_by verdict.Well r g =
+    refused_by (Ok tt) r g =
         let d : slots.refused r ≡ slots.put (length (run_on (host_bits count host) (line_of n cs ms ss)).bits) = ap (λ (o : RunOutcome). o.answer) g in
         let z : ◌≡◌ {A = ℕ} 0 1 = cc in
         absurd (omega arith)
-    refused_by (verdict.Refused q) r g = λ j. put (unwritten (number_in (g j).answer)) out (record { count = (g j).count; lent = (g j).lent })
+    refused_by (Err q) r g = λ j. put (unwritten (number_in (g j).answer)) out (record { count = (g j).count; lent = (g j).lent })
 
     -- so what is put goes by it
     judged_step : (count ≡ 0 → ⊥) → put_from place out (run_step (verdict_of n cs ms ss) (host_bits count host) (attached n cs ms ss)) ≡ put_from place out (slots_step count host (attached n cs ms ss))
     judged_step z = ap (put_from place out) (sym (with_slots count host (attached n cs ms ss) z))
 
     -- put on the line, with the characters of the answers in the text
-    pub slots-put : (k : ℕ) (rest text : List ℕ) → (count ≡ 0 → ⊥) → a ≡ slots_answer.Put k → text ≡ put_digits (host_bits k (back ++ rest)) place out
+    pub slots-put : (k : ℕ) (rest text : List ℕ) → (count ≡ 0 → ⊥) → a ≡ Ok k → text ≡ put_digits (host_bits k (back ++ rest)) place out
         → put (wrote k) text (attached m ds xs ys) ≡ put_from place out (slots_step count host (attached n cs ms ss))
-    slots-put k rest text z e t = put_by (verdict_of n cs ms ss) k rest text (by_verdict (slots_answer.Put k) e) t ∙ judged_step z
+    slots-put k rest text z e t = put_by (verdict_of n cs ms ss) k rest text (by_verdict (Ok k) e) t ∙ judged_step z
 
     -- refused
-    pub slots_refused : (r : Refusal) (w : Written) → (count ≡ 0 → ⊥) → a ≡ slots_answer.Refused r → w ≡ written_run (slotted a)
+    pub slots_refused : (r : Refusal) (w : Written) → (count ≡ 0 → ⊥) → a ≡ Err r → w ≡ written_run (slotted a)
         → put w out (attached m ds xs ys) ≡ put_from place out (slots_step count host (attached n cs ms ss))
     slots_refused r w z e f =
-        ap (λ (x : Written). put x out (attached m ds xs ys)) (f ∙ ap (λ (q : SlotsAnswer). written_run (slotted q)) e)
-        ∙ refused_by (verdict_of n cs ms ss) (number_of r) (by_verdict (slots_answer.Refused r) e) ∙ judged_step z
+        ap (λ (x : Written). put x out (attached m ds xs ys)) (f ∙ ap (λ (q : Result ℕ Refusal). written_run (slotted q)) e)
+        ∙ refused_by (verdict_of n cs ms ss) (number_of r) (by_verdict (Err r) e) ∙ judged_step z
 
 -- a run without a slot puts nothing
 pub slots_none : (count : ℕ) (host : List ℕ) (l : Attached) (place : ℕ) (out : List ℕ) → count ≡ 0 → put (wrote 0) out l ≡ put_from place out (slots_step count host l)

@@ -7,7 +7,7 @@ ghost use Rattle.recording.specs.Playing.{digit, ends_of, event_step, slots_step
 ghost use Rattle.recording.specs.Putting.{put, put_from, written_by, written_in, written_run, ends_after, RecordFits, answers_most};
 
 use crate::{Ending, Fault, Found, Played, Record, cards, joining, reading};
-use line::{Answer, Event, Refusal, SlotsAnswer, Table};
+use line::{Event, Refusal, Table};
 
 // What a record's events answer: how many answers were written, or a refusal.
 #[derive(Clone, Copy)]
@@ -51,22 +51,22 @@ fn put_digits(answers: &[u8], n: usize, out: &mut [u8], place: usize)
 }
 
 // The refusal in the answer of an event; a bit has none, and counts as one answer.
-fn refused_event(answer: Answer) -> RecordAnswer
+fn refused_event(answer: Result<bool, Refusal>) -> RecordAnswer
     ensures { written_by result ≡ written_in (answered answer) }
 {
     match answer {
-        Answer::Bit(_) => RecordAnswer::Answered(1),
-        Answer::Refused(r) => RecordAnswer::Refused(r),
+        Ok(_) => RecordAnswer::Answered(1),
+        Err(r) => RecordAnswer::Refused(r),
     }
 }
 
 // The refusal in the answer of a run of slots; slots that were put have none, and count as answers.
-fn refused_run(answer: SlotsAnswer) -> RecordAnswer
+fn refused_run(answer: Result<usize, Refusal>) -> RecordAnswer
     ensures { written_by result ≡ written_run (slotted answer) }
 {
     match answer {
-        SlotsAnswer::Put(n) => RecordAnswer::Answered(n),
-        SlotsAnswer::Refused(r) => RecordAnswer::Refused(r),
+        Ok(n) => RecordAnswer::Answered(n),
+        Err(r) => RecordAnswer::Refused(r),
     }
 }
 
@@ -95,7 +95,7 @@ fn put_event(
     let happened = line::take_event(t, e, ms, ss);
     let answer = happened.answer;
     let table = happened.table;
-    let Answer::Bit(b) = answer else {
+    let Ok(b) = answer else {
         return RecordPut {
             answer: refused_event(answer),
             table: table,
@@ -133,7 +133,7 @@ fn put_slots(
     let ran = line::take_slots(t, bits, count as usize, &mut packed[..bytes], ms, ss);
     let answer = ran.answer;
     let table = ran.table;
-    let SlotsAnswer::Put(n) = answer else {
+    let Ok(n) = answer else {
         return RecordPut {
             answer: refused_run(answer),
             table: table,

@@ -1,6 +1,7 @@
 -- Demand 1, "Bad input is refused by number": each refusal of an event is "given exactly when" document 01's table says, and
 -- leaves "nothing changed".
-use Rattle.std.specs.Prelude.{ℕ, Bool, true, false, List, [], ◌∷◌, ◌++◌, ◌≡◌, refl, eqb, leb, length, take, drop, get_or}
+use Rattle.std.specs.Prelude.{ℕ, Bool, true, false, List, [], ◌∷◌, ◌++◌, ◌≡◌, refl, eqb, leb, length, take, drop, get_or, Result}
+use Rattle.line.specs.declared.Refusal.{Refusal}
 use Rattle.std.proofs.Common.{arith, true≢false, ◌∙◌, sym}
 use Rattle.std.proofs.Math.Path.{ap}
 use Rattle.std.proofs.lemmas.Bool.{eqb-false}
@@ -12,7 +13,6 @@ use Rattle.line.specs.Layout.{line_of, lent}
 use Rattle.chip.specs.With.{no_chip}
 use Rattle.line.specs.Event.{Answered, bit, refused, number_of, table_in_range, sizes_fit, outside_fits, Test, judge, table_tests, event_tests, verdict_of, outcome, asked_by, plan_by, plan_event, plan_in, plan_of, answer_by, done_of, event_of}
 use Rattle.line.specs.declared.Event.{Event}
-use Rattle.line.specs.declared.Verdict.{Verdict}
 use Rattle.line.specs.declared.Plan.{Plan}
 use Rattle.line.specs.declared.Plan.TheVariants as plan
 
@@ -76,7 +76,7 @@ module _ (n : ℕ) (cs : List Chip) (e : Event) (ms ss : List ℕ) where
   judge_answer : (ts : List Test) (p : Plan) → answer_by (plan_by (judge ts) p) line ≡ answered_by ts (answer_by p line)
   judge_answer [] p = refl
   judge_answer (t ∷ ts) p =
-      pick_of (λ (q : Verdict). answer_by (plan_by q p) line) _ _ _ ∙ ap (λ (x : Answered). pick t.holds x (refused (number_of t.refusal))) (judge_answer ts p)
+      pick_of (λ (q : Result (Unit {0}) Refusal). answer_by (plan_by q p) line) _ _ _ ∙ ap (λ (x : Answered). pick t.holds x (refused (number_of t.refusal))) (judge_answer ts p)
 
   answer_is : (event_of n cs e ms ss).answer ≡ answered_by tests said
   unfolding event_of plan_of verdict_of plan_event

@@ -1,13 +1,13 @@
 -- Demand 1 for the search: 8 and 5 "both without an event, counts 0"; and neither is given exactly where the table stands well. When 4 is
 -- given needs the codes on the line, and stands with the listing.
-use Rattle.std.specs.Prelude.{ℕ, ◌≤◌, Bool, true, false, List, ◌≡◌, refl, length}
+use Rattle.std.specs.Prelude.{ℕ, ◌≤◌, Bool, true, false, List, ◌≡◌, refl, length, Result}
+use Rattle.line.specs.declared.Refusal.{Refusal}
 use Rattle.std.proofs.Common.{arith, true≢false, ◌∙◌, sym}
 use Rattle.std.proofs.Math.Path.{ap}
 use Rattle.base.specs.Pick.{pick, pick_if, pick_of}
 use Rattle.base.specs.Exactly.{Iff, by_else, by_then, by_neither}
 use Rattle.line.specs.Event.{table_in_range, sizes_fit, verdict_of}
 use Rattle.line.specs.Refusals.{in_range_few}
-use Rattle.line.specs.declared.Verdict.{Verdict}
 use Rattle.search.specs.Host.{play, search_host}
 use Rattle.line.specs.Attached.{Attached, Stands}
 use Rattle.search.specs.Search.{Searched, complete, refused, complete_or4, wire, Search, outcome, search_by, search_of}
@@ -35,7 +35,7 @@ module _ (list : List ℕ) (l : Attached) where
   answer_is : (search_of list l).answer ≡ pick ranged (pick sized (complete_or4 whole) (refused 5)) (refused 8)
   unfolding search_of verdict_of
   answer_is =
-      let f : Verdict → Searched = λ (v : Verdict). (search_by v list l).answer in
+      let f : Result (Unit {0}) Refusal → Searched = λ (v : Result (Unit {0}) Refusal). (search_by v list l).answer in
       pick_of f _ _ _ ∙ ap (λ (x : Searched). pick ranged x (refused 8)) (pick_of f _ _ _)
 
   answers : (s : ℕ) {B : Type 0} → Iff (pick ranged (pick sized (complete_or4 whole) (refused 5)) (refused 8) ≡ refused s) B → Iff ((search_of list l).answer ≡ refused s) B
@@ -60,8 +60,8 @@ module _ (list : List ℕ) (l : Attached) where
   pub refused_eventless : (r : ℕ) → (r ≡ 4 → ⊥) → (search_of list l).answer ≡ refused r → search_of list l ≡ outcome (refused r) 0 list 0 0 l
   unfolding search_of verdict_of
   refused_eventless =
-      pick_if (λ (v : Verdict). Eventless (search_by v list l)) _ _ _
-      (λ a. pick_if (λ (v : Verdict). Eventless (search_by v list l)) _ _ _ (λ b r k p. absurd (past_4 r (λ q. k (sym q)) p)) (λ b. plainly 5))
+      pick_if (λ (v : Result (Unit {0}) Refusal). Eventless (search_by v list l)) _ _ _
+      (λ a. pick_if (λ (v : Result (Unit {0}) Refusal). Eventless (search_by v list l)) _ _ _ (λ b r k p. absurd (past_4 r (λ q. k (sym q)) p)) (λ b. plainly 5))
       (λ a. plainly 8)
 
   -- neither 8 nor 5 is given exactly where the table stands well, which is what theorems about searches ask for; of a table with at least

@@ -1,6 +1,7 @@
 -- Demand 1 for a run of slots, "Judged once: 8, then 5": each is given exactly when the table, the sizes lent or the run are so, and leaves
 -- "nothing changed"; every other run puts all its slots on the line.
-use Rattle.std.specs.Prelude.{ℕ, ◌≤◌, Bool, true, false, List, ◌≡◌, refl, eqb, leb, length}
+use Rattle.std.specs.Prelude.{ℕ, ◌≤◌, Bool, true, false, List, ◌≡◌, refl, eqb, leb, length, Result}
+use Rattle.line.specs.declared.Refusal.{Refusal}
 use Rattle.std.proofs.Common.{arith, ◌∙◌, sym, leb-true, le-leb}
 use Rattle.std.proofs.Math.Path.{ap}
 use Rattle.base.specs.Pick.{pick, pick_true, pick_if, pick_of}
@@ -12,7 +13,6 @@ use Rattle.line.specs.Layout.{line_of, lent}
 use Rattle.line.specs.Event.{table_in_range, sizes_fit}
 use Rattle.line.specs.Slots.{host_bits, run_on, bytes_asked, run_fits, Slotted, put, refused, RunOutcome, run_outcome, run_verdict, run_by, slots_of}
 use Rattle.line.specs.RunTables.{run_well, put_all}
-use Rattle.line.specs.declared.Verdict.{Verdict}
 use Rattle.histories.specs.Slots.{well_run}
 
 numbered : (r s : ℕ) → (r ≡ s → ⊥) → refused r ≡ refused s → ⊥
@@ -41,7 +41,7 @@ module _ (n : ℕ) (cs : List Chip) (slots : ℕ) (bits answers ms ss : List ℕ
   sized = both (sizes_fit n cs ms ss) (run_fits slots (length bits) (length answers))
 
   -- what it comes to by its verdict, and where that is well
-  abbrev judged_by : Verdict → RunOutcome
+  abbrev judged_by : Result (Unit {0}) Refusal → RunOutcome
   judged_by v = run_by v n cs slots bits answers ms ss
 
   abbrev whole : ℕ
@@ -50,7 +50,7 @@ module _ (n : ℕ) (cs : List Chip) (slots : ℕ) (bits answers ms ss : List ℕ
   answer_is : (slots_of n cs slots bits answers ms ss).answer ≡ pick (table_in_range n cs) (pick sized (put whole) (refused 5)) (refused 8)
   unfolding slots_of run_verdict
   answer_is =
-      let f : Verdict → Slotted = λ (v : Verdict). (judged_by v).answer in
+      let f : Result (Unit {0}) Refusal → Slotted = λ (v : Result (Unit {0}) Refusal). (judged_by v).answer in
       pick_of f _ _ _ ∙ ap (λ (x : Slotted). pick (table_in_range n cs) x (refused 8)) (pick_of f _ _ _)
 
   answers_exactly : (a : Slotted) {B : Type 0} → Iff (pick (table_in_range n cs) (pick sized (put whole) (refused 5)) (refused 8) ≡ a) B → Iff ((slots_of n cs slots bits answers ms ss).answer ≡ a) B
@@ -91,6 +91,6 @@ module _ (n : ℕ) (cs : List Chip) (slots : ℕ) (bits answers ms ss : List ℕ
       → slots_of n cs slots bits answers ms ss ≡ run_outcome (refused r) answers n (lent cs ms ss)
   unfolding slots_of run_verdict
   refused_leaves =
-      pick_if (λ (v : Verdict). Unchanged (judged_by v)) _ _ _
-      (λ a. pick_if (λ (v : Verdict). Unchanged (judged_by v)) _ _ _ (λ b r p. absurd (not_put _ r p)) (λ b. unchanged 5))
+      pick_if (λ (v : Result (Unit {0}) Refusal). Unchanged (judged_by v)) _ _ _
+      (λ a. pick_if (λ (v : Result (Unit {0}) Refusal). Unchanged (judged_by v)) _ _ _ (λ b r p. absurd (not_put _ r p)) (λ b. unchanged 5))
       (λ a. unchanged 8)

@@ -1,5 +1,5 @@
 -- Laws: how a round is judged, and what its search and its pages come to together.
-use Rattle.std.specs.Prelude.{ℕ, ◌+◌, ◌*◌, ◌≤◌, Bool, true, false, ◌≡◌, refl, eqb, length, take, drop}
+use Rattle.std.specs.Prelude.{ℕ, ◌+◌, ◌*◌, ◌≤◌, Bool, true, false, ◌≡◌, refl, eqb, length, take, drop, Result, Ok, Err}
 use Rattle.std.proofs.Common.{arith, add-zero, true≢false, ◌∙◌, length-append}
 use mathlib.Core.List.{List, []}
 use Rattle.std.proofs.Math.Path.{sym, ap}
@@ -10,8 +10,6 @@ use Rattle.line.specs.Attached.{Attached, attached}
 use Rattle.line.specs.Event.{table_in_range, sizes_fit, verdict_of}
 use Rattle.line.specs.declared.Refusal.{Refusal}
 use Rattle.line.specs.declared.Refusal.TheVariants.{OutOfRange, WrongSize}
-use Rattle.line.specs.declared.Verdict.{Verdict}
-use Rattle.line.specs.declared.Verdict.TheVariants as verdict
 use Rattle.search.specs.Host.{Host, done, Played, played, more, play, Listed, search_host}
 use Rattle.search.specs.Counts.{play_bind}
 use Rattle.search.specs.Search.{Searched, number_in, complete_or4, wire, Search, outcome, from_played, search_by, search_of}
@@ -24,25 +22,25 @@ use Rattle.rounds.specs.Spends.{pages_spend, search_spends}
 -- ---- the verdict
 
 -- two verdicts that are not the same
-abbrev is_well : Verdict → Bool
-is_well verdict.Well = true
-is_well (verdict.Refused r) = false
+abbrev is_well : Result (Unit {0}) Refusal → Bool
+is_well (Ok tt) = true
+is_well (Err r) = false
 
 -- by three tests, in order
-abbrev judged_by : Bool → Bool → Bool → Verdict
-judged_by range sizes pages = pick range (pick sizes (pick pages verdict.Well (verdict.Refused WrongSize)) (verdict.Refused WrongSize)) (verdict.Refused OutOfRange)
+abbrev judged_by : Bool → Bool → Bool → Result (Unit {0}) Refusal
+judged_by range sizes pages = pick range (pick sizes (pick pages (Ok tt) (Err WrongSize)) (Err WrongSize)) (Err OutOfRange)
 
 -- by two
-abbrev stood_by : Bool → Bool → Verdict
-stood_by range sizes = pick range (pick sizes verdict.Well (verdict.Refused WrongSize)) (verdict.Refused OutOfRange)
+abbrev stood_by : Bool → Bool → Result (Unit {0}) Refusal
+stood_by range sizes = pick range (pick sizes (Ok tt) (Err WrongSize)) (Err OutOfRange)
 
-well_then : (range sizes pages : Bool) → verdict.Well ≡ stood_by range sizes → judged_by range sizes pages ≡ pick pages verdict.Well (verdict.Refused WrongSize)
+well_then : (range sizes pages : Bool) → Ok tt ≡ stood_by range sizes → judged_by range sizes pages ≡ pick pages (Ok tt) (Err WrongSize)
 unfolding pick
 well_then true true pages e = refl
 well_then true false pages e = absurd (true≢false (ap is_well e))
 well_then false sizes pages e = absurd (true≢false (ap is_well e))
 
-refused_too : (range sizes pages : Bool) (r : Refusal) → verdict.Refused r ≡ stood_by range sizes → verdict.Refused r ≡ judged_by range sizes pages
+refused_too : (range sizes pages : Bool) (r : Refusal) → Err r ≡ stood_by range sizes → Err r ≡ judged_by range sizes pages
 unfolding pick
 refused_too true true pages r e = absurd (true≢false (sym (ap is_well e)))
 refused_too true false pages r e = e
@@ -52,42 +50,42 @@ module _ (n : ℕ) (cs : List Chip) (ms ss pages : List ℕ) (asked : ℕ) (ea :
   abbrev fits : Bool
   fits = eqb (length pages) (pages_asked n cs)
 
-  pub stands_well : verdict.Well ≡ verdict_of n cs ms ss → eqb (length pages) asked ≡ true → verdict.Well ≡ round_verdict pages (attached n cs ms ss)
+  pub stands_well : Ok tt ≡ verdict_of n cs ms ss → eqb (length pages) asked ≡ true → Ok tt ≡ round_verdict pages (attached n cs ms ss)
   unfolding round_verdict verdict_of
   stands_well e f = sym (well_then (table_in_range n cs) (sizes_fit n cs ms ss) fits e ∙ pick_true fits _ _ (ap (eqb (length pages)) (sym ea) ∙ f))
 
-  pub stands_wrong : verdict.Well ≡ verdict_of n cs ms ss → eqb (length pages) asked ≡ false → verdict.Refused WrongSize ≡ round_verdict pages (attached n cs ms ss)
+  pub stands_wrong : Ok tt ≡ verdict_of n cs ms ss → eqb (length pages) asked ≡ false → Err WrongSize ≡ round_verdict pages (attached n cs ms ss)
   unfolding round_verdict verdict_of
   stands_wrong e f = sym (well_then (table_in_range n cs) (sizes_fit n cs ms ss) fits e ∙ pick_false fits _ _ (ap (eqb (length pages)) (sym ea) ∙ f))
 
-pub stands_refused : (n : ℕ) (cs : List Chip) (ms ss pages : List ℕ) (q : Verdict) (r : Refusal) → q ≡ verdict_of n cs ms ss → q ≡ verdict.Refused r
-    → verdict.Refused r ≡ round_verdict pages (attached n cs ms ss)
+pub stands_refused : (n : ℕ) (cs : List Chip) (ms ss pages : List ℕ) (q : Result (Unit {0}) Refusal) (r : Refusal) → q ≡ verdict_of n cs ms ss → q ≡ Err r
+    → Err r ≡ round_verdict pages (attached n cs ms ss)
 unfolding round_verdict verdict_of
 stands_refused n cs ms ss pages q r h e = refused_too (table_in_range n cs) (sizes_fit n cs ms ss) (eqb (length pages) (pages_asked n cs)) r (sym e ∙ h)
 
 -- a round that is judged well stood well before its page buffer was looked at
-round_stood : (range sizes pages : Bool) → verdict.Well ≡ judged_by range sizes pages → verdict.Well ≡ stood_by range sizes
+round_stood : (range sizes pages : Bool) → Ok tt ≡ judged_by range sizes pages → Ok tt ≡ stood_by range sizes
 unfolding pick
 round_stood true true pages e = refl
 round_stood true false pages e = e
 round_stood false sizes pages e = e
 
-pub well_stood : (n : ℕ) (cs : List Chip) (ms ss pages : List ℕ) → verdict.Well ≡ round_verdict pages (attached n cs ms ss) → verdict.Well ≡ verdict_of n cs ms ss
+pub well_stood : (n : ℕ) (cs : List Chip) (ms ss pages : List ℕ) → Ok tt ≡ round_verdict pages (attached n cs ms ss) → Ok tt ≡ verdict_of n cs ms ss
 unfolding round_verdict verdict_of
 well_stood n cs ms ss pages e = round_stood (table_in_range n cs) (sizes_fit n cs ms ss) (eqb (length pages) (pages_asked n cs)) e
 
 -- a round, taken at what the table was judged to
-pub round_at : (l : Attached) (list pages : List ℕ) (q p : Verdict) (r : Round) → q ≡ round_verdict pages l → q ≡ p → r ≡ round_by p list pages l → r ≡ round_of list pages l
+pub round_at : (l : Attached) (list pages : List ℕ) (q p : Result (Unit {0}) Refusal) (r : Round) → q ≡ round_verdict pages l → q ≡ p → r ≡ round_by p list pages l → r ≡ round_of list pages l
 unfolding round_of
-round_at l list pages q p r h e k = k ∙ ap (λ (v : Verdict). round_by v list pages l) (sym e ∙ h)
+round_at l list pages q p r h e k = k ∙ ap (λ (v : Result (Unit {0}) Refusal). round_by v list pages l) (sym e ∙ h)
 
 -- ---- the search and the pages
 
 -- a search on a table that stands well puts its events on the line
-pub search_well : (list : List ℕ) (l : Attached) (s : Search) → verdict.Well ≡ verdict_of l.count l.lent.chips l.lent.images l.lent.pads
+pub search_well : (list : List ℕ) (l : Attached) (s : Search) → Ok tt ≡ verdict_of l.count l.lent.chips l.lent.images l.lent.pads
     → s ≡ search_of list l → s ≡ from_played list (play wire (search_host (length list)) l)
 unfolding search_of
-search_well list l s e k = k ∙ ap (λ (v : Verdict). search_by v list l) (sym e)
+search_well list l s e k = k ∙ ap (λ (v : Result (Unit {0}) Refusal). search_by v list l) (sym e)
 
 -- its list is complete where its number is 0, and only there
 complete_at : (b : Bool) → number_in (complete_or4 b) ≡ 0 → b ≡ true

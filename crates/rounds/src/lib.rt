@@ -5,17 +5,16 @@
 mod borne;
 mod host;
 
-ghost use Rattle.std.specs.Prelude.{◌≡◌, length};
+ghost use Rattle.std.specs.Prelude.{◌≡◌, length, Ok};
 ghost use Rattle.line.specs.Attached.{attached};
 ghost use Rattle.line.specs.Event.{verdict_of};
-ghost use Rattle.line.specs.declared.Verdict.TheVariants as verdict;
 ghost use Rattle.search.specs.Host.{play};
 ghost use Rattle.search.specs.Search.{searched, wire, outcome};
 ghost use Rattle.rounds.specs.Host.{round_host};
 ghost use Rattle.rounds.specs.Round.{round, borne_on, round_verdict, from_round, round_of};
 
 pub use borne::pages_asked;
-use line::{Refusal, Table, Verdict};
+use line::{Refusal, Table};
 use search::{Found, Resets, SearchAnswer, Slots};
 
 // The bytes of a page.
@@ -28,25 +27,25 @@ pub const PAGE_SLOTS: u64 = 352;
 pub const PAGES_MOST: usize = 512;
 
 // How a table, its buffers and a page buffer stand: refusal 8, then 5.
-fn how_stands(t: Table, pages: &[u8], ms: &[u8], ss: &[u8]) -> Verdict
+fn how_stands(t: Table, pages: &[u8], ms: &[u8], ss: &[u8]) -> Result<(), Refusal>
     ensures { result ≡ round_verdict pages.now (attached t.n t.chips ms.now ss.now) }
 {
     let stands = line::how_stands(t, ms, ss);
     let asked = borne::pages_asked(t);
     match stands {
-        Verdict::Well => {
+        Ok(()) => {
             if pages.len() == asked {
-                return Verdict::Well;
+                return Ok(());
             }
-            Verdict::Refused(Refusal::WrongSize)
+            Err(Refusal::WrongSize)
         }
-        Verdict::Refused(r) => Verdict::Refused(r),
+        Err(r) => Err(r),
     }
 }
 
 // The round on a table that stands well.
 fn go_round(t: Table, list: &mut [u64], pages: &mut [u8], ms: &mut [u8], ss: &mut [u8]) -> Found
-    requires { verdict.Well ≡ verdict_of t.n t.chips ms.old ss.old }
+    requires { Ok tt ≡ verdict_of t.n t.chips ms.old ss.old }
     ensures { round (outcome (searched result.answer) result.listed list.new result.resets.0 result.slots.0 (attached result.table.n result.table.chips ms.new ss.new)) pages.new
         ≡ from_round list.old pages.old (play wire (round_host (length list.old) (borne_on (attached t.n t.chips ms.old ss.old))) (attached t.n t.chips ms.old ss.old)) }
 {
@@ -84,8 +83,8 @@ pub fn make_round(
 {
     let stands = how_stands(t, pages, ms, ss);
     match stands {
-        Verdict::Well => go_round(t, list, pages, ms, ss),
-        Verdict::Refused(r) => Found {
+        Ok(()) => go_round(t, list, pages, ms, ss),
+        Err(r) => Found {
             answer: SearchAnswer::Refused(r),
             listed: 0,
             resets: Resets(0),

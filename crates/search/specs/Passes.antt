@@ -1,5 +1,6 @@
 -- Laws: the loop of the passes plays the host of the search.
-use Rattle.std.specs.Prelude.{ℕ, zero, suc, ◌+◌, ◌-◌, ◌*◌, ◌<◌, ◌≤◌, Bool, true, false, List, [], ◌∷◌, ◌++◌, ◌≡◌, refl, length, take, drop, set, eqb}
+use Rattle.std.specs.Prelude.{ℕ, zero, suc, ◌+◌, ◌-◌, ◌*◌, ◌<◌, ◌≤◌, Bool, true, false, List, [], ◌∷◌, ◌++◌, ◌≡◌, refl, length, take, drop, set, eqb, Result}
+use Rattle.line.specs.declared.Refusal.{Refusal}
 use Rattle.std.proofs.Common.{arith, ◌∙◌, take-append-drop, take-suc-set, drop-set-lt, drop-drop, length-take-le, eq-eqb, ne_eqb, zero-add, add-zero, add-one}
 use Rattle.std.proofs.Math.Path.{sym, ap}
 use Rattle.std.proofs.Math.ListN.{length-set}
@@ -7,7 +8,6 @@ use Rattle.base.specs.Pick.{pick, pick_true, pick_false}
 use Rattle.chip.specs.declared.Chip.{Chip}
 use Rattle.line.specs.Event.{verdict_of}
 use Rattle.line.specs.Events.{reset_event}
-use Rattle.line.specs.declared.Verdict.{Verdict}
 use Rattle.search.specs.Host.{Host, bind, Played, played, Listed, listed, End, end, more, heard, play, begun, pass, write, passes, go_on, up_to}
 use Rattle.search.specs.Counts.{more_more, more_none, and_then, play_bind}
 use Rattle.line.specs.Attached.{Attached, attached, says_of, leaves_of}
@@ -147,7 +147,7 @@ found_list n list list₀ l b r s a h e f =
     λ j. outcome (f j) (sym k j) (sym m j) r s l
 
 -- a search, taken at what the table was judged to
-pub search_at : (n : ℕ) (cs : List Chip) (ms ss list : List ℕ) (q p : Verdict) (r : Search) → q ≡ verdict_of n cs ms ss → q ≡ p
+pub search_at : (n : ℕ) (cs : List Chip) (ms ss list : List ℕ) (q p : Result (Unit {0}) Refusal) (r : Search) → q ≡ verdict_of n cs ms ss → q ≡ p
     → r ≡ search_by p list (attached n cs ms ss) → r ≡ search_of list (attached n cs ms ss)
 unfolding search_of
-search_at n cs ms ss list q p r h e k = k ∙ ap (λ (v : Verdict). search_by v list (attached n cs ms ss)) (sym e ∙ h)
+search_at n cs ms ss list q p r h e k = k ∙ ap (λ (v : Result (Unit {0}) Refusal). search_by v list (attached n cs ms ss)) (sym e ∙ h)

@@ -1,13 +1,12 @@
 -- Laws: a search on a table goes by the places of its line alone, and leaves the places past them.
-use Rattle.std.specs.Prelude.{ℕ, ◌≤◌, ◌<◌, List, ◌++◌, ◌≡◌, length}
+use Rattle.std.specs.Prelude.{ℕ, ◌≤◌, ◌<◌, List, ◌++◌, ◌≡◌, length, Result, Ok, Err}
+use Rattle.line.specs.declared.Refusal.{Refusal}
 use Rattle.std.proofs.Common.{arith, ◌∙◌}
 use Rattle.std.proofs.Math.Path.{refl, ap}
 use Rattle.chip.specs.declared.Chip.{Chip}
 use Rattle.line.specs.Event.{Outcome}
 use Rattle.line.specs.Prefix.{verdict_rest, event_rest, event_holds, many_verdict}
 use Rattle.line.specs.declared.Event.{Event}
-use Rattle.line.specs.declared.Verdict.{Verdict}
-use Rattle.line.specs.declared.Verdict.TheVariants as verdict
 use Rattle.search.specs.Host.{Host, done, ask, Played, Listed, played, more, resets_of, slots_of, play, search_host}
 use Rattle.line.specs.Attached.{Attached, attached, left_by, says_of, leaves_of, verdict_at}
 use Rattle.search.specs.Search.{refused, wire, Search, outcome, from_played, search_by, search_of}
@@ -30,7 +29,7 @@ pub record Has (n m : ℕ) (l : Attached) : Type 0 where
 -- a table of over 16 chips is refused by 8, without an event
 pub many_search : (list : List ℕ) (n : ℕ) (cs : List Chip) (ms ss : List ℕ) → 16 < n → search_of list (attached n cs ms ss) ≡ outcome (refused 8) 0 list 0 0 (attached n cs ms ss)
 unfolding search_of
-many_search list n cs ms ss h = ap (λ (v : Verdict). search_by v list (attached n cs ms ss)) (many_verdict n cs ms ss h)
+many_search list n cs ms ss h = ap (λ (v : Result (Unit {0}) Refusal). search_by v list (attached n cs ms ss)) (many_verdict n cs ms ss h)
 
 module _ (n m : ℕ) (few : n ≤ m) where
   leaves_has : (e : Event) (l : Attached) → Has n m l → Has n m (leaves_of e l)
@@ -51,9 +50,9 @@ module _ (n m : ℕ) (few : n ≤ m) where
   unfolding search_of
   search_has list l s = go (verdict_at l)
     where
-      go : (v : Verdict) → Has n m (search_by v list l).line
-      go verdict.Well = play_has (search_host (length list)) l s
-      go (verdict.Refused r) = s
+      go : (v : Result (Unit {0}) Refusal) → Has n m (search_by v list l).line
+      go (Ok tt) = play_has (search_host (length list)) l s
+      go (Err r) = s
 
   module _ (Z : List Chip) where
     event_on_rest : (e : Event) (l : Attached) → Has n m l → (says_of e (attached_rest Z l) ≡ says_of e l) × (leaves_of e (attached_rest Z l) ≡ attached_rest Z (leaves_of e l))
@@ -78,9 +77,9 @@ module _ (n m : ℕ) (few : n ≤ m) where
     search-rest list l s =
         let c = s.chips in
         let p = s.places in
-        ap (λ (v : Verdict). search_by v list (attached_rest Z l)) (verdict_rest l.count l.lent.chips Z (omega arith) l.lent.images l.lent.pads)
+        ap (λ (v : Result (Unit {0}) Refusal). search_by v list (attached_rest Z l)) (verdict_rest l.count l.lent.chips Z (omega arith) l.lent.images l.lent.pads)
         ∙ go (verdict_at l)
       where
-        go : (v : Verdict) → search_by v list (attached_rest Z l) ≡ search_rest Z (search_by v list l)
-        go verdict.Well = ap (λ (x : Played Listed Attached). from_played list x) (play_rest (search_host (length list)) l s)
-        go (verdict.Refused r) = refl
+        go : (v : Result (Unit {0}) Refusal) → search_by v list (attached_rest Z l) ≡ search_rest Z (search_by v list l)
+        go (Ok tt) = ap (λ (x : Played Listed Attached). from_played list x) (play_rest (search_host (length list)) l s)
+        go (Err r) = refl

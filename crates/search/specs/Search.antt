@@ -1,10 +1,9 @@
 -- Document 01, "Search" and "Refusal numbers": the search over a table, its buffers and a lent list, for every input.
-use Rattle.std.specs.Prelude.{ℕ, Bool, List, ◌++◌, length, drop}
+use Rattle.std.specs.Prelude.{ℕ, Bool, List, ◌++◌, length, drop, Result, Ok, Err}
+use Rattle.line.specs.declared.Refusal.{Refusal}
 use Rattle.base.specs.Pick.{pick}
 use Rattle.line.specs.Attached.{Attached, says_of, leaves_of, verdict_at}
 use Rattle.line.specs.Event.{number_of}
-use Rattle.line.specs.declared.Verdict.{Verdict}
-use Rattle.line.specs.declared.Verdict.TheVariants as verdict
 use Rattle.search.specs.Host.{Wire, Played, played, End, end, Listed, play, search_host}
 use Rattle.search.specs.declared.SearchAnswer.{SearchAnswer}
 use Rattle.search.specs.declared.SearchAnswer.TheVariants.{Complete, TooFewPlaces, Refused}
@@ -59,9 +58,9 @@ from_played list p =
     (p.result.codes ++ drop (length p.result.codes) list) p.resets p.slots p.line
 
 -- "Search: 8, 5 (both without an event, counts 0), then 4.": by what the table is judged to
-abbrev pub search_by : Verdict → List ℕ → Attached → Search
-search_by verdict.Well list l = from_played list (play wire (search_host (length list)) l)
-search_by (verdict.Refused r) list l = outcome (refused (number_of r)) 0 list 0 0 l
+abbrev pub search_by : Result (Unit {0}) Refusal → List ℕ → Attached → Search
+search_by (Ok tt) list l = from_played list (play wire (search_host (length list)) l)
+search_by (Err r) list l = outcome (refused (number_of r)) 0 list 0 0 l
 
 unfoldable pub search_of : List ℕ → Attached → Search
 search_of list l = search_by (verdict_at l) list l

@@ -7,7 +7,7 @@ ghost use Rattle.line.specs.Attached.{attached, says_of, leaves_of};
 ghost use Rattle.search.specs.Search.{wire, played_pass, played_write};
 
 use crate::Slots;
-use line::{Answer, Event, Table};
+use line::{Event, Refusal, Table};
 
 // What the host hears of an event, and the table that it leaves.
 #[derive(Clone, Copy)]
@@ -27,12 +27,12 @@ pub struct Pass {
 }
 
 // The bit of an answer; without one the host hears a 1.
-pub fn bit_heard(a: Answer) -> bool
+pub fn bit_heard(a: Result<bool, Refusal>) -> bool
     ensures { result ≡ heard (answered a) }
 {
     match a {
-        Answer::Bit(b) => b,
-        Answer::Refused(_) => true,
+        Ok(b) => b,
+        Err(_) => true,
     }
 }
 

@@ -10,7 +10,7 @@ ghost use Rattle.search.specs.Search.{searched, number_in, complete_or4, wire, o
 ghost use Rattle.search.specs.Passes.{played_list};
 
 pub use host::{Heard, reset, slot, write_byte};
-use line::{Refusal, Table, Verdict};
+use line::{Refusal, Table};
 
 // Resets put on the line. Never added to slots: the two differ in time.
 #[derive(Clone, Copy)]
@@ -183,8 +183,8 @@ pub fn search_line(t: Table, list: &mut [u64], ms: &mut [u8], ss: &mut [u8]) -> 
 {
     let stands = line::how_stands(t, ms, ss);
     match stands {
-        Verdict::Well => find(t, list, ms, ss),
-        Verdict::Refused(r) => Found {
+        Ok(()) => find(t, list, ms, ss),
+        Err(r) => Found {
             answer: SearchAnswer::Refused(r),
             listed: 0,
             resets: Resets(0),

@@ -1,5 +1,6 @@
 -- Laws: the loops over records in their places are the walks over the chips that they stand for.
-use Rattle.std.specs.Prelude.{ℕ, ◌+◌, ◌-◌, ◌*◌, ◌/◌, ◌<◌, ◌≤◌, Bool, List, ◌++◌, ◌≡◌, refl, length, take, drop, get_or, set}
+use Rattle.std.specs.Prelude.{ℕ, ◌+◌, ◌-◌, ◌*◌, ◌/◌, ◌<◌, ◌≤◌, Bool, List, ◌++◌, ◌≡◌, refl, length, take, drop, get_or, set, Result}
+use Rattle.line.specs.declared.Refusal.{Refusal}
 use Rattle.std.proofs.Common.{arith, ◌∙◌, ap, sym, length-set}
 use Rattle.std.proofs.Math.Nat.{sub-zero}
 use Rattle.base.specs.Bits.{both}
@@ -9,7 +10,6 @@ use Rattle.chip.specs.With.{no_chip}
 use Rattle.line.specs.Event.{answered, outcome}
 use Rattle.line.specs.Carrier.{over, over_more, over_done, first_spot, spot_after, puts_at, bus_with, bus_over, turned, turn_of, acts, acts_more, acts_done, answer_for}
 use Rattle.line.specs.Carried.{walked}
-use Rattle.line.specs.declared.Answer.{Answer}
 use Rattle.line.specs.declared.Plan.{Plan}
 use Rattle.line.specs.declared.Spot.{Spot}
 use Rattle.line.specs.declared.Bus.{Bus}
@@ -125,7 +125,7 @@ module _ (d : Plan) (v : Bool) (bs₀ ms₀ ss₀ bs ms ss : List ℕ) (n i : �
       sym (acts_done d v n i p (unpacked_table bs) ms ss h) ∙ g.acted ∙ ap (λ (k : ℕ). acts d v k 0 p₀ (unpacked_table bs₀) ms₀ ss₀) g.count₀
 
 -- what the loops leave, in bytes
-pub played : (bs ms ss bs' ms' ss' : List ℕ) (d : Plan) (v : Bool) (a : Answer) → Table16 bs' → v ≡ (bus_over d (length (unpacked_table bs)) (unpacked_table bs) ms ss).value
+pub played : (bs ms ss bs' ms' ss' : List ℕ) (d : Plan) (v : Bool) (a : Result Bool Refusal) → Table16 bs' → v ≡ (bus_over d (length (unpacked_table bs)) (unpacked_table bs) ms ss).value
     → lent (unpacked_table bs') ms' ss' ≡ acts d v (length (unpacked_table bs)) 0 first_spot (unpacked_table bs) ms ss → a ≡ answer_for d v
     → event_left (answer_number (answered a)) bs' ms' ss' ≡ packed_outcome (walked (length (unpacked_table bs)) (length (unpacked_table bs)) (unpacked_table bs) ms ss d)
 played bs ms ss bs' ms' ss' d v a t e f g =

@@ -1,5 +1,6 @@
 -- Laws: the answers of the plain forms as numbers, taken at what a match found.
-use Rattle.std.specs.Prelude.{ℕ, zero, suc, ◌-◌, ◌<◌, true, ◌≡◌, refl, ltb, ℤ, pos, ◌-ℤ◌, Result}
+use Rattle.std.specs.Prelude.{ℕ, zero, suc, ◌-◌, ◌<◌, true, ◌≡◌, refl, ltb, ℤ, pos, ◌-ℤ◌, Result, Ok, Err, Bool}
+use Rattle.line.specs.declared.Refusal.{Refusal}
 use Rattle.std.proofs.Common.{arith, ◌∙◌, ap, sym, subst, lt-ltb, to_z, of_z, SFits, to_z-of_z}
 use Rattle.std.specs.Int.Signed.{mag}
 use Rattle.std.specs.Int.{w32}
@@ -7,9 +8,6 @@ use Rattle.std.proofs.Math.Facts.{to_z_pos}
 use Rattle.base.specs.Along.{along}
 use Rattle.line.specs.Event.{answered}
 use Rattle.line.specs.Slots.{slotted}
-use Rattle.line.specs.declared.Answer.{Answer}
-use Rattle.line.specs.declared.SlotsAnswer.{SlotsAnswer}
-use Rattle.line.specs.declared.SlotsAnswer.TheVariants as slots
 use Rattle.card.specs.Card.{Carded, chips, refused, carded}
 use Rattle.card.specs.declared.Refused.{Refused}
 use Rattle.search.specs.Search.{searched, number_in}
@@ -26,15 +24,15 @@ card_offset (chips m) = 0
 card_offset (refused r at) = at
 
 -- how many slots a run put on the line
-abbrev pub slots_put : SlotsAnswer → ℕ
-slots_put (slots.Put n) = n
-slots_put (slots.Refused r) = 0
+abbrev pub slots_put : Result ℕ Refusal → ℕ
+slots_put (Ok n) = n
+slots_put (Err r) = 0
 
-pub slots-at : (q p : SlotsAnswer) (r : ℤ) → q ≡ p → r ≡ slots_number (slotted p) → r ≡ slots_number (slotted q)
-slots-at = along (λ (k : SlotsAnswer). slots_number (slotted k))
+pub slots-at : (q p : Result ℕ Refusal) (r : ℤ) → q ≡ p → r ≡ slots_number (slotted p) → r ≡ slots_number (slotted q)
+slots-at = along (λ (k : Result ℕ Refusal). slots_number (slotted k))
 
-pub event_at : (q p : Answer) (r : ℤ) → q ≡ p → r ≡ answer_number (answered p) → r ≡ answer_number (answered q)
-event_at = along (λ (k : Answer). answer_number (answered k))
+pub event_at : (q p : Result Bool Refusal) (r : ℤ) → q ≡ p → r ≡ answer_number (answered p) → r ≡ answer_number (answered q)
+event_at = along (λ (k : Result Bool Refusal). answer_number (answered k))
 
 pub search_at : (n : ℕ) (q p : SearchAnswer) (r : ℤ) → q ≡ p → r ≡ search_number n (searched p) → r ≡ search_number n (searched q)
 search_at n = along (λ (k : SearchAnswer). search_number n (searched k))

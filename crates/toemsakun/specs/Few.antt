@@ -1,13 +1,12 @@
 -- Laws: a search lists at most 16 codes.
 use Prim.Native.Nat.{ℕ, zero, suc, ◌+◌, ◌-◌, ◌≤◌}
 use native.Mathlib.Omega.{arith}
-use Rattle.std.specs.Prelude.{Bool, List, [], ◌∷◌, ◌++◌, eqb, length}
+use Rattle.std.specs.Prelude.{Bool, List, [], ◌∷◌, ◌++◌, eqb, length, Result, Ok, Err}
+use Rattle.line.specs.declared.Refusal.{Refusal}
 use Rattle.std.proofs.Math.Bool.{true, false}
 use Rattle.std.proofs.Common.{sym, subst}
 use Rattle.std.proofs.Math.ListN.{length-append}
 use Rattle.base.specs.Pick.{pick}
-use Rattle.line.specs.declared.Verdict.{Verdict}
-use Rattle.line.specs.declared.Verdict.TheVariants as verdict
 use Rattle.line.specs.Layout.{capped}
 use Rattle.line.specs.Prefix.{capped_few}
 use Rattle.line.specs.Events.{reset_event}
@@ -56,6 +55,6 @@ pub search_few : (list : List ℕ) (l : Attached) → (search_of list l).number 
 unfolding search_of
 search_few list l = go (verdict_at l)
   where
-    go : (v : Verdict) → (search_by v list l).number ≤ 16
-    go verdict.Well = passes_few 16 (capped (length list)) 0 [] l (omega (arith, (capped_few (length list)).0))
-    go (verdict.Refused r) = omega arith
+    go : (v : Result (Unit {0}) Refusal) → (search_by v list l).number ≤ 16
+    go (Ok tt) = passes_few 16 (capped (length list)) 0 [] l (omega (arith, (capped_few (length list)).0))
+    go (Err r) = omega arith

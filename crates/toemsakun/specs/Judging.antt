@@ -1,5 +1,6 @@
 -- Laws: what an event comes to on bytes, as a loop over the records finds it.
-use Rattle.std.specs.Prelude.{ℕ, ◌*◌, ◌/◌, ◌<◌, Bool, ◌≡◌, eqb, leb, length, take}
+use Rattle.std.specs.Prelude.{ℕ, ◌*◌, ◌/◌, ◌<◌, Bool, ◌≡◌, eqb, leb, length, take, Result}
+use Rattle.line.specs.declared.Refusal.{Refusal}
 use native.Mathlib.Omega.{arith}
 use Rattle.std.proofs.Math.Bool.{true, false}
 use Rattle.std.proofs.Common.{true≢false, ◌∙◌}
@@ -16,7 +17,6 @@ use Rattle.line.specs.Layout.{lent, images_size, pads_size}
 use Rattle.line.specs.Carrier.{verdict_with, verdict_by, plan_seen, happens_by, answer_for}
 use Rattle.line.specs.Carried.{walked, refused_done, happens_few}
 use Rattle.line.proofs.Walked.{plan_walked}
-use Rattle.line.specs.declared.Answer.{Answer}
 use Rattle.line.specs.declared.Refusal.TheVariants.{OutOfRange}
 use Rattle.line.specs.declared.Event.{Event}
 use Rattle.line.specs.declared.Survey.{Survey}
@@ -106,17 +106,17 @@ module _ (bs : List ℕ) (e : Event) (ms ss : List ℕ) (p : Plan) (h : p ≡ pl
         ap (λ (o : Outcome). packed_outcome o) (ap (λ (x : Plan). walked (length cs) (length cs) cs ms ss x) (on_table is-table) ∙ plan_walked (length cs) (length cs) cs ms ss (λ few. (omega arith, refl)) e)
         ∙ sym (pick_true (is_table bs) _ _ is-table)
 
-  pub none_done : (a : Answer) → happens_by p ≡ false → a ≡ answer_for p true → event_left (answer_number (answered a)) bs ms ss ≡ event_bytes bs e ms ss
+  pub none_done : (a : Result Bool Refusal) → happens_by p ≡ false → a ≡ answer_for p true → event_left (answer_number (answered a)) bs ms ss ≡ event_bytes bs e ms ss
   unfolding event_bytes event_of
   none_done a none f = go (is_table bs) refl
     where
       go : (t : Bool) → is_table bs ≡ t → event_left (answer_number (answered a)) bs ms ss ≡ pick (is_table bs) (packed_outcome (done_of (plan_of (length cs) cs e ms ss) (length cs) cs ms ss)) (event_left (minus 8) bs ms ss)
       go true t =
           ap (λ (k : List ℕ). event_left (answer_number (answered a)) k ms ss) (sym (table_is bs t))
-          ∙ ap (λ (x : Answer). packed_outcome (outcome (answered x) (length cs) (lent cs ms ss))) f
+          ∙ ap (λ (x : Result Bool Refusal). packed_outcome (outcome (answered x) (length cs) (lent cs ms ss))) f
           ∙ ap (λ (o : Outcome). packed_outcome o) (refused_done p true (length cs) cs ms ss none)
           ∙ ap (λ (x : Plan). packed_outcome (done_of x (length cs) cs ms ss)) (on_table t)
           ∙ sym (pick_true (is_table bs) _ _ t)
       go false t =
-          ap (λ (x : Answer). event_left (answer_number (answered x)) bs ms ss) (f ∙ ap (λ (x : Plan). answer_for x true) (off_table t))
+          ap (λ (x : Result Bool Refusal). event_left (answer_number (answered x)) bs ms ss) (f ∙ ap (λ (x : Plan). answer_for x true) (off_table t))
           ∙ sym (pick_false (is_table bs) _ _ t)

@@ -1,5 +1,5 @@
 -- Laws: slots in place on a table's bytes come to what the plain forms come to, packed again.
-use Rattle.std.specs.Prelude.{ℕ, ◌<◌, ◌≤◌, Bool, true, false, List, ◌++◌, ◌≡◌, refl, pos, length, take, drop}
+use Rattle.std.specs.Prelude.{ℕ, ◌<◌, ◌≤◌, Bool, true, false, List, ◌++◌, ◌≡◌, refl, pos, length, take, drop, Result, Ok, Err}
 use Rattle.std.proofs.Common.{arith, le_refl, true≢false, ◌∙◌}
 use Rattle.std.proofs.Math.Path.{ap, sym}
 use Rattle.std.proofs.Math.Seq.{drop-length}
@@ -18,8 +18,6 @@ use Rattle.line.specs.declared.Plan.{Plan}
 use Rattle.line.specs.declared.Plan.TheVariants as plan
 use Rattle.line.specs.declared.Refusal.{Refusal}
 use Rattle.line.specs.declared.Refusal.TheVariants.{OutOfRange}
-use Rattle.line.specs.declared.Verdict.{Verdict}
-use Rattle.line.specs.declared.Verdict.TheVariants as verdict
 use Rattle.packed.specs.Packed.{unpacked_table, is_table}
 use Rattle.packed.specs.Laws.{table_is}
 use Rattle.toemsakun.specs.Judging.{refused_by8, plan_bytes}
@@ -82,9 +80,9 @@ module _ (bs bits answers : List ℕ) (slots : ℕ) (ms ss : List ℕ) where
   unfolding slots_bytes
   table_bytes t = pick_true (is_table bs) _ _ t
 
-  judged_bytes : (v : Verdict) → is_table bs ≡ true → v ≡ verdict_bytes bs ms ss run → slots_bytes bs bits answers slots ms ss ≡ packed_run (run_by v (length cs) cs slots bits answers ms ss)
+  judged_bytes : (v : Result (Unit {0}) Refusal) → is_table bs ≡ true → v ≡ verdict_bytes bs ms ss run → slots_bytes bs bits answers slots ms ss ≡ packed_run (run_by v (length cs) cs slots bits answers ms ss)
   unfolding slots_of
-  judged_bytes v t e = table_bytes t ∙ ap (λ (q : Verdict). packed_run (run_by q (length cs) cs slots bits answers ms ss)) (sym (e ∙ on_table t))
+  judged_bytes v t e = table_bytes t ∙ ap (λ (q : Result (Unit {0}) Refusal). packed_run (run_by q (length cs) cs slots bits answers ms ss)) (sym (e ∙ on_table t))
 
   -- on bytes that are none
   no_verdict : is_table bs ≡ false → verdict_bytes bs ms ss run ≡ refused8
@@ -96,32 +94,32 @@ module _ (bs bits answers : List ℕ) (slots : ℕ) (ms ss : List ℕ) where
   no_bytes t = pick_false (is_table bs) _ _ t
 
   -- what a run knows that is not refused
-  pub well_lined : verdict.Well ≡ verdict_bytes bs ms ss run → Lined bs ms ss
+  pub well_lined : Ok tt ≡ verdict_bytes bs ms ss run → Lined bs ms ss
   well_lined e = let w = verdict_well bs ms ss run e in record { table = w.places; fits = w.fits }
 
-  pub well_fits : verdict.Well ≡ verdict_bytes bs ms ss run → RunWell (length cs) cs slots bits answers ms ss
+  pub well_fits : Ok tt ≡ verdict_bytes bs ms ss run → RunWell (length cs) cs slots bits answers ms ss
   well_fits e = run_well (length cs) cs slots bits answers ms ss (e ∙ on_table (verdict_well bs ms ss run e).table)
 
   -- all its slots were put on the line
-  pub run_put : verdict.Well ≡ verdict_bytes bs ms ss run → (out bs' ms' ss' : List ℕ) → out ≡ bytes_from (length answers) (run_on (host_bits slots bits) (line_in bs ms ss)).bits
+  pub run_put : Ok tt ≡ verdict_bytes bs ms ss run → (out bs' ms' ss' : List ℕ) → out ≡ bytes_from (length answers) (run_on (host_bits slots bits) (line_in bs ms ss)).bits
       → line_in bs' ms' ss' ≡ (run_on (host_bits slots bits) (line_in bs ms ss)).line → Lined bs' ms' ss' → slots_left (pos slots) out bs' ms' ss' ≡ slots_bytes bs bits answers slots ms ss
   run_put e out bs' ms' ss' f h t =
       let L = (run_on (host_bits slots bits) (line_in bs ms ss)).line in
       ap (λ (b : List ℕ). slots_left (pos slots) out b ms' ss') (sym t.table.packs)
       ∙ ap packed_run (put_all (length cs) cs slots bits answers ms ss (well_fits e) out (length cs) (unpacked_table bs') ms' ss' f (left_lent bs ms ss bs' ms' ss' t L h) refl)
-      ∙ sym (judged_bytes verdict.Well (verdict_well bs ms ss run e).table e)
+      ∙ sym (judged_bytes (Ok tt) (verdict_well bs ms ss run e).table e)
 
   -- it is refused
-  pub run_refused : (r : Refusal) → verdict.Refused r ≡ verdict_bytes bs ms ss run → slots_left (minus (number_of r)) answers bs ms ss ≡ slots_bytes bs bits answers slots ms ss
+  pub run_refused : (r : Refusal) → Err r ≡ verdict_bytes bs ms ss run → slots_left (minus (number_of r)) answers bs ms ss ≡ slots_bytes bs bits answers slots ms ss
   run_refused r e = go (is_table bs) refl
     where
       -- the number of a refusal, 0 where there is none
-      number : Verdict → ℕ
-      number verdict.Well = 0
-      number (verdict.Refused q) = number_of q
+      number : Result (Unit {0}) Refusal → ℕ
+      number (Ok tt) = 0
+      number (Err q) = number_of q
 
       go : (t : Bool) → is_table bs ≡ t → slots_left (minus (number_of r)) answers bs ms ss ≡ slots_bytes bs bits answers slots ms ss
-      go true t = ap (λ (b : List ℕ). slots_left (minus (number_of r)) answers b ms ss) (sym (table_is bs t)) ∙ sym (judged_bytes (verdict.Refused r) t e)
+      go true t = ap (λ (b : List ℕ). slots_left (minus (number_of r)) answers b ms ss) (sym (table_is bs t)) ∙ sym (judged_bytes (Err r) t e)
       go false t = ap (λ (n : ℕ). slots_left (minus n) answers bs ms ss) (ap number (e ∙ no_verdict t)) ∙ sym (no_bytes t)
 
 -- ---- one slot
@@ -156,10 +154,10 @@ module _ (bs : List ℕ) (e : Event) (ms ss : List ℕ) (b : Bool) (h : plan.Slo
   unfolding plan_bytes
   slot_planned = h ∙ pick_true (is_table bs) _ _ slot_table
 
-  slot_well : (v : Verdict) → v ≡ verdict_of (length chips) chips ms ss → verdict.Well ≡ verdict_of (length chips) chips ms ss
+  slot_well : (v : Result (Unit {0}) Refusal) → v ≡ verdict_of (length chips) chips ms ss → Ok tt ≡ verdict_of (length chips) chips ms ss
   unfolding plan_of
-  slot_well verdict.Well k = k
-  slot_well (verdict.Refused r) k = absurd (other r (slot_planned ∙ ap (λ (q : Verdict). plan_by q (plan_in (take (length chips) chips) e)) (sym k)))
+  slot_well (Ok tt) k = k
+  slot_well (Err r) k = absurd (other r (slot_planned ∙ ap (λ (q : Result (Unit {0}) Refusal). plan_by q (plan_in (take (length chips) chips) e)) (sym k)))
 
   pub slot_lined : Lined bs ms ss
   slot_lined =

@@ -1,5 +1,6 @@
 -- Laws: what bytes and their buffers are judged to, as the loop over the records finds it, where a run asks for more sizes.
-use Rattle.std.specs.Prelude.{ℕ, ◌*◌, ◌/◌, ◌<◌, ◌≤◌, Bool, false, List, ◌≡◌, refl, eqb, leb, length}
+use Rattle.std.specs.Prelude.{ℕ, ◌*◌, ◌/◌, ◌<◌, ◌≤◌, Bool, false, List, ◌≡◌, refl, eqb, leb, length, Result, Ok, Err}
+use Rattle.line.specs.declared.Refusal.{Refusal}
 use Rattle.std.proofs.Common.{arith, ◌∙◌, sym, le-leb}
 use Rattle.std.proofs.Math.Bool.{true}
 use Rattle.std.proofs.Math.Path.{ap}
@@ -16,19 +17,17 @@ use Rattle.line.specs.Slots.{run_fits}
 use Rattle.line.specs.Refusals.{fit, in_range_few, well_judged, held}
 use Rattle.line.specs.declared.Refusal.TheVariants.{OutOfRange, WrongSize}
 use Rattle.line.specs.declared.Survey.{Survey}
-use Rattle.line.specs.declared.Verdict.{Verdict}
-use Rattle.line.specs.declared.Verdict.TheVariants as verdict
 use Rattle.packed.specs.Packed.{record_size, unpacked_from, unpacked_table, is_table}
 use Rattle.packed.specs.Laws.{table_is}
 use Rattle.packed.specs.Places.{Table16}
 use Rattle.toemsakun.specs.Standing.{stand_as, survey_of, pick_and, chips_are, chips_count, whole_is}
 
 -- refused by 8
-abbrev pub refused8 : Verdict
-refused8 = verdict.Refused OutOfRange
+abbrev pub refused8 : Result (Unit {0}) Refusal
+refused8 = Err OutOfRange
 
 -- 8, then 5: bytes that are no table are refused by 8, and a run's own sizes by 5
-unfoldable pub verdict_bytes : List ℕ → List ℕ → List ℕ → Bool → Verdict
+unfoldable pub verdict_bytes : List ℕ → List ℕ → List ℕ → Bool → Result (Unit {0}) Refusal
 verdict_bytes bs ms ss run =
     let cs = unpacked_table bs in
     pick (is_table bs) (judge (table_tests (table_in_range (length cs) cs) (both (sizes_fit (length cs) cs ms ss) run))) refused8
@@ -65,14 +64,14 @@ module _ (bs : List ℕ) (n : ℕ) (ok whole : Bool) (q : n ≡ length bs / reco
       whole_is bs n q ok whole j w ∙ ap (both (is_table bs)) (sym (in_range_is cs (omega arith)))
 
   -- the verdict of the code
-  verdict_judged : (ms ss : List ℕ) (fits run : Bool) (v : Verdict) → fits ≡ sizes_fit (length cs) cs ms ss
+  verdict_judged : (ms ss : List ℕ) (fits run : Bool) (v : Result (Unit {0}) Refusal) → fits ≡ sizes_fit (length cs) cs ms ss
       → v ≡ judge (table_tests whole (both fits run)) → v ≡ verdict_bytes bs ms ss run
   unfolding verdict_bytes
   verdict_judged ms ss fits run v f h =
       h ∙ (λ k. judge (table_tests (judged_is k) (both (f k) run)))
       ∙ pick_and (is_table bs) (table_in_range (length cs) cs) _ refused8
 
-  pub verdict_found : (ms ss : List ℕ) (l : Survey) (slots bits answers : ℕ) (v : Verdict) → l ≡ survey_of 0 (unpacked_from n bs)
+  pub verdict_found : (ms ss : List ℕ) (l : Survey) (slots bits answers : ℕ) (v : Result (Unit {0}) Refusal) → l ≡ survey_of 0 (unpacked_from n bs)
       → v ≡ pick whole (run_verdict_by l n (length ms) (length ss) slots bits answers) refused8 → v ≡ verdict_bytes bs ms ss (run_fits slots bits answers)
   unfolding run_verdict_by verdict_with
   verdict_found ms ss l slots bits answers v s h =
@@ -94,10 +93,10 @@ pub record Stands (bs ms ss : List ℕ) (run : Bool) : Type 0 where
   pub table : is_table bs ≡ true
   pub places : Table16 bs
   pub fits : Fits (length (unpacked_table bs)) (unpacked_table bs) ms ss
-  pub well : verdict_of (length (unpacked_table bs)) (unpacked_table bs) ms ss ≡ verdict.Well
+  pub well : verdict_of (length (unpacked_table bs)) (unpacked_table bs) ms ss ≡ Ok tt
   pub run-fits : run ≡ true
 
-pub verdict_well : (bs ms ss : List ℕ) (run : Bool) → verdict.Well ≡ verdict_bytes bs ms ss run → Stands bs ms ss run
+pub verdict_well : (bs ms ss : List ℕ) (run : Bool) → Ok tt ≡ verdict_bytes bs ms ss run → Stands bs ms ss run
 unfolding verdict_bytes
 verdict_well bs ms ss run h =
     let cs = unpacked_table bs in

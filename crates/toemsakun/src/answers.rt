@@ -9,7 +9,7 @@ ghost use Rattle.toemsakun.specs.Library.{minus, answer_number, slots_number, se
 ghost use Rattle.toemsakun.specs.Answers.{card_number, card_offset, slots_put};
 
 use card::Refused;
-use line::{Answer, Refusal, SlotsAnswer};
+use line::Refusal;
 use search::SearchAnswer;
 
 // A bus bit.
@@ -42,23 +42,23 @@ fn of_refusal(r: Refusal) -> i32
 }
 
 // What an event answers.
-pub fn of_event(answer: Answer) -> i32
+pub fn of_event(answer: Result<bool, Refusal>) -> i32
     ensures { result ≡ answer_number (answered answer) }
 {
     match answer {
-        Answer::Bit(b) => of_bit(b),
-        Answer::Refused(r) => of_refusal(r),
+        Ok(b) => of_bit(b),
+        Err(r) => of_refusal(r),
     }
 }
 
 // What a run of slots answers, of at most as many slots as a run has.
-pub fn of_slots(answer: SlotsAnswer) -> i32
+pub fn of_slots(answer: Result<usize, Refusal>) -> i32
     requires { slots_put answer ≤ 65535 }
     ensures { result ≡ slots_number (slotted answer) }
 {
     match answer {
-        SlotsAnswer::Put(n) => of_count(n),
-        SlotsAnswer::Refused(r) => of_refusal(r),
+        Ok(n) => of_count(n),
+        Err(r) => of_refusal(r),
     }
 }
 

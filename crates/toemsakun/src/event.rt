@@ -13,7 +13,7 @@ ghost use Rattle.toemsakun.specs.Judging.{plan_bytes, refused_by8};
 ghost use Rattle.toemsakun.specs.Slots.{Lined, line_in};
 
 use crate::{loops, slots};
-use line::{Answer, Event, Plan, Refusal, Survey};
+use line::{Event, Plan, Refusal, Survey};
 use packed::RECORD_SIZE;
 
 // What an event comes to, where the bytes may be no table.
@@ -42,7 +42,7 @@ fn plan_bytes(table: &[u8], e: Event, ms: &[u8], ss: &[u8]) -> Plan
 }
 
 // A plan is carried out.
-fn play(table: &mut [u8], plan: Plan, ms: &mut [u8], ss: &mut [u8]) -> Answer
+fn play(table: &mut [u8], plan: Plan, ms: &mut [u8], ss: &mut [u8]) -> Result<bool, Refusal>
     requires { Table16 table.old }
     ensures { event_left (answer_number (answered result)) table.new ms.new ss.new
         ≡ packed_outcome (walked (length (unpacked_table table.old)) (length (unpacked_table table.old)) (unpacked_table table.old) ms.old ss.old plan) }
@@ -53,7 +53,7 @@ fn play(table: &mut [u8], plan: Plan, ms: &mut [u8], ss: &mut [u8]) -> Answer
 }
 
 // A slot in which the host puts a bit, on bytes and buffers that stand well.
-fn put_slot(table: &mut [u8], host: bool, ms: &mut [u8], ss: &mut [u8]) -> Answer
+fn put_slot(table: &mut [u8], host: bool, ms: &mut [u8], ss: &mut [u8]) -> Result<bool, Refusal>
     requires { Lined table.old ms.old ss.old }
     ensures result_value { answered result ≡ bit (value_of host (line_in table.old ms.old ss.old)) }
     ensures ss_after { line_in table.new ms.new ss.new ≡ after_by (plan.Slot host) (line_in table.old ms.old ss.old) }
@@ -61,17 +61,23 @@ fn put_slot(table: &mut [u8], host: bool, ms: &mut [u8], ss: &mut [u8]) -> Answe
 {
     let all = slots::whole(table);
     let value = slots::slot(table, all, host, ms, ss);
-    Answer::Bit(value)
+    Ok(value)
 }
 
 // What an event came to is carried out: a slot in place, any other plan the general way.
-fn carry_out(table: &mut [u8], e: Event, plan: Plan, ms: &mut [u8], ss: &mut [u8]) -> Answer
+fn carry_out(
+    table: &mut [u8],
+    e: Event,
+    plan: Plan,
+    ms: &mut [u8],
+    ss: &mut [u8],
+) -> Result<bool, Refusal>
     requires { plan ≡ plan_bytes table.old e ms.old ss.old }
     ensures { event_left (answer_number (answered result)) table.new ms.new ss.new
         ≡ event_bytes table.old e ms.old ss.old }
 {
     match plan {
-        Plan::Refused(r) => Answer::Refused(r),
+        Plan::Refused(r) => Err(r),
         Plan::Slot(host) => put_slot(table, host, ms, ss),
         Plan::Reset => play(table, plan, ms, ss),
         Plan::PowerOn => play(table, plan, ms, ss),
@@ -83,7 +89,7 @@ fn carry_out(table: &mut [u8], e: Event, plan: Plan, ms: &mut [u8], ss: &mut [u8
 }
 
 // One event: its refusals in their order (`line::take_event`), each with nothing changed; else the bus bit.
-pub fn take_event(table: &mut [u8], e: Event, ms: &mut [u8], ss: &mut [u8]) -> Answer
+pub fn take_event(table: &mut [u8], e: Event, ms: &mut [u8], ss: &mut [u8]) -> Result<bool, Refusal>
     ensures { event_left (answer_number (answered result)) table.new ms.new ss.new
         ≡ event_bytes table.old e ms.old ss.old }
 {

@@ -11,7 +11,7 @@ ghost use Rattle.toemsakun.specs.Verdicts.{refused8, verdict_bytes};
 
 use crate::slots::Range;
 use crate::{loops, slots};
-use line::{Refusal, SlotsAnswer, Survey, Verdict};
+use line::{Refusal, Survey};
 use packed::RECORD_SIZE;
 
 // What a run is judged to, where the bytes may be no table.
@@ -24,13 +24,13 @@ fn verdict_if(
     slots: usize,
     bits: usize,
     answers: usize,
-) -> Verdict
+) -> Result<(), Refusal>
     ensures { result ≡ pick table (run_verdict_by survey n images pads slots bits answers) refused8 }
 {
     if table {
         return line::carrier::run_verdict_by(survey, n, images, pads, slots, bits, answers);
     }
-    Verdict::Refused(Refusal::OutOfRange)
+    Err(Refusal::OutOfRange)
 }
 
 // What a run is judged to on bytes and their buffers, with bits and answers of two sizes.
@@ -41,7 +41,7 @@ fn verdict_bytes(
     answers: usize,
     ms: &[u8],
     ss: &[u8],
-) -> Verdict
+) -> Result<(), Refusal>
     ensures { result ≡ verdict_bytes table.now ms.now ss.now (run_fits slots bits answers) }
 {
     let size = table.len();
@@ -52,7 +52,7 @@ fn verdict_bytes(
         let whole = base::are_both(judged.ok, size == n * RECORD_SIZE);
         return verdict_if(whole, survey, n, ms.len(), ss.len(), slots, bits, answers);
     }
-    Verdict::Refused(Refusal::OutOfRange)
+    Err(Refusal::OutOfRange)
 }
 
 // Up to eight slots, whose host bits are the first of a byte: the bits on the bus as a byte.
@@ -113,25 +113,25 @@ fn run_all(
 
 // The slots of a run by its verdict.
 fn run_by(
-    judged: Verdict,
+    judged: Result<(), Refusal>,
     table: &mut [u8],
     bits: &[u8],
     answers: &mut [u8],
     slots: usize,
     ms: &mut [u8],
     ss: &mut [u8],
-) -> SlotsAnswer
+) -> Result<usize, Refusal>
     requires { judged ≡ verdict_bytes table.old ms.old ss.old (run_fits slots (length bits.now) (length answers.old)) }
     ensures ss_after { slots_left (slots_number (slotted result)) answers.new table.new ms.new ss.new
         ≡ slots_bytes table.old bits.now answers.old slots ms.old ss.old }
     ensures most { slots_put result ≤ 65535 }
 {
     match judged {
-        Verdict::Well => {
+        Ok(()) => {
             run_all(table, bits, answers, slots, ms, ss);
-            SlotsAnswer::Put(slots)
+            Ok(slots)
         }
-        Verdict::Refused(r) => SlotsAnswer::Refused(r),
+        Err(r) => Err(r),
     }
 }
 
@@ -144,7 +144,7 @@ pub fn take_slots(
     slots: usize,
     ms: &mut [u8],
     ss: &mut [u8],
-) -> SlotsAnswer
+) -> Result<usize, Refusal>
     ensures ss_after { slots_left (slots_number (slotted result)) answers.new table.new ms.new ss.new
         ≡ slots_bytes table.old bits.now answers.old slots ms.old ss.old }
     ensures most { slots_put result ≤ 65535 }

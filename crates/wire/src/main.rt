@@ -9,7 +9,7 @@ mod text;
 ghost use Rattle.std.specs.Prelude.{◌≡◌};
 
 use console::{Outputs, Told, input};
-use line::{Answer, Event, SlotsAnswer, Table};
+use line::{Event, Refusal, Table};
 use runs::{Answers, BITS_SIZE, CHARACTERS_MOST, Run};
 use std::io::Stdin;
 use std::rt::{Env, Files};
@@ -30,7 +30,7 @@ struct Process<'a> {
 
 impl Process<'_> {
     // One event on the line; what it answers.
-    fn take_event(&mut self, e: Event) -> Answer {
+    fn take_event(&mut self, e: Event) -> Result<bool, Refusal> {
         let happened = line::take_event(self.table, e, self.images, self.pads);
         self.table = happened.table;
         happened.answer
@@ -55,10 +55,7 @@ impl Process<'_> {
         );
         self.table = ran.table;
         for slot in 0..slots {
-            let answer = match ran.answer {
-                SlotsAnswer::Put(_) => Answer::Bit(line::slot_bit(&self.bus, slot)),
-                SlotsAnswer::Refused(r) => Answer::Refused(r),
-            };
+            let answer = ran.answer.map(|_| line::slot_bit(&self.bus, slot));
             self.answers.put(text::letter(answer));
         }
         self.run.slots = 0;

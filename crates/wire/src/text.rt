@@ -1,5 +1,5 @@
 // The characters of events and of answers.
-use line::{Answer, Event, Refusal};
+use line::{Event, Refusal};
 
 // What has come of event 4: its first character, or its chip too.
 #[derive(Clone, Copy, PartialEq, Eq)]
@@ -54,9 +54,9 @@ fn refusal_letter(r: Refusal) -> u8 {
 }
 
 // The character of an answer.
-pub fn letter(answer: Answer) -> u8 {
+pub fn letter(answer: Result<bool, Refusal>) -> u8 {
     match answer {
-        Answer::Bit(b) => if b { b'1' } else { b'0' },
-        Answer::Refused(r) => refusal_letter(r),
+        Ok(b) => if b { b'1' } else { b'0' },
+        Err(r) => refusal_letter(r),
     }
 }

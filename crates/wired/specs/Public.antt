@@ -1,6 +1,6 @@
 -- Demand 2, "the line shows the wired AND": of the public event, over a table and its buffers that neither 8 nor 5 refuses. An event is
 -- what its number says, whatever its other fields hold.
-use Rattle.std.specs.Prelude.{ℕ, ◌<◌, Bool, true, false, List, [], ◌∷◌, ◌⊎◌, ◌≡◌, refl, length}
+use Rattle.std.specs.Prelude.{ℕ, ◌<◌, Bool, true, false, List, [], ◌∷◌, ◌⊎◌, ◌≡◌, refl, length, Ok, Err}
 use Rattle.std.proofs.Common.{arith, true≢false, inl, inr, ◌∙◌, sym}
 use Rattle.std.proofs.Math.Path.{ap}
 use Rattle.base.specs.Pick.{pick}
@@ -13,7 +13,6 @@ use Rattle.line.specs.Refusals.{presence}
 use Rattle.line.specs.declared.Act.TheVariants.{Take}
 use Rattle.line.specs.declared.Event.{Event}
 use Rattle.line.specs.declared.Refusal.TheVariants.{NoSuchOutside}
-use Rattle.line.specs.declared.Verdict.TheVariants as verdict
 use Rattle.line.specs.declared.Plan.{Plan}
 use Rattle.line.specs.declared.Plan.TheVariants as plan
 use Rattle.line.specs.Attached.{Attached, says_of, leaves_of, Stands, line_from}
@@ -72,7 +71,7 @@ outside_by : (i x : ℕ) (L : List Whole) → OneOr7 (plan_on (outside_event i x
 unfolding plan_event asked_by pick
 outside_by i x L = fitting (outside_fits (outside_event i x) _ _)
   where
-    fitting : (t : Bool) → OneOr7 (plan_by (pick t verdict.Well (verdict.Refused NoSuchOutside)) (plan.Outside i x)) L
+    fitting : (t : Bool) → OneOr7 (plan_by (pick t (Ok tt) (Err NoSuchOutside)) (plan.Outside i x)) L
     fitting true n = refl
     fitting false n = absurd (n refl)
 

@@ -1,11 +1,12 @@
+use Rattle.std.specs.Prelude.{Result, ℕ}
+use Rattle.line.specs.declared.Refusal.{Refusal}
 use mathlib.Core.Path.{ap, sym}
 use Rattle.line.specs.Slots.{slotted}
-use Rattle.line.specs.declared.SlotsAnswer.{SlotsAnswer}
 use Rattle.recording.specs.Putting.{written_run}
 use Rattle.recording.proofs.playing.refused_run.Goals as goal
 
-pub returns-in-Put : goal.returns-in-Put
-returns-in-Put c = ap (λ (a : SlotsAnswer). written_run (slotted a)) (sym c.in-Put.is)
+pub returns-in-Ok : goal.returns-in-Ok
+returns-in-Ok c = ap (λ (a : Result ℕ Refusal). written_run (slotted a)) (sym c.in-Ok.is)
 
-pub returns-in-Refused : goal.returns-in-Refused
-returns-in-Refused c = ap (λ (a : SlotsAnswer). written_run (slotted a)) (sym c.in-Refused.is)
+pub returns-in-Err : goal.returns-in-Err
+returns-in-Err c = ap (λ (a : Result ℕ Refusal). written_run (slotted a)) (sym c.in-Err.is)
