@@ -35,12 +35,10 @@ fn put_event(out: Stdout, table: Table, event: Event, images: &mut [u8], pads: &
 fn read_byte(out: Stdout, table: Table, shown: bool, images: &mut [u8], pads: &mut [u8]) -> Table {
     let mut current = table;
     let mut byte: u8 = 0;
-    let mut place: u8 = 0;
-    while place < 8 {
+    for _ in 0..8 {
         let heard = search::slot(current, true, images, pads);
         current = heard.table;
         byte = byte.filled(heard.value);
-        place += 1;
     }
     if shown {
         text::say_byte(out, byte);

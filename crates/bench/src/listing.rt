@@ -5,12 +5,8 @@ use std::io::Stdout;
 
 // Writes the codes that a search listed.
 fn say_codes(out: Stdout, list: &[u64], listed: usize) {
-    let mut i: usize = 0;
-    while i < list.len() {
-        if i < listed {
-            text::say_code(out, list[i]);
-        }
-        i += 1;
+    for code in list.iter().take(listed) {
+        text::say_code(out, *code);
     }
 }
 

@@ -11,114 +11,71 @@ use crate::{host, text};
 use line::Table;
 use std::io::Stdout;
 
-// How far the typing is: between < and > or not, and the first digit of a byte, 16 where there is none.
-#[derive(Clone, Copy)]
-struct Typed {
-    inside: bool,
-    first: u8,
+// How far the typing is.
+#[derive(Clone, Copy, Debug, PartialEq, Eq)]
+enum Typed {
+    Outside,
+    // between < and >, and the first digit of a byte, where the second is to come
+    Inside(Option<u8>),
 }
 
-// The value of a hexadecimal digit, 16 where a character is none.
-fn digit_of(character: u8) -> u8 {
-    if character < b'0' {
-        return 16;
-    }
-    if character <= b'9' {
-        return character - b'0';
-    }
-    if character < b'A' {
-        return 16;
-    }
-    if character <= b'F' {
-        return character - b'A' + 10;
-    }
-    16
+// The value of a hexadecimal digit.
+fn digit_of(character: u8) -> Option<u8> {
+    let digit = char::from(character).to_digit(16)?;
+    Some(digit as u8)
 }
 
 // How far the typing is after one more character.
 fn after(typed: Typed, character: u8) -> Typed {
-    if character == b'<' {
-        return Typed {
-            inside: true,
-            first: 16,
-        };
-    }
-    if character == b'>' {
-        return Typed {
-            inside: false,
-            first: 16,
-        };
-    }
-    if typed.first < 16 {
-        return Typed {
-            inside: typed.inside,
-            first: 16,
-        };
-    }
-    Typed {
-        inside: typed.inside,
-        first: digit_of(character),
+    match (character, typed) {
+        (b'<', _) => Typed::Inside(None),
+        (b'>', _) => Typed::Outside,
+        (_, Typed::Inside(None)) => Typed::Inside(digit_of(character)),
+        (_, Typed::Inside(Some(_))) => Typed::Inside(None),
+        (_, Typed::Outside) => Typed::Outside,
     }
 }
 
 // What a character between < and > asks for: the second digit of a byte has the byte written.
-fn asked_inside(first: u8, character: u8) -> Action {
-    let second = digit_of(character);
-    if first < 16 {
-        if second < 16 {
-            return Action::Write(first * 16 + second);
-        }
-        return Action::Rest;
+fn asked_inside(first: Option<u8>, character: u8) -> Action {
+    match (first, digit_of(character)) {
+        (Some(high), Some(low)) => Action::Write(high << 4 | low),
+        _ => Action::Rest,
     }
-    Action::Rest
 }
 
 // What a character that is not between < and > asks for: what its sign stands for, or to be written out.
 fn asked_outside(out: Stdout, character: u8) -> Action {
-    if character == b'<' {
-        return Action::Put(line::events::reset());
+    match character {
+        b'<' => Action::Put(line::events::reset()),
+        b'?' => Action::ReadByte(true),
+        b'_' => Action::ReadByte(false),
+        b'.' => Action::ReadSlot,
+        b'!' => Action::Put(line::events::power_on()),
+        b'~' => Action::Put(line::events::outside(0, 2)),
+        _ => {
+            text::say(out, &[character]);
+            Action::Rest
+        }
     }
-    if character == b'?' {
-        return Action::ReadByte(true);
-    }
-    if character == b'_' {
-        return Action::ReadByte(false);
-    }
-    if character == b'.' {
-        return Action::ReadSlot;
-    }
-    if character == b'!' {
-        return Action::Put(line::events::power_on());
-    }
-    if character == b'~' {
-        return Action::Put(line::events::outside(0, 2));
-    }
-    text::say(out, &[character]);
-    Action::Rest
 }
 
 // What a character of a script asks for.
 fn asked(out: Stdout, typed: Typed, character: u8) -> Action {
-    if typed.inside {
-        return asked_inside(typed.first, character);
+    match typed {
+        Typed::Inside(first) => asked_inside(first, character),
+        Typed::Outside => asked_outside(out, character),
     }
-    asked_outside(out, character)
 }
 
 // A script, played on a line.
 pub fn play(out: Stdout, table: Table, script: &[u8], images: &mut [u8], pads: &mut [u8]) -> Table {
     let mut current = table;
-    let mut typed = Typed {
-        inside: false,
-        first: 16,
-    };
-    let mut i: usize = 0;
-    while i < script.len() {
-        let character = script[i];
-        let action = asked(out, typed, character);
+    let mut typed = Typed::Outside;
+    for character in script {
+        let action = asked(out, typed, *character);
         current = host::act(out, current, action, images, pads);
-        typed = after(typed, character);
-        i += 1;
+        typed = after(typed, *character);
     }
     current
 }

@@ -26,11 +26,7 @@ pub fn say_byte(out: Stdout, byte: u8) {
 
 // Writes a space and a bit.
 pub fn say_bit(out: Stdout, bit: bool) {
-    if bit {
-        say(out, b" 1");
-    } else {
-        say(out, b" 0");
-    }
+    say(out, if bit { b" 1" } else { b" 0" });
 }
 
 // Writes a space and the 16 digits of a code, bit 63 first.

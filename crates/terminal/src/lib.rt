@@ -5,7 +5,7 @@
 ghost use Rattle.std.specs.Prelude.{◌≡◌, length, replicate};
 ghost use Rattle.line.specs.Layout.{images_most, pads_most};
 ghost use Rattle.card.specs.Card.{carded};
-ghost use Rattle.terminal.specs.Words.{is_refused, word_of, eighth_first, code_digits};
+ghost use Rattle.terminal.specs.Words.{is_refused, word_of, code_digits};
 
 use card::Refused;
 use crc::CodeCheck;
@@ -14,7 +14,9 @@ use numerals::hex;
 use std::io::Stdout;
 
 // A word: as many places as it has letters.
-#[derive(Clone, Copy)]
+// Stays an enum of letters: `terminal_word` of coincide says that the contract of `word` permits one word, and no contract gives the address
+// that a `&'static str` carries.
+#[derive(Clone, Copy, Debug, PartialEq, Eq)]
 pub enum Letters {
     Two(u8, u8),
     Four(u8, u8, u8, u8),
@@ -73,29 +75,12 @@ pub fn say_word(out: Stdout, word: Letters) {
     }
 }
 
-// The eight bytes of a code, the eighth first.
-fn eighth_first(code: u64) -> [u8; 8]
-    ensures { result ≡ eighth_first code }
-{
-    [
-        crc::byte_of(code, 7),
-        crc::byte_of(code, 6),
-        crc::byte_of(code, 5),
-        crc::byte_of(code, 4),
-        crc::byte_of(code, 3),
-        crc::byte_of(code, 2),
-        crc::byte_of(code, 1),
-        crc::byte_of(code, 0),
-    ]
-}
-
 // The 16 hexadecimal digits of a code, bit 63 first.
 pub fn code_digits(code: u64) -> [u8; 16]
     ensures { result ≡ code_digits code }
 {
-    let bytes = eighth_first(code);
     let mut text = [0u8; 16];
-    hex::put_digits(&bytes, &mut text, 0);
+    hex::put_digits(&code.to_be_bytes(), &mut text, 0);
     text
 }
 
@@ -111,12 +96,8 @@ pub fn write_code(out: Stdout, code: u64) {
 
 // Writes the lines of the first n codes of a list.
 pub fn write_codes(out: Stdout, list: &[u64], n: usize) {
-    let mut i: usize = 0;
-    while i < list.len() {
-        if i < n {
-            write_code(out, list[i]);
-        }
-        i += 1;
+    for code in list.iter().take(n) {
+        write_code(out, *code);
     }
 }
 
