@@ -1,9 +1,9 @@
 -- Laws: digits read one after another, each number kept within a word.
 use Prim.Native.Char.{code as letter}
-use Rattle.std.specs.Prelude.{ℕ, ◌+◌, ◌-◌, ◌*◌, ◌<◌, ◌≤◌, min, Bool, true, false, List, [], ◌∷◌, ◌≡◌, refl, ltb, leb, length, get_or, drop, ◌&&◌, Option, Some, None}
+use Rattle.std.specs.Prelude.{ℕ, ◌+◌, ◌-◌, ◌*◌, ◌<◌, ◌≤◌, min, Bool, true, false, List, [], ◌∷◌, ◌≡◌, refl, ltb, leb, length, get_or, drop, Option, Some, None}
 use Rattle.std.proofs.Common.{arith, add-one, ◌∙◌, ap, sym, drop_of_length-le, drop-cons, leb-true, lt-ltb, le-ltb, ltb-true, ltb-false}
 use Rattle.std.specs.Char.{is_ascii_digit}
-use Rattle.base.specs.Bits.{both}
+use Rattle.base.specs.BytesLaw.{and_both}
 use Rattle.base.specs.Pick.{pick, pick_true, pick_false, pick_of, pick_if}
 use Rattle.base.specs.Both.{both_holds}
 use Rattle.numerals.specs.Numerals.{is_digit, digits_on, most}
@@ -52,12 +52,8 @@ cut_on n (c ∷ cs) =
 -- ---- the loop
 -- a digit, as the library tests it
 pub digit_test : (c : ℕ) → is_ascii_digit c ≡ is_digit c
-unfolding is_digit both pick
-digit_test c = by (leb (letter "0") c)
-  where
-    by : (t : Bool) → (t && leb c (letter "9")) ≡ pick t (leb c (letter "9")) false
-    by true = refl
-    by false = refl
+unfolding is_digit
+digit_test c = and_both (leb (letter "0") c) (leb c (letter "9"))
 
 pub digit_from : (c : ℕ) → is_digit c ≡ true → letter "0" ≤ c
 unfolding is_digit
@@ -77,3 +73,5 @@ module _ (text : List ℕ) (n i : ℕ) where
 
   pub last_digit : length text ≤ i → n ≤ most → Some n ≡ counted_by (digits_on n (drop i text))
   last_digit h l = ap (λ (k : ℕ). Some k) (no_more n l) ∙ ap (λ (cs : List ℕ). counted_by (digits_on n cs)) (sym (drop_of_length-le text h))
+
+pub ruleset digit_steps = (digit_test, kept_most, next_digit, no_digit, last_digit)

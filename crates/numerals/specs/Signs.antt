@@ -111,3 +111,5 @@ module _ (n : ℕ) (h : n ≤ most) where
 
   pub minus_word : word (pos 0 -ℤ to_z w64 n) ≡ minus n
   minus_word = to_z-of_z w64 _ minus_fits ∙ minus_is
+
+pub ruleset signs = (some_most, minus_number, minus_none, plain_number, plain_none, number_fits, number_word, minus_fits, minus_word)

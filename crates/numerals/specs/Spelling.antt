@@ -57,3 +57,5 @@ module _ (s : List ℕ) (to : ℕ) (bs : List ℕ) (i : ℕ) where
           let p : length s ≤ to = ltb-false to (length s) q in
           ap (λ (l : List ℕ). sets l (pick (ltb to (length s)) (to + 2) to) rest) (sets_past s to (digits_of (b ∷ [])) p) ∙ ap (λ (k : ℕ). sets s k rest) (pick_false _ _ _ q)
           ∙ sets_past s to rest p ∙ sym (sets_past s to (digits_of (b ∷ drop (suc i) bs)) p)
+
+pub ruleset byte_steps = (byte_put, byte_past)

@@ -1,4 +1,5 @@
-// Numbers in digits: whole numbers as a user writes them, which are decimal digits with a minus sign or none; and bytes in hexadecimal digits (`hex`).
+// Numbers in digits: whole numbers as a user writes them, which are decimal digits with a minus sign or none; and bytes in hexadecimal digits
+// (`hex`).
 #![tactic(auto)]
 
 pub mod hex;
@@ -11,6 +12,7 @@ ghost use Rattle.numerals.specs.Numerals.{kept, counted_by};
 const MOST: u64 = 1_000_000_000_000_000_000;
 
 // A number with a digit more, no more than the most.
+#[tactic(auto, using(crate::specs::Digits::least_of, crate::specs::Digits::many))]
 fn with_digit(n: u64, digit: u8) -> u64
     ensures { result ≡ kept (10 * n + digit) }
 {
@@ -22,6 +24,7 @@ fn with_digit(n: u64, digit: u8) -> u64
 }
 
 // The number that a text of digits alone says; one past 18 digits counts as the least of 19. A text that says none has no number.
+#[tactic(auto, using(crate::specs::Digits::digit_steps))]
 pub fn read_digits(text: &[u8]) -> Option<u64>
     ensures { result ≡ counted_by (digits_in text.now) }
 {
@@ -39,6 +42,7 @@ pub fn read_digits(text: &[u8]) -> Option<u64>
 }
 
 // The number that a text says in digits, with a minus sign or none; one past 18 digits counts as the least of 19, with its sign.
+#[tactic(auto, using(crate::specs::Signs::signs))]
 pub fn read_number(text: &[u8]) -> Option<i64>
     ensures { result ≡ numeral_of text.now }
 {

@@ -6,7 +6,7 @@ use Rattle.setpoints.specs.Signed.{signed}
 use Rattle.setpoints.specs.Kinds.{Form, form_of, allowed}
 use Rattle.setpoints.specs.Pages.{page_size, length_in, kind_in, length_of, value_in, judged, read_page, record_of, Wrote, wrote, write_page}
 use Rattle.setpoints.specs.Judging.{at_least, allowed_few}
-use Rattle.setpoints.specs.Readers.{whole-record}
+use Rattle.setpoints.specs.Readers.{whole_record}
 use Rattle.setpoints.specs.declared.Fault.{Fault}
 use Rattle.setpoints.specs.declared.Fault.TheVariants.{WrongLength, OutOfRange}
 use Rattle.setpoints.specs.declared.Kind.{Kind}
@@ -77,6 +77,6 @@ pub read_written : (kind : Kind) (v : ℤ) (page : List ℕ) → length page ≡
 unfolding judged
 read_written kind v page e t =
     let rest = drop (4 + (form_of kind).bytes) page in
-    sym (whole-record (form_of kind) (written kind v rest) (size_written kind v page e) (kind_written kind v rest) (length_written kind v rest))
+    sym (whole_record (form_of kind) (written kind v rest) (size_written kind v page e) (kind_written kind v rest) (length_written kind v rest))
     ∙ ap (judged (form_of kind)) (value_written kind v rest t)
     ∙ pick_true _ _ _ t

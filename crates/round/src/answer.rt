@@ -37,7 +37,8 @@ fn write_round(to: Outputs, found: Found, pages: &[u8]) -> Result<(), Told> {
     Ok(())
 }
 
-// Writes the codes listed, the pages, the counts, and why the round was refused, if it was; then it has no pages. What cannot be written is told once.
+// Writes the codes listed, the pages, the counts, and why the round was refused, if it was; then it has no pages. What cannot be written is told
+// once.
 pub fn write(to: Outputs, found: Found, list: &[u64], pages: &[u8]) {
     terminal::write_codes(to.out, list, found.listed);
     let _ = write_round(to, found, pages);

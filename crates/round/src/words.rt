@@ -34,6 +34,7 @@ pub const WORD_MOST: usize = 8;
 pub const PAGES_GIVEN_MOST: usize = 1024;
 
 // The option that a word is.
+#[tactic(auto, using(base::specs::Rules::cases, base::specs::BytesLaw::same_pointwise), unfolding(crate::specs::Words::word_of))]
 fn word_of(word: &[u8]) -> Option<Word>
     ensures { result ≡ word_of word.now }
 {

@@ -7,8 +7,8 @@ use Rattle.std.specs.Int.{w16, w64}
 use Rattle.std.specs.Ordering.{is_le, int_cmp}
 use Rattle.std.proofs.lemmas.Bool.Decides.{nat_tests}
 use Rattle.std.proofs.lemmas.Int.{to_z-of_z}
-use Rattle.base.specs.Pick.{pick, pick_true, pick_false}
-use Rattle.base.specs.Bits.{both}
+use Rattle.base.specs.Pick.{pick_true, pick_false}
+use Rattle.base.specs.BytesLaw.{and_both}
 use Rattle.base.specs.Both.{both_holds}
 use Rattle.setpoints.specs.Kinds.{form_of, between, allowed}
 use Rattle.setpoints.specs.Pages.{judged}
@@ -27,12 +27,8 @@ le_int (negsuc a) (pos b) = refl
 le_int (negsuc a) (negsuc b) = le_nat b a
 
 pub in_range : (least v most : ℤ) → (is_le (int_cmp least v) && is_le (int_cmp v most)) ≡ between least v most
-unfolding between both pick
-in_range least v most = rw (le_int least v, le_int v most) (by (le_z least v))
-  where
-    by : (t : Bool) → (t && le_z v most) ≡ pick t (le_z v most) false
-    by true = refl
-    by false = refl
+unfolding between
+in_range least v most = rw (le_int least v, le_int v most) (and_both (le_z least v) (le_z v most))
 
 -- a number from one that is not negative on is itself not negative
 pub at_least : (least most : ℕ) (v : ℤ) → between (pos least) v (pos most) ≡ true → (pos (nat_abs v) ≡ v) × ((least ≤ nat_abs v) × (nat_abs v ≤ most))
@@ -81,3 +77,5 @@ module _ (kind : Kind) (v : ℤ) (r : Bool) (f : SFits w64 v) (a : r ≡ allowed
   pub judged_none : r ≡ false → Err OutOfRange ≡ judged (form_of kind) v
   unfolding judged
   judged_none t = sym (pick_false _ _ _ (is_allowed ∙ t))
+
+pub ruleset judgements = (tenfold_fits, judged_degrees, judged_tenths, judged_none)

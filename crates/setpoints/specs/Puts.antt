@@ -73,3 +73,5 @@ module _ (kind : Kind) (v : ℤ) (page : List ℕ) where
         let z : pos (nat_abs (to_z w64 (of_z w64 v))) ≡ v = ap (λ (x : ℤ). pos (nat_abs x)) (to_z-of_z w64 v f) ∙ p.0 in
         ap (wrote (Ok tt)) (h ∙ put_is kind _ page e ∙ ap (λ (x : ℤ). record_of (form_of kind) x ++ drop (4 + (form_of kind).bytes) page) z)
         ∙ sym (pick_true _ _ _ (eq-eqb (length page) page_size e) ∙ pick_true _ _ _ (is_allowed kind v r f a ∙ t))
+
+pub ruleset writings = (wrote_nothing, wrote_none, wrote_record)

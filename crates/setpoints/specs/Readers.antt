@@ -32,9 +32,9 @@ module _ (f : Form) (page : List ℕ) (e : length page ≡ page_size) where
   unfolding read_record
   wrong_length q n = sym (pick_false _ _ _ (ne_eqb (length_in page) (length_of f) n)) ∙ own_kind q
 
-  pub whole-record : kind_in page ≡ f.kind → length_in page ≡ length_of f → judged f (value_in f page) ≡ read_page (f ∷ []) page
+  pub whole_record : kind_in page ≡ f.kind → length_in page ≡ length_of f → judged f (value_in f page) ≡ read_page (f ∷ []) page
   unfolding read_record
-  whole-record q r = sym (pick_true _ _ _ (eq-eqb (length_in page) (length_of f) r)) ∙ own_kind q
+  whole_record q r = sym (pick_true _ _ _ (eq-eqb (length_in page) (length_of f) r)) ∙ own_kind q
 
 -- of kind 101 the common reader answers as that of kind 101, and of any other as that of kind 102
 module _ (page : List ℕ) where
@@ -49,3 +49,5 @@ module _ (page : List ℕ) where
   pub other_than_101 : (kind_in page ≡ degrees.kind → ⊥) → read102 page ≡ read_either page
   unfolding read_among
   other_than_101 n = same_on _ _ (sym (pick_false _ _ _ (ne_eqb (kind_in page) degrees.kind n)))
+
+pub ruleset refusals = (no_page, another_kind, wrong_length)

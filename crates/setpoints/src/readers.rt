@@ -17,6 +17,7 @@ fn value_in(kind: Kind, page: &[u8]) -> i64
 }
 
 // The setpoint in tenths that a value stands for.
+#[tactic(auto, using(crate::specs::Judging::judgements))]
 fn judge(kind: Kind, value: i64) -> Result<i64, Fault>
     ensures { result ≡ judged (form_of kind) value }
 {
@@ -30,6 +31,7 @@ fn judge(kind: Kind, value: i64) -> Result<i64, Fault>
 }
 
 // The setpoint in tenths of a page whose record is of that kind.
+#[tactic(auto, using(crate::specs::Readers::refusals))]
 pub fn read(kind: Kind, page: &[u8]) -> Result<i64, Fault>
     ensures { result ≡ read_page (form_of kind ∷ []) page.now }
 {
@@ -46,6 +48,7 @@ pub fn read(kind: Kind, page: &[u8]) -> Result<i64, Fault>
 }
 
 // The setpoint in tenths of a page whose record is of either kind.
+#[tactic(auto, using(crate::specs::Readers::own_101, crate::specs::Readers::other_than_101))]
 pub fn read_either(page: &[u8]) -> Result<i64, Fault>
     ensures { result ≡ read_either page.now }
 {

@@ -3,6 +3,7 @@ ghost use Rattle.std.specs.Prelude.{◌≡◌};
 ghost use Rattle.setpoints.specs.Signed.{signed};
 
 // The signed number that a byte stands for.
+#[tactic(auto, using(crate::specs::Words::byte_word))]
 pub fn signed_byte(b: u8) -> i64
     ensures { result ≡ signed 1 b }
 {
@@ -10,6 +11,7 @@ pub fn signed_byte(b: u8) -> i64
 }
 
 // The signed number that the number of two bytes stands for.
+#[tactic(auto, using(crate::specs::Words::pair_word))]
 pub fn signed_pair(n: u16) -> i64
     ensures { result ≡ signed 2 n }
 {

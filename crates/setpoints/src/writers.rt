@@ -16,6 +16,7 @@ fn put_pair(page: &mut [u8], at: u8, n: u16)
 }
 
 // The record with a value, put at the start of a page.
+#[tactic(auto, using(crate::specs::Puts::put_degrees, crate::specs::Puts::put_tenths))]
 fn put_record(page: &mut [u8], kind: Kind, n: u16)
     ensures { page.new ≡ put_record (form_of kind) n page.old }
 {
@@ -28,6 +29,7 @@ fn put_record(page: &mut [u8], kind: Kind, n: u16)
 }
 
 // The page with a record of that kind, where the value is allowed: whole degrees or tenths.
+#[tactic(auto, using(crate::specs::Judging::allowed_word, crate::specs::Puts::writings))]
 pub fn write(kind: Kind, page: &mut [u8], value: i64) -> Result<(), Fault>
     ensures { wrote result page.new ≡ write_page (form_of kind) value page.old }
 {
