@@ -2,7 +2,7 @@
 ghost use Rattle.std.specs.Prelude.{◌≡◌};
 ghost use Rattle.packed.specs.Takes.{taken, filled_at, word_filled, of_code, count_in, byte_in, word_in, code_in};
 
-use crate::{fields, taking};
+use crate::{Parts, fields, taking};
 use base::Register;
 
 // A bit enters the byte at a place, and another byte is its new count.
@@ -42,57 +42,56 @@ fn is_of_code(r: &[u8], place: u8, v: bool) -> bool
 pub fn take_count(
     r: &mut [u8],
     last: u8,
-    image: usize,
-    pad: usize,
+    parts: Parts,
     v: bool,
     ms: &mut [u8],
     ss: &mut [u8],
 )
-    ensures { taken r.new ms.new ss.new ≡ count_in v image pad r.old ms.old ss.old last }
+    ensures { taken r.new ms.new ss.new ≡ count_in v parts.image parts.pad r.old ms.old ss.old last }
 {
     let a = base::byte_at(r, 18);
     if a < last {
         base::put_at(r, 18, a + 1);
         return;
     }
-    taking::take_any(r, image, pad, v, ms, ss)
+    taking::take_any(r, parts, v, ms, ss)
 }
 
 // A bit of a byte.
 #[tactic(auto, using(base::specs::Rules::cases), unfolding(crate::specs::Takes::byte_in))]
-pub fn take_byte(r: &mut [u8], image: usize, pad: usize, v: bool, ms: &mut [u8], ss: &mut [u8])
-    ensures { taken r.new ms.new ss.new ≡ byte_in v image pad r.old ms.old ss.old }
+pub fn take_byte(r: &mut [u8], parts: Parts, v: bool, ms: &mut [u8], ss: &mut [u8])
+    ensures { taken r.new ms.new ss.new ≡ byte_in v parts.image parts.pad r.old ms.old ss.old }
 {
     let a = base::byte_at(r, 18);
     if a < 7 {
         fill_byte(r, 18, a + 1, 19, v);
         return;
     }
-    taking::take_any(r, image, pad, v, ms, ss)
+    taking::take_any(r, parts, v, ms, ss)
 }
 
 // A bit of two bytes.
 #[tactic(auto, using(base::specs::Rules::cases), unfolding(crate::specs::Takes::word_in))]
-pub fn take_word(r: &mut [u8], image: usize, pad: usize, v: bool, ms: &mut [u8], ss: &mut [u8])
-    ensures { taken r.new ms.new ss.new ≡ word_in v image pad r.old ms.old ss.old }
+pub fn take_word(r: &mut [u8], parts: Parts, v: bool, ms: &mut [u8], ss: &mut [u8])
+    ensures { taken r.new ms.new ss.new ≡ word_in v parts.image parts.pad r.old ms.old ss.old }
 {
     let a = base::byte_at(r, 18);
     if a < 15 {
         fill_word(r, a + 1, v);
         return;
     }
-    taking::take_any(r, image, pad, v, ms, ss)
+    taking::take_any(r, parts, v, ms, ss)
 }
 
 // A bit of the code, to match.
 #[tactic(auto, using(base::specs::Rules::cases), unfolding(crate::specs::Takes::code_in))]
-pub fn take_code(r: &mut [u8], image: usize, pad: usize, v: bool, ms: &mut [u8], ss: &mut [u8])
-    ensures { taken r.new ms.new ss.new ≡ code_in v image pad r.old ms.old ss.old }
+pub fn take_code(r: &mut [u8], parts: Parts, v: bool, ms: &mut [u8], ss: &mut [u8])
+    ensures { taken r.new ms.new ss.new ≡ code_in v parts.image parts.pad r.old ms.old ss.old }
 {
     let a = base::byte_at(r, 18);
     if a < 63 && is_of_code(r, a, v) {
         base::put_at(r, 18, a + 1);
         return;
     }
-    taking::take_any(r, image, pad, v, ms, ss)
+    taking::take_any(r, parts, v, ms, ss)
 }

@@ -3,7 +3,7 @@ ghost use Rattle.std.specs.Prelude.{◌≡◌};
 ghost use Rattle.scratchpad.specs.Registers.{with_e};
 ghost use Rattle.packed.specs.Takes.{taken, put_step, offset_next, address_next, memory_end, memory_out, pad_end, pad_out, ruled_in, whole_in, data_end, data_in};
 
-use crate::{counting, fields};
+use crate::{Parts, counting, fields};
 use base::Register;
 
 // A step put in its place, with b and c 0.
@@ -125,41 +125,41 @@ fn with_e(es: u8, offset: u8) -> u8
 
 // A whole byte: through the rule into the scratchpad, and E is its offset.
 #[tactic(auto, unfolding(crate::specs::Takes::whole_in))]
-fn take_whole(r: &mut [u8], image: usize, pad: usize, sent: u8, ms: &[u8], ss: &mut [u8])
-    ensures { taken r.new ms.now ss.new ≡ whole_in image pad sent r.old ms.now ss.old }
+fn take_whole(r: &mut [u8], parts: Parts, sent: u8, ms: &[u8], ss: &mut [u8])
+    ensures { taken r.new ms.now ss.new ≡ whole_in parts.image parts.pad sent r.old ms.now ss.old }
 {
     let offset = base::byte_at(r, 18);
     let kind = base::byte_at(r, 8);
     let size = chip::kinds::pad_size(kind);
-    let byte = rule_in(r, image, offset, sent, ms);
+    let byte = rule_in(r, parts.image, offset, sent, ms);
     let before = fields::word_of(r);
     let crc = crc::byte16(before, sent);
     let old = base::byte_at(r, 12);
     let es = with_e(old, offset);
-    base::put_in_part(ss, pad, size, offset as usize, byte);
+    base::put_in_part(ss, parts.pad, size, offset as usize, byte);
     base::put_at(r, 12, es);
     next_offset(r, 18, offset, 31, crc)
 }
 
 // The last bit of a byte.
 #[tactic(auto, unfolding(crate::specs::Takes::data_end))]
-fn end_data(r: &mut [u8], image: usize, pad: usize, v: bool, ms: &[u8], ss: &mut [u8])
-    ensures { taken r.new ms.now ss.new ≡ data_end v image pad r.old ms.now ss.old }
+fn end_data(r: &mut [u8], parts: Parts, v: bool, ms: &[u8], ss: &mut [u8])
+    ensures { taken r.new ms.now ss.new ≡ data_end v parts.image parts.pad r.old ms.now ss.old }
 {
     let before = base::byte_at(r, 20);
     let sent = before.filled(v);
-    take_whole(r, image, pad, sent, ms, ss)
+    take_whole(r, parts, sent, ms, ss)
 }
 
 // A bit of a byte.
 #[tactic(auto, using(base::specs::Rules::cases), unfolding(crate::specs::Takes::data_in))]
-pub fn take_data(r: &mut [u8], image: usize, pad: usize, v: bool, ms: &[u8], ss: &mut [u8])
-    ensures { taken r.new ms.now ss.new ≡ data_in v image pad r.old ms.now ss.old }
+pub fn take_data(r: &mut [u8], parts: Parts, v: bool, ms: &[u8], ss: &mut [u8])
+    ensures { taken r.new ms.now ss.new ≡ data_in v parts.image parts.pad r.old ms.now ss.old }
 {
     let b = base::byte_at(r, 19);
     if b < 7 {
         counting::fill_byte(r, 19, b + 1, 20, v);
         return;
     }
-    end_data(r, image, pad, v, ms, ss)
+    end_data(r, parts, v, ms, ss)
 }

@@ -22,6 +22,13 @@ pub use taking::takes;
 // The bytes of a record.
 pub const RECORD_SIZE: usize = 32;
 
+// Where the parts of the buffers begin that are a chip's: its image and its scratchpad.
+#[derive(Clone, Copy, PartialEq, Eq)]
+pub struct Parts {
+    pub image: usize,
+    pub pad: usize,
+}
+
 // What a chip is in the middle of: the number of the step, and what it needs to go on.
 #[derive(Clone, Copy)]
 pub struct Step {

@@ -2,7 +2,7 @@
 ghost use Rattle.std.specs.Prelude.{◌≡◌};
 ghost use Rattle.packed.specs.Sends.{code_bit, search_bit, crc_bit, register_bit, pad_bit, copied_bit, memory_bit, sample_bit, confirm_bit, sends_in};
 
-use crate::fields;
+use crate::{Parts, fields};
 
 // Read ROM: bit a of the code.
 #[tactic(auto, unfolding(crate::specs::Sends::code_bit))]
@@ -100,10 +100,10 @@ fn confirm_bit(r: &[u8]) -> bool
     base::bit_of(0xAA, a)
 }
 
-// The bit that a record's chip sends, its parts of the buffers beginning at image and pad; a step with nothing to send sends 1.
+// The bit that a record's chip sends, its parts of the buffers beginning at these places; a step with nothing to send sends 1.
 #[tactic(auto, using(base::specs::Rules::cases), unfolding(crate::specs::Sends::sends_in, crate::specs::Sends::sends_at))]
-pub fn sends(r: &[u8], image: usize, pad: usize, ms: &[u8], ss: &[u8]) -> bool
-    ensures { result ≡ sends_in image pad r.now ms.now ss.now }
+pub fn sends(r: &[u8], parts: Parts, ms: &[u8], ss: &[u8]) -> bool
+    ensures { result ≡ sends_in parts.image parts.pad r.now ms.now ss.now }
 {
     let number = base::byte_at(r, 15);
     match number {
@@ -111,9 +111,9 @@ pub fn sends(r: &[u8], image: usize, pad: usize, ms: &[u8], ss: &[u8]) -> bool
         4 => search_bit(r),
         19 => crc_bit(r),
         20 => register_bit(r),
-        21 => pad_bit(r, pad, ss),
+        21 => pad_bit(r, parts.pad, ss),
         24 => copied_bit(r),
-        26 => memory_bit(r, image, ms),
+        26 => memory_bit(r, parts.image, ms),
         33 | 36 => sample_bit(r),
         35 => confirm_bit(r),
         _ => true,

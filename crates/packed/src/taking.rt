@@ -2,7 +2,7 @@
 ghost use Rattle.std.specs.Prelude.{◌≡◌};
 ghost use Rattle.packed.specs.Takes.{taken, shape_of, any_in, takes_by, takes_in};
 
-use crate::{Shape, counting, data, record};
+use crate::{Parts, Shape, counting, data, record};
 use line::Act;
 
 // The shape of each step.
@@ -37,11 +37,11 @@ fn shape_of(number: u8) -> Shape
 
 // Any slot, by the chip that the record stands for.
 #[tactic(auto, unfolding(crate::specs::Takes::any_in))]
-pub fn take_any(r: &mut [u8], image: usize, pad: usize, v: bool, ms: &mut [u8], ss: &mut [u8])
-    ensures { taken r.new ms.new ss.new ≡ any_in v image pad r.old ms.old ss.old }
+pub fn take_any(r: &mut [u8], parts: Parts, v: bool, ms: &mut [u8], ss: &mut [u8])
+    ensures { taken r.new ms.new ss.new ≡ any_in v parts.image parts.pad r.old ms.old ss.old }
 {
     let c = record::unpack(r);
-    let after = line::act_at(c, Act::Take(v), image, pad, ms, ss);
+    let after = line::act_at(c, Act::Take(v), parts.image, parts.pad, ms, ss);
     record::put_record(r, after);
 }
 
@@ -50,33 +50,32 @@ pub fn take_any(r: &mut [u8], image: usize, pad: usize, v: bool, ms: &mut [u8], 
 fn take_by(
     shape: Shape,
     r: &mut [u8],
-    image: usize,
-    pad: usize,
+    parts: Parts,
     v: bool,
     ms: &mut [u8],
     ss: &mut [u8],
 )
-    ensures { taken r.new ms.new ss.new ≡ takes_by v image pad r.old ms.old ss.old shape }
+    ensures { taken r.new ms.new ss.new ≡ takes_by v parts.image parts.pad r.old ms.old ss.old shape }
 {
     match shape {
         Shape::Still => {}
-        Shape::Count { last } => counting::take_count(r, last, image, pad, v, ms, ss),
-        Shape::Byte => counting::take_byte(r, image, pad, v, ms, ss),
-        Shape::Word => counting::take_word(r, image, pad, v, ms, ss),
-        Shape::Code => counting::take_code(r, image, pad, v, ms, ss),
-        Shape::Data => data::take_data(r, image, pad, v, ms, ss),
-        Shape::Pad => data::send_pad(r, pad, ss),
+        Shape::Count { last } => counting::take_count(r, last, parts, v, ms, ss),
+        Shape::Byte => counting::take_byte(r, parts, v, ms, ss),
+        Shape::Word => counting::take_word(r, parts, v, ms, ss),
+        Shape::Code => counting::take_code(r, parts, v, ms, ss),
+        Shape::Data => data::take_data(r, parts, v, ms, ss),
+        Shape::Pad => data::send_pad(r, parts.pad, ss),
         Shape::Memory => data::send_memory(r),
-        Shape::Any => take_any(r, image, pad, v, ms, ss),
+        Shape::Any => take_any(r, parts, v, ms, ss),
     }
 }
 
-// A slot of the value v on a record, its chip's parts of the buffers beginning at image and pad.
+// A slot of the value v on a record, its chip's parts of the buffers beginning at these places.
 #[tactic(auto, unfolding(crate::specs::Takes::takes_in))]
-pub fn takes(r: &mut [u8], image: usize, pad: usize, v: bool, ms: &mut [u8], ss: &mut [u8])
-    ensures { taken r.new ms.new ss.new ≡ takes_in v image pad r.old ms.old ss.old }
+pub fn takes(r: &mut [u8], parts: Parts, v: bool, ms: &mut [u8], ss: &mut [u8])
+    ensures { taken r.new ms.new ss.new ≡ takes_in v parts.image parts.pad r.old ms.old ss.old }
 {
     let number = base::byte_at(r, 15);
     let shape = shape_of(number);
-    take_by(shape, r, image, pad, v, ms, ss)
+    take_by(shape, r, parts, v, ms, ss)
 }

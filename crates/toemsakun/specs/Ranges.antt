@@ -132,7 +132,7 @@ pub record Parted (g : Range) (bs ms ss : List ℕ) : Type 0 where
   pub passed : List Whole
   pub rest : List Whole
   pub left : List Whole
-  pub reached : Reached passed rest left bs ms ss g.past g.first g.image g.pad
+  pub reached : Reached passed rest left bs ms ss g.past g.first g.parts.image g.parts.pad
   pub line : passed ++ (rest ++ left) ≡ line_in bs ms ss
   pub before : Waits (chips_of passed)
   pub after : Waits (chips_of left)

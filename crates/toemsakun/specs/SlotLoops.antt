@@ -9,6 +9,7 @@ use Rattle.chip.specs.declared.Chip.{Chip}
 use Rattle.chip.specs.declared.Level.TheVariants.{Waiting}
 use Rattle.line.specs.Line.{bus_from, value_of}
 use Rattle.line.specs.Layout.{sum_of, chips_of}
+use Rattle.packed.specs.declared.Parts.{Parts}
 use Rattle.packed.specs.Packed.{record_size, unpacked, unpacked_table}
 use Rattle.packed.specs.Places.{Table16, bytes_length}
 use Rattle.packed.specs.Sends.{sends_in}
@@ -29,7 +30,7 @@ pub record Sending (host : Bool) (bs ms ss : List ℕ) (past : ℕ) (value : Boo
   pub numbers : Near bs past i image pad
 
 module _ (host : Bool) (bs ms ss : List ℕ) where
-  pub sending_start : (g : Range) → Lined bs ms ss → Outside g bs → Sending host bs ms ss g.past host g.image g.pad g.first
+  pub sending_start : (g : Range) → Lined bs ms ss → Outside g bs → Sending host bs ms ss g.past host g.parts.image g.parts.pad g.first
   sending_start g h o =
       let p = parted g bs ms ss h o in
       record {
@@ -42,13 +43,13 @@ module _ (host : Bool) (bs ms ss : List ℕ) where
             ∙ ap (λ (b : Bool). bus_from sends_of b (p.rest ++ p.left)) (sym (bus_waits host p.passed p.before))
             ∙ sym (bus_append host p.passed (p.rest ++ p.left))
             ∙ ap (λ (L : List Whole). value_of host L) p.line;
-        numbers = near p.passed p.rest p.left bs ms ss g.past g.first g.image g.pad p.reached;
+        numbers = near p.passed p.rest p.left bs ms ss g.past g.first g.parts.image g.parts.pad p.reached;
       }
 
   module _ (past : ℕ) (value : Bool) (image pad i : ℕ) (s : Sending host bs ms ss past value image pad i) where
-    pub sending_next : (bit next : Bool) (kind size room : ℕ) → i < past → bit ≡ sends_in image pad (record_at i bs) ms ss → next ≡ both bit value
+    sending_more : (bit next : Bool) (kind size room : ℕ) → i < past → bit ≡ sends_in image pad (record_at i bs) ms ss → next ≡ both bit value
         → kind ≡ (unpacked (record_at i bs)).kind → size ≡ image_size kind → room ≡ pad_size kind → Sending host bs ms ss past next (image + size) (pad + room) (i + 1)
-    sending_next bit next kind size room h e f k a b = go s.passed s.rest s.left s.reached s.sent
+    sending_more bit next kind size room h e f k a b = go s.passed s.rest s.left s.reached s.sent
       where
         go : (P R Z : List Whole) → Reached P R Z bs ms ss past i image pad → bus_from sends_of value R ≡ value_of host (line_in bs ms ss)
             → Sending host bs ms ss past next (image + size) (pad + room) (i + 1)
@@ -63,6 +64,13 @@ module _ (host : Bool) (bs ms ss : List ℕ) where
               sent = ap (λ (c : Bool). bus_from sends_of c R) (f ∙ ap (λ (c : Bool). both c value) (sent_there P w R Z bs ms ss past i image pad r bit e)) ∙ t;
               numbers = near (P ++ (w ∷ [])) R Z bs ms ss past (i + 1) (image + size) (pad + room) q;
             }
+
+    pub sending_next : (bit next : Bool) (kind : ℕ) (parts : Parts) → i < past → bit ≡ sends_in image pad (record_at i bs) ms ss → next ≡ both bit value
+        → kind ≡ (unpacked (record_at i bs)).kind → parts.image ≡ image + image_size kind → parts.pad ≡ pad + pad_size kind → Sending host bs ms ss past next parts.image parts.pad (i + 1)
+    sending_next bit next kind parts h e f k a b =
+        subst (λ (n : ℕ). Sending host bs ms ss past next n parts.pad (i + 1)) (sym a)
+        (subst (λ (n : ℕ). Sending host bs ms ss past next (image + image_size kind) n (i + 1)) (sym b)
+        (sending_more bit next kind (image_size kind) (pad_size kind) h e f k refl refl))
 
     pub sending_end : past ≤ i → value ≡ value_of host (line_in bs ms ss)
     sending_end h = go s.rest s.reached.end s.sent
@@ -81,7 +89,7 @@ pub record Taking (v : Bool) (L : List Whole) (bs ms ss : List ℕ) (past image 
   pub numbers : Near bs past i image pad
 
 module _ (v : Bool) where
-  pub taking_start : (bs ms ss : List ℕ) (g : Range) → Lined bs ms ss → Outside g bs → Taking v (map (takes_of v) (line_in bs ms ss)) bs ms ss g.past g.image g.pad g.first
+  pub taking_start : (bs ms ss : List ℕ) (g : Range) → Lined bs ms ss → Outside g bs → Taking v (map (takes_of v) (line_in bs ms ss)) bs ms ss g.past g.parts.image g.parts.pad g.first
   taking_start bs ms ss g h o =
       let p = parted g bs ms ss h o in
       record {
@@ -93,16 +101,16 @@ module _ (v : Bool) where
             ∙ ap (λ (K : List Whole). map (takes_of v) p.passed ++ K) (sym (map-append (takes_of v) p.rest p.left))
             ∙ sym (map-append (takes_of v) p.passed (p.rest ++ p.left))
             ∙ ap (λ (K : List Whole). map (takes_of v) K) p.line;
-        numbers = near p.passed p.rest p.left bs ms ss g.past g.first g.image g.pad p.reached;
+        numbers = near p.passed p.rest p.left bs ms ss g.past g.first g.parts.image g.parts.pad p.reached;
       }
 
   module _ (L : List Whole) (bs ms ss : List ℕ) (past image pad i : ℕ) (s : Taking v L bs ms ss past image pad i) where
     abbrev put : List ℕ → List ℕ
     put x = take (i * record_size) bs ++ (x ++ drop (i * record_size + record_size - i * record_size) (drop (i * record_size) bs))
 
-    pub taking_next : (x ms' ss' : List ℕ) (kind size room : ℕ) → i < past → taken x ms' ss' ≡ takes_in v image pad (record_at i bs) ms ss
+    taking_more : (x ms' ss' : List ℕ) (kind size room : ℕ) → i < past → taken x ms' ss' ≡ takes_in v image pad (record_at i bs) ms ss
         → kind ≡ (unpacked (record_at i (put x))).kind → size ≡ image_size kind → room ≡ pad_size kind → Taking v L (put x) ms' ss' past (image + size) (pad + room) (i + 1)
-    taking_next x ms' ss' kind size room h e k a b = go s.passed s.rest s.left s.reached s.line
+    taking_more x ms' ss' kind size room h e k a b = go s.passed s.rest s.left s.reached s.line
       where
         go : (P R Z : List Whole) → Reached P R Z bs ms ss past i image pad → P ++ (map (takes_of v) R ++ Z) ≡ L → Taking v L (put x) ms' ss' past (image + size) (pad + room) (i + 1)
         go P [] Z r t = let z = r.end in absurd (omega arith)
@@ -118,6 +126,13 @@ module _ (v : Bool) where
               line = append_assoc P (u ∷ []) (map (takes_of v) R ++ Z) ∙ t;
               numbers = near (P ++ (u ∷ [])) R Z (put x) ms' ss' past (i + 1) (image + size) (pad + room) q;
             }
+
+    pub taking_next : (x ms' ss' : List ℕ) (kind : ℕ) (parts : Parts) → i < past → taken x ms' ss' ≡ takes_in v image pad (record_at i bs) ms ss
+        → kind ≡ (unpacked (record_at i (put x))).kind → parts.image ≡ image + image_size kind → parts.pad ≡ pad + pad_size kind → Taking v L (put x) ms' ss' past parts.image parts.pad (i + 1)
+    taking_next x ms' ss' kind parts h e k a b =
+        subst (λ (n : ℕ). Taking v L (put x) ms' ss' past n parts.pad (i + 1)) (sym a)
+        (subst (λ (n : ℕ). Taking v L (put x) ms' ss' past (image + image_size kind) n (i + 1)) (sym b)
+        (taking_more x ms' ss' kind (image_size kind) (pad_size kind) h e k refl refl))
 
     pub taking_end : past ≤ i → Held L bs ms ss
     taking_end h = go s.passed s.rest s.left s.reached s.line
@@ -173,7 +188,7 @@ slot-leaves v g bs ms ss bs' ms' ss' o h =
     )
 
 -- a range of all chips leaves out none
-pub all_outside : (bs : List ℕ) (g : Range) → Table16 bs → g.first ≡ 0 → g.image ≡ 0 → g.pad ≡ 0 → g.past ≡ length bs / record_size → Outside g bs
+pub all_outside : (bs : List ℕ) (g : Range) → Table16 bs → g.first ≡ 0 → g.parts.image ≡ 0 → g.parts.pad ≡ 0 → g.past ≡ length bs / record_size → Outside g bs
 all_outside bs g t f a b p =
     let k = bytes_length bs t in
     record {

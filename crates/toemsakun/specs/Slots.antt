@@ -27,8 +27,8 @@ Waits (c ∷ cs) = (c.level ≡ Waiting) × Waits cs
 pub record OutsideOf (g : Range) (cs : List Chip) : Type 0 where
   pub ordered : g.first ≤ g.past
   pub within : g.past ≤ length cs
-  pub image : g.image ≡ images_size (take g.first cs)
-  pub pad : g.pad ≡ pads_size (take g.first cs)
+  pub image : g.parts.image ≡ images_size (take g.first cs)
+  pub pad : g.parts.pad ≡ pads_size (take g.first cs)
   pub before : Waits (take g.first cs)
   pub after : Waits (drop g.past cs)
 

@@ -1,20 +1,33 @@
 // One slot on the chips of a range, each record in its place.
-ghost use Rattle.std.specs.Prelude.{◌≡◌, map};
+ghost use Rattle.std.specs.Prelude.{◌≡◌, ◌+◌, ◌≤◌, map};
+ghost use Rattle.chip.specs.Kinds.{image_size, pad_size};
+ghost use Rattle.line.specs.Layout.{images_most, pads_most};
 ghost use Rattle.line.specs.Line.{value_of, act_of, after_by};
 ghost use Rattle.line.specs.declared.Act.TheVariants as act;
 ghost use Rattle.line.specs.declared.Plan.TheVariants as plan;
 ghost use Rattle.packed.specs.Places.{Table16};
 ghost use Rattle.toemsakun.specs.Slots.{Lined, line_in, Outside};
 
-use packed::RECORD_SIZE;
+use packed::{Parts, RECORD_SIZE};
 
-// The chips of a table from first on and before past, and where the parts of the chip at first begin in the buffers.
+// The chips of a table from first on and before past, and where the parts of the chip at first begin.
 #[derive(Clone, Copy)]
 pub struct Range {
     pub first: usize,
-    pub image: usize,
-    pub pad: usize,
+    pub parts: Parts,
     pub past: usize,
+}
+
+// Where the parts of the chip after one of a kind begin.
+fn after(parts: Parts, kind: u8) -> Parts
+    requires { (parts.image ≤ images_most) × (parts.pad ≤ pads_most) }
+    ensures image { result.image ≡ parts.image + image_size kind }
+    ensures pad { result.pad ≡ parts.pad + pad_size kind }
+{
+    Parts {
+        image: parts.image + chip::kinds::image_size(kind),
+        pad: parts.pad + chip::kinds::pad_size(kind),
+    }
 }
 
 // All chips of a table.
@@ -25,8 +38,7 @@ pub fn whole(table: &[u8]) -> Range
     let past = table.len() / RECORD_SIZE;
     Range {
         first: 0,
-        image: 0,
-        pad: 0,
+        parts: Parts { image: 0, pad: 0 },
         past: past,
     }
 }
@@ -37,16 +49,14 @@ fn all_send(table: &[u8], g: Range, host: bool, ms: &[u8], ss: &[u8]) -> bool
     ensures { result ≡ value_of host (line_in table.now ms.now ss.now) }
 {
     let mut value = host;
-    let mut image = g.image;
-    let mut pad = g.pad;
+    let mut parts = g.parts;
     for i in g.first..g.past {
         let at = i * RECORD_SIZE;
         let end = at + RECORD_SIZE;
-        let bit = packed::sends(&table[at..end], image, pad, ms, ss);
+        let bit = packed::sends(&table[at..end], parts, ms, ss);
         value = base::are_both(bit, value);
         let kind = packed::kind_of(&table[at..end]);
-        image += chip::kinds::image_size(kind);
-        pad += chip::kinds::pad_size(kind);
+        parts = after(parts, kind);
     }
     value
 }
@@ -57,15 +67,13 @@ fn all_take(table: &mut [u8], g: Range, v: bool, ms: &mut [u8], ss: &mut [u8])
     ensures ss_after { line_in table.new ms.new ss.new ≡ map (act_of (act.Take v)) (line_in table.old ms.old ss.old) }
     ensures lined { Lined table.new ms.new ss.new × Outside g table.new }
 {
-    let mut image = g.image;
-    let mut pad = g.pad;
+    let mut parts = g.parts;
     for i in g.first..g.past {
         let at = i * RECORD_SIZE;
         let end = at + RECORD_SIZE;
-        packed::takes(&mut table[at..end], image, pad, v, ms, ss);
+        packed::takes(&mut table[at..end], parts, v, ms, ss);
         let kind = packed::kind_of(&table[at..end]);
-        image += chip::kinds::image_size(kind);
-        pad += chip::kinds::pad_size(kind);
+        parts = after(parts, kind);
     }
 }
 
@@ -94,8 +102,7 @@ pub fn front(table: &[u8], g: Range) -> Range
             return r;
         }
         let kind = packed::kind_of(&table[at..end]);
-        r.image += chip::kinds::image_size(kind);
-        r.pad += chip::kinds::pad_size(kind);
+        r.parts = after(r.parts, kind);
         r.first += 1;
     }
     r

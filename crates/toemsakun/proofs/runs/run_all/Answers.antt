@@ -1,7 +1,7 @@
 use native.Mathlib.Omega.{arith}
 use mathlib.Core.Path.{refl, ◌∙◌}
 use lib.ListN.{get_or}
-use Rattle.line.specs.Runs.{running_start, running_at, running_next, running_end, count_few}
+use Rattle.line.specs.Runs.{running_start, running_next, running_end, count_few}
 use Rattle.toemsakun.specs.Runs.{running_left, running_none}
 use Rattle.toemsakun.proofs.runs.run_all.Goals as goal
 

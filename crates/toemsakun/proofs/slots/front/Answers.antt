@@ -8,7 +8,7 @@ pub returns-then-not-waits : goal.returns-then-not-waits
 returns-then-not-waits c = c.loop-r.invariant.outside
 
 pub loop-r-preserved : goal.loop-r-preserved
-loop-r-preserved c = let l = c.loop-r in let k = c.kind_of-kind in front_next _ _ l.invariant c.waits.result k.result _ _ c.loop-r-test.true c.waits.ensures c.if-not-waits.false k.ensures c.image_size.ensures.value c.pad_size.ensures.value
+loop-r-preserved c = let l = c.loop-r in let k = c.kind_of-kind in front_next _ _ l.invariant c.waits.result k.result c.after-r.result c.loop-r-test.true c.waits.ensures c.if-not-waits.false k.ensures c.after-r.ensures.image c.after-r.ensures.pad
 
 pub returns : goal.returns
 returns c = c.loop-r.invariant.outside
