@@ -1,4 +1,4 @@
-// One chip's record in place: copied out whole, handed to `chip`, and stored whole.
+// One chip's record in place: copied whole to `chip`, and stored whole.
 ghost use Rattle.std.specs.Prelude.{◌≡◌};
 ghost use Rattle.chip.specs.Chip.{whole, takes_of, sends_of, reset_chip, power_on_chip, power_on_pad, outside_chip};
 
@@ -8,42 +8,33 @@ use chip::Chip;
 pub fn takes(c: &mut Chip, v: bool, m: &mut [u8], s: &mut [u8])
     ensures { whole c.new m.new s.new ≡ takes_of v (whole c.old m.old s.old) }
 {
-    let old = *c;
-    let new = chip::takes(old, v, m, s);
-    *c = new;
+    *c = chip::takes(*c, v, m, s);
 }
 
 // The bit that a chip sends in a slot.
 pub fn sends(c: &Chip, m: &[u8], s: &[u8]) -> bool
     ensures { result ≡ sends_of (whole c.now m.now s.now) }
 {
-    let old = *c;
-    chip::sends(old, m, s)
+    chip::sends(*c, m, s)
 }
 
 // A reset.
 pub fn reset(c: &mut Chip)
     ensures { c.new ≡ reset_chip c.old }
 {
-    let old = *c;
-    let new = chip::reset(old);
-    *c = new;
+    *c = chip::reset(*c);
 }
 
 // Power on, with what it does to the scratchpad.
 pub fn power_on(c: &mut Chip, s: &mut [u8])
     ensures { (c.new ≡ power_on_chip c.old) × (s.new ≡ power_on_pad c.old.kind s.old) }
 {
-    let old = *c;
-    let new = chip::power_on(old, s);
-    *c = new;
+    *c = chip::power_on(*c, s);
 }
 
 // New outside levels.
 pub fn set_outside(c: &mut Chip, outside: u8)
     ensures { c.new ≡ outside_chip outside c.old }
 {
-    let old = *c;
-    let new = chip::set_outside(old, outside);
-    *c = new;
+    *c = chip::set_outside(*c, outside);
 }
