@@ -14,6 +14,7 @@ use Rattle.card.proofs as card_proofs
 use Rattle.recording.proofs as recording_proofs
 use Rattle.search.proofs as search_proofs
 use Rattle.rounds.proofs as rounds_proofs
+use Rattle.lent.proofs as lent_proofs
 use Rattle.packed.proofs as packed_proofs
 use Rattle.toemsakun.proofs as toemsakun_proofs
 use Rattle.terminal.proofs as terminal_proofs

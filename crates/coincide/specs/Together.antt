@@ -166,7 +166,7 @@ rounds_make_round κs a x y v w p q =
 
 -- record, images and scratchpads
 pub packed_takes : Settled packed.takes.ended packed_proofs.takes.Reads.Learnt
-packed_takes κs a x y v w p q = let r = p ∙ sym q in (refl, λ i. ((r i).bytes, (tt, (tt, (tt, ((r i).images, ((r i).pads, tt)))))))
+packed_takes κs a x y v w p q = let r = p ∙ sym q in (refl, λ i. ((r i).bytes, (tt, (tt, ((r i).images, ((r i).pads, tt))))))
 
 -- answer, table and offset
 pub toemsakun_tk_card : Settled toemsakun.tk_card.ended toemsakun_proofs.tk_card.Reads.Learnt
