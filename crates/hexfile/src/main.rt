@@ -13,9 +13,8 @@ use words::Way;
 
 // Says how the program is used.
 fn say_usage(errors: Stderr) {
-    console::tell(
-        errors,
-        b"usage: hexfile write [FILE] | hexfile read [FILE] (without a file from standard input)\n",
+    let _ = eprintln!(errors;
+        "usage: hexfile write [FILE] | hexfile read [FILE] (without a file from standard input)"
     );
 }
 

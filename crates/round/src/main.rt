@@ -15,9 +15,8 @@ use words::Request;
 
 // Says how the program is used.
 fn say_usage(errors: Stderr) {
-    console::tell(
-        errors,
-        b"usage: round [--images FILE] [--places N] [--pages BYTES], with the card on standard input (BYTES from 0 to 1024)\n",
+    let _ = eprintln!(errors;
+        "usage: round [--images FILE] [--places N] [--pages BYTES], with the card on standard input (BYTES from 0 to 1024)"
     );
 }
 

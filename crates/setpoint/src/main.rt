@@ -14,9 +14,8 @@ const BYTES_MOST: usize = setpoints::PAGE_SIZE + 1;
 
 // Says how the program is used.
 fn say_usage(errors: Stderr) {
-    console::tell(
-        errors,
-        b"usage: setpoint read | read101 | read102 | write101 DEGREES | write102 TENTHS, with the page on standard input\n",
+    let _ = eprintln!(errors;
+        "usage: setpoint read | read101 | read102 | write101 DEGREES | write102 TENTHS, with the page on standard input"
     );
 }
 
