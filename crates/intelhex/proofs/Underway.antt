@@ -6,7 +6,6 @@ use Rattle.std.proofs.Math.Path.{refl, ap, sym}
 use Rattle.std.proofs.lemmas.List.Edits.{sets}
 use Rattle.std.proofs.Math.Seq.{length-sets}
 use Rattle.base.specs.Pick.{pick_true, pick_false, pick_both}
-use Rattle.base.specs.Along.{along}
 use Rattle.intelhex.specs.Faults.{image_size}
 use Rattle.intelhex.specs.Bytes.{bytes_of}
 use Rattle.intelhex.specs.Lines.{standing, form_of, judged}
@@ -206,10 +205,6 @@ module _ (more over₀ : Bool) (text image₀ image : List ℕ) (at lines : ℕ)
           (λ j. went (y j) (sym (add-zero at) j) (sym (add-zero lines) j) over ((m ∙ u.put ∙ ap (λ (gs : List Given). put_all gs image₀) (sym (append-nil u.gave))) j))
           ∙ ap (λ (y : Found). went_by image₀ (following u.gave at lines y)) (sym (ap (on_next (λ o t. lines_from u.turns more o t) over (drop at text)) f))
           ∙ ap (went_by image₀) u.left
-
--- what is handed over, by how reading ended
-pub handed : (image made : List ℕ) (lines : ℕ) (p q : Result Ending Fault) (r : Read) → p ≡ q → r ≡ read_by image made lines q → r ≡ read_by image made lines p
-handed image made lines p q r e h = along (read_by image made lines) p q r e h
 
 -- ---- images of another size, and of their own
 module _ (over more : Bool) (text image : List ℕ) where

@@ -1,13 +1,13 @@
 -- Laws: the end of a line sought, and its characters tried, one after the other; bytes of its digits.
 use Prim.Native.Char.{code as letter}
-use Rattle.std.specs.Prelude.{◌≡◌, ℕ, zero, suc, ◌+◌, ◌*◌, ◌/◌, ◌<◌, ◌≤◌, Bool, true, false, List, [], ◌∷◌, length, ◌==◌, nat_lt, slice_index, refl, Option, Some, None, unwrap_or, position, cond, ◌&&◌}
+use Rattle.std.specs.Prelude.{◌≡◌, ℕ, suc, ◌+◌, ◌/◌, ◌<◌, ◌≤◌, Bool, true, false, List, [], ◌∷◌, length, ◌==◌, nat_lt, slice_index, refl, Option, Some, None, unwrap_or, position, cond, ◌&&◌}
 use Rattle.std.specs.List.{list_all, position_or_len}
 use Rattle.std.proofs.lemmas.List.Recursion.{is_position_or_len}
 use Rattle.std.proofs.Common.{arith, ◌∙◌, ap, ltb-true, ltb-false}
 use Rattle.std.proofs.Math.Path.{sym}
 use Rattle.base.specs.Pick.{pick}
 use Rattle.base.specs.Bits.{both}
-use Rattle.intelhex.specs.Bytes.{is_digit, byte_of, bytes_of}
+use Rattle.intelhex.specs.Bytes.{is_digit, bytes_of}
 use Rattle.intelhex.specs.Written.{line_feed}
 use Rattle.intelhex.specs.Lines.{before, all_digits}
 
@@ -67,12 +67,3 @@ pub bytes_length : (cs : List ℕ) → length (bytes_of cs) ≡ length cs / 2
 bytes_length [] = refl
 bytes_length (a ∷ []) = refl
 bytes_length (a ∷ b ∷ cs) = let e = bytes_length cs in omega arith
-
-pub byte_is : (cs : List ℕ) (i : ℕ) → 2 * i + 1 < length cs → byte_of (slice_index cs (2 * i)) (slice_index cs (2 * i + 1)) ≡ slice_index (bytes_of cs) i
-byte_is [] i h = absurd (omega arith)
-byte_is (a ∷ []) i h = absurd (omega arith)
-byte_is (a ∷ b ∷ cs) zero h = refl
-byte_is (a ∷ b ∷ cs) (suc i) h =
-    let e : 2 * suc i ≡ suc (suc (2 * i)) = omega arith in
-    let f : 2 * suc i + 1 ≡ suc (suc (2 * i + 1)) = omega arith in
-    (λ j. byte_of (slice_index (a ∷ b ∷ cs) (e j)) (slice_index (a ∷ b ∷ cs) (f j))) ∙ byte_is cs i (omega arith)
