@@ -25,6 +25,7 @@ fn worth_of(c: u8) -> u8
 }
 
 // The byte of two digits.
+#[tactic(auto, using(crate::specs::Digits::worth_most), unfolding(crate::specs::Bytes::byte_of))]
 pub fn byte_of(high: u8, low: u8) -> u8
     ensures { result ≡ byte_of high low }
 {
@@ -32,6 +33,7 @@ pub fn byte_of(high: u8, low: u8) -> u8
 }
 
 // The low byte of the sum of bytes.
+#[tactic(auto, unfolding(crate::specs::Bytes::sum_of))]
 pub fn sum_of(bytes: &[u8]) -> u8
     ensures { result ≡ sum_of bytes.now }
 {
@@ -43,6 +45,7 @@ pub fn sum_of(bytes: &[u8]) -> u8
 }
 
 // The byte that makes that sum 0: its negative.
+#[tactic(auto, unfolding(crate::specs::Bytes::check_of))]
 pub fn check_of(bytes: &[u8]) -> u8
     ensures { result ≡ check_of bytes.now }
 {

@@ -54,6 +54,7 @@ fn take_line(line: &[u8], size: usize, image: &mut [u8]) -> Result<Turn, Fault>
 }
 
 // Where the text ends: more may come, or it is a fault.
+#[tactic(auto, unfolding(base::specs::Pick::pick))]
 fn awaited(more: bool, fault: Fault) -> Result<Ending, Fault>
     ensures { result ≡ ends_at more (Err fault) }
 {
@@ -73,6 +74,7 @@ fn take_before(text: &[u8], more: bool, image: &mut [u8]) -> Result<Turn, Fault>
 }
 
 // How a text after its end record ends.
+#[tactic(auto, unfolding(crate::specs::Reading::next_after, base::specs::Pick::pick))]
 fn end_after(text: &[u8], more: bool) -> Result<Ending, Fault>
     ensures { stop result ≡ next_after more text.now }
 {
