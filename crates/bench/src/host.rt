@@ -1,7 +1,7 @@
 // The host at the terminal: what it does on a line, and what it writes out of that.
 use crate::text;
 use base::Register;
-use line::{Event, Refusal, Table};
+use line::{Event, Table};
 use std::io::Stdout;
 
 // One thing that the host does: nothing, an event but for slots, eight slots that write a byte, a byte read, or a slot read.
@@ -15,63 +15,81 @@ pub enum Action {
     ReadSlot,
 }
 
-// Writes out a refusal, where an event was refused.
-fn say_refusal(out: Stdout, answer: Result<bool, Refusal>) {
-    match answer {
-        Ok(_) => {}
-        Err(r) => text::refused(out, line::number_of(r) as u64),
-    }
+// A terminal, the line at it, and what the line was lent.
+#[derive(Drop)]
+pub struct Bench<'a> {
+    pub out: Stdout,
+    pub table: Table,
+    pub images: &'a mut [u8],
+    pub pads: &'a mut [u8],
 }
 
-// An event; where it is refused, that is written out. A line that takes a reset or power on takes every slot too.
-fn put_event(out: Stdout, table: Table, event: Event, images: &mut [u8], pads: &mut [u8]) -> Table {
-    let happened = line::take_event(table, event, images, pads);
-    let answer = happened.answer;
-    say_refusal(out, answer);
-    happened.table
-}
-
-// Eight read slots, and the byte that they make written out where it is to be shown.
-fn read_byte(out: Stdout, table: Table, shown: bool, images: &mut [u8], pads: &mut [u8]) -> Table {
-    let mut current = table;
-    let mut byte: u8 = 0;
-    for _ in 0..8 {
-        let heard = search::slot(current, true, images, pads);
-        current = heard.table;
-        byte = byte.filled(heard.value);
+impl<'a> Bench<'a> {
+    // With no chips yet.
+    pub fn new(out: Stdout, images: &'a mut [u8], pads: &'a mut [u8]) -> Self {
+        Bench {
+            out,
+            table: line::tables::blank(0),
+            images,
+            pads,
+        }
     }
-    if shown {
-        text::say_byte(out, byte);
-    }
-    current
-}
 
-// A slot read, and written out.
-fn read_slot(out: Stdout, table: Table, images: &mut [u8], pads: &mut [u8]) -> Table {
-    let heard = search::slot(table, true, images, pads);
-    text::say_bit(out, heard.value);
-    heard.table
-}
-
-// What the host does, done on a line.
-pub fn act(out: Stdout, table: Table, action: Action, images: &mut [u8], pads: &mut [u8]) -> Table {
-    match action {
-        Action::Rest => table,
-        Action::Put(event) => put_event(out, table, event, images, pads),
-        Action::Write(byte) => search::write_byte(table, byte, images, pads),
-        Action::ReadByte(shown) => read_byte(out, table, shown, images, pads),
-        Action::ReadSlot => read_slot(out, table, images, pads),
+    // A line set up from a card: images of FFh, then event 3.
+    pub fn set_up(&mut self, card: &[u8]) {
+        let carded = card::set_up(card, 16, line::tables::blank(0));
+        let answer = carded.answer;
+        self.table = carded.table;
+        if !terminal::refused_card(self.out, answer) {
+            self.images.fill(0xFF);
+            self.put_event(line::events::power_on());
+        }
     }
-}
 
-// A line set up from a card: images of FFh, then event 3.
-pub fn set_up(out: Stdout, card: &[u8], images: &mut [u8], pads: &mut [u8]) -> Table {
-    let carded = card::set_up(card, 16, line::tables::blank(0));
-    let answer = carded.answer;
-    let table = carded.table;
-    if terminal::refused_card(out, answer) {
-        return table;
+    // An event; where it is refused, that is written out. A line that takes a reset or power on takes every slot too.
+    fn put_event(&mut self, event: Event) {
+        let happened = line::take_event(self.table, event, self.images, self.pads);
+        let answer = happened.answer;
+        self.table = happened.table;
+        if let Err(refusal) = answer {
+            text::refused(self.out, line::number_of(refusal) as u64);
+        }
     }
-    base::fill(images, 0xFF);
-    put_event(out, table, line::events::power_on(), images, pads)
+
+    // A slot read.
+    fn read_slot(&mut self) -> bool {
+        let heard = search::slot(self.table, true, self.images, self.pads);
+        self.table = heard.table;
+        heard.value
+    }
+
+    // Eight read slots, and the byte that they make.
+    fn read_byte(&mut self) -> u8 {
+        let mut byte: u8 = 0;
+        for _ in 0..8 {
+            byte = byte.filled(self.read_slot());
+        }
+        byte
+    }
+
+    // What the host does, done on the line.
+    pub fn act(&mut self, action: Action) {
+        match action {
+            Action::Rest => {}
+            Action::Put(event) => self.put_event(event),
+            Action::Write(byte) => {
+                self.table = search::write_byte(self.table, byte, self.images, self.pads);
+            }
+            Action::ReadByte(is_shown) => {
+                let byte = self.read_byte();
+                if is_shown {
+                    text::say_byte(self.out, byte);
+                }
+            }
+            Action::ReadSlot => {
+                let bit = self.read_slot();
+                text::say_bit(self.out, bit);
+            }
+        }
+    }
 }

@@ -1,5 +1,6 @@
 // Cases 2 and 3: what the search lists.
-use crate::{cards, host, text};
+use crate::host::Bench;
+use crate::{cards, text};
 use search::{Resets, SearchAnswer, Slots};
 use std::io::Stdout;
 
@@ -27,15 +28,15 @@ fn say_counts(out: Stdout, listed: usize, resets: Resets, slots: Slots) {
 }
 
 // A search of the line of a card, with as many places as the list has, and all that it answers.
-fn show_search(out: Stdout, card: &[u8], list: &mut [u64], images: &mut [u8], pads: &mut [u8]) {
-    let line = host::set_up(out, card, images, pads);
-    let found = search::search_line(line, list, images, pads);
+fn show_search(bench: &mut Bench, card: &[u8], list: &mut [u64]) {
+    bench.set_up(card);
+    let found = search::search_line(bench.table, list, bench.images, bench.pads);
     let answer = found.answer;
     let resets = found.resets;
     let slots = found.slots;
-    say_codes(out, list, found.listed);
-    say_refusal(out, answer);
-    say_counts(out, found.listed, resets, slots);
+    say_codes(bench.out, list, found.listed);
+    say_refusal(bench.out, answer);
+    say_counts(bench.out, found.listed, resets, slots);
 }
 
 // Case 2, the four codes of document 002 with places for all of them, and case 3, a line without chips and then two places
@@ -43,20 +44,13 @@ fn show_search(out: Stdout, card: &[u8], list: &mut [u64], images: &mut [u8], pa
 pub fn cases_2_and_3(out: Stdout) {
     let mut images = [0u8; 10496];
     let mut pads = [0u8; 128];
-    let mut no_images = [0u8; 0];
-    let mut no_pads = [0u8; 0];
     let mut list = [0u64; 16];
     let mut two_places = [0u64; 2];
+    let mut four = Bench::new(out, &mut images, &mut pads);
     text::say(out, b"case 2: four chips, listed");
-    show_search(out, &cards::FOUR_CODES, &mut list, &mut images, &mut pads);
+    show_search(&mut four, &cards::FOUR_CODES, &mut list);
     text::say(out, b"case 3: no chips, listed");
-    show_search(out, b"", &mut list, &mut no_images, &mut no_pads);
+    show_search(&mut Bench::new(out, &mut [], &mut []), b"", &mut list);
     text::say(out, b"case 3: two places for four chips, listed");
-    show_search(
-        out,
-        &cards::FOUR_CODES,
-        &mut two_places,
-        &mut images,
-        &mut pads,
-    );
+    show_search(&mut four, &cards::FOUR_CODES, &mut two_places);
 }

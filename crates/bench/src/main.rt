@@ -27,23 +27,26 @@ mod sums;
 mod switches;
 mod text;
 
+use host::Bench;
+
 // Runs each case on a line of its own.
 fn main(rt: HostRuntime) {
     let out = rt.stdout();
     let mut image = [0u8; 2624];
     let mut pad = [0u8; 32];
-    sums::case_1(out, &mut image, &mut pad);
+    let mut bench = Bench::new(out, &mut image, &mut pad);
+    sums::case_1(&mut bench);
     listing::cases_2_and_3(out);
-    memories::case_4(out, &mut image, &mut pad);
-    memories::case_5(out, &mut image, &mut pad);
-    memories::case_6(out, &mut image, &mut pad);
-    memories::case_7(out, &mut image, &mut pad);
+    memories::case_4(&mut bench);
+    memories::case_5(&mut bench);
+    memories::case_6(&mut bench);
+    memories::case_7(&mut bench);
     switches::case_8(out);
-    memories::case_9(out, &mut image, &mut pad);
-    memories::short_address(out, &mut image, &mut pad);
-    slips::register_page(out, &mut image, &mut pad);
-    slips::past_e(out, &mut image, &mut pad);
-    slips::kind_1(out, &mut image, &mut pad);
+    memories::case_9(&mut bench);
+    memories::short_address(&mut bench);
+    slips::register_page(&mut bench);
+    slips::past_e(&mut bench);
+    slips::kind_1(&mut bench);
     slips::kind_2(out);
     pairs::two_memories(out);
 }

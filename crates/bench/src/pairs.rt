@@ -1,13 +1,14 @@
 // Two DS28EC20 on one line: Resume, and a chip that takes a byte while the other sends.
-use crate::{cards, host, script};
+use crate::host::Bench;
+use crate::{cards, script};
 use line::Table;
 use std::io::Stdout;
 
 // RC is kept over a reset, so that Resume chooses the chip of the last Match ROM, and no chip after Skip ROM, by which both
 // send together.
-fn resume(out: Stdout, images: &mut [u8], pads: &mut [u8]) {
+fn resume(bench: &mut Bench) {
     script::run(
-        out,
+        bench,
         &cards::TWO_MEMORIES,
         b"resume: first of two, write 0000 3C<55 43 01 00 00 00 00 00 B7 0F 00 00 3C>, \
         copy 00 00 00 answers<A5 55 00 00 00>...., memory 0000<A5 F0 00 00>?\n\
@@ -16,45 +17,36 @@ fn resume(out: Stdout, images: &mut [u8], pads: &mut [u8]) {
         resume: Match ROM of the first, memory 0000<55 43 01 00 00 00 00 00 B7 F0 00 00>?, \
         Resume, memory 0000<A5 F0 00 00>?\n\
         resume: Skip ROM, memory 0000<CC F0 00 00>?, Resume, memory 0000<A5 F0 00 00>?\n",
-        images,
-        pads,
     );
 }
 
 // The first chip of one table, and the second of another.
 fn mixed(first: Table, second: Table) -> Table {
     let mut chips = first.chips;
-    let others = second.chips;
-    let chip = others[1];
-    chips[1] = chip;
-    Table { n: 2, chips: chips }
+    chips[1] = second.chips[1];
+    Table { n: 2, chips }
 }
 
 // A table that a caller may lend and that chips reset together never come to: the first chip, with 3C in its memory, as Read
 // Memory leaves it, the second as Write Scratchpad does.
-fn one_sends(out: Stdout, images: &mut [u8], pads: &mut [u8]) -> Table {
-    let line = host::set_up(out, &cards::TWO_MEMORIES, images, pads);
-    let sending = script::play(
-        out,
-        line,
+fn one_sends(bench: &mut Bench) -> Table {
+    bench.set_up(&cards::TWO_MEMORIES);
+    script::play(
+        bench,
         b"<55 43 01 00 00 00 00 00 B7 0F 00 00 3C><A5 55 00 00 00><CC F0 00 00>",
-        images,
-        pads,
     );
-    let taking = script::play(out, sending, b"<CC 0F 00 00>", images, pads);
-    mixed(sending, taking)
+    let sending = bench.table;
+    script::play(bench, b"<CC 0F 00 00>");
+    mixed(sending, bench.table)
 }
 
 // The second chip takes what the first sends, not the host's FFh.
-fn slot_value(out: Stdout, images: &mut [u8], pads: &mut [u8]) {
-    let line = one_sends(out, images, pads);
+fn slot_value(bench: &mut Bench) {
+    bench.table = one_sends(bench);
     script::play(
-        out,
-        line,
+        bench,
         b"slot value: first sends, second takes, host FF, line?, \
         second, E/S<55 43 02 00 00 00 00 00 EE AA>__?, scratchpad?\n",
-        images,
-        pads,
     );
 }
 
@@ -62,6 +54,7 @@ fn slot_value(out: Stdout, images: &mut [u8], pads: &mut [u8]) {
 pub fn two_memories(out: Stdout) {
     let mut images = [0u8; 5248];
     let mut pads = [0u8; 64];
-    resume(out, &mut images, &mut pads);
-    slot_value(out, &mut images, &mut pads);
+    let mut bench = Bench::new(out, &mut images, &mut pads);
+    resume(&mut bench);
+    slot_value(&mut bench);
 }

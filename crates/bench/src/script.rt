@@ -6,9 +6,8 @@
 //   !           power on
 //   ~           PIOA of the first chip held low outside
 // Every other character is written out as it is.
-use crate::host::Action;
-use crate::{host, text};
-use line::Table;
+use crate::host::{Action, Bench};
+use crate::text;
 use std::io::Stdout;
 
 // How far the typing is.
@@ -68,20 +67,17 @@ fn asked(out: Stdout, typed: Typed, character: u8) -> Action {
     }
 }
 
-// A script, played on a line.
-pub fn play(out: Stdout, table: Table, script: &[u8], images: &mut [u8], pads: &mut [u8]) -> Table {
-    let mut current = table;
+// A script, played on the line at the bench.
+pub fn play(bench: &mut Bench, script: &[u8]) {
     let mut typed = Typed::Outside;
     for character in script {
-        let action = asked(out, typed, *character);
-        current = host::act(out, current, action, images, pads);
+        bench.act(asked(bench.out, typed, *character));
         typed = after(typed, *character);
     }
-    current
 }
 
 // A script, played on a line of its own that is set up from a card.
-pub fn run(out: Stdout, card: &[u8], script: &[u8], images: &mut [u8], pads: &mut [u8]) {
-    let line = host::set_up(out, card, images, pads);
-    play(out, line, script, images, pads);
+pub fn run(bench: &mut Bench, card: &[u8], script: &[u8]) {
+    bench.set_up(card);
+    play(bench, script);
 }

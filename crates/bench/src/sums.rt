@@ -1,4 +1,5 @@
 // Case 1: the two check sums, computed and as a chip sends them.
+use crate::host::Bench;
 use crate::{cards, script, text};
 use std::io::Stdout;
 
@@ -18,15 +19,13 @@ fn computed(out: Stdout) {
 }
 
 // Case 1, where a chip sends the CRC-16 of 01h, since 0F 40 04 leaves the check sum 0, and so does each 00 before the 01.
-pub fn case_1(out: Stdout, images: &mut [u8], pads: &mut [u8]) {
-    computed(out);
+pub fn case_1(bench: &mut Bench) {
+    computed(bench.out);
     script::run(
-        out,
+        bench,
         &cards::MEMORY,
         b"case 1: by a chip, write 0440 00 31 times 01<CC 0F 40 04 \
         00 00 00 00 00 00 00 00 00 00 00 00 00 00 00 00 00 00 00 00 00 00 00 00 00 00 00 00 00 00 00 01>, \
         CRC-16 sent??, E/S<CC AA>__?\n",
-        images,
-        pads,
     );
 }
