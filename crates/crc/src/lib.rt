@@ -16,21 +16,20 @@ pub enum CodeCheck {
 }
 
 // One bit into the CRC-8.
+#[tactic(auto, using(crate::specs::Drawn::drawn_is_poly8, crate::specs::Stages::byte_of_stages))]
 pub fn bit8(x: u8, v: bool) -> u8
     ensures { result ≡ crc_bit poly8 x v }
 {
-    let before = figure4::stages_of(x);
-    let after = figure4::step(before, v);
-    figure4::as_byte(after)
+    let stages = figure4::stages_of(x);
+    figure4::as_byte(figure4::step(stages, v))
 }
 
 // One byte into the CRC-8, bit 0 first.
 pub fn byte8(x: u8, b: u8) -> u8
     ensures { result ≡ crc_byte poly8 x b }
 {
-    let before = figure4::stages_of(x);
-    let after = figure4::take_byte(before, b);
-    figure4::as_byte(after)
+    let stages = figure4::stages_of(x);
+    figure4::as_byte(figure4::take_byte(stages, b))
 }
 
 // One bit into the CRC-16.

@@ -52,6 +52,8 @@ pub fn rule_at(part: Part, m: &[u8], a: usize, sent: u8) -> u8
 }
 
 // The bytes of n offsets from k on, put into T's page, each judged before any is put.
+// Stays a recursion, in fixed memory: every byte is judged by the memory before the copy, so that a loop would need a buffer
+// for what is judged, and a second loop that puts it.
 pub fn copy_bytes(part: Part, m: &mut [u8], s: &[u8], t: u16, k: u8, n: u8)
     ensures { m.new ≡ copied (map_of part) m.old s.now (in_page t 0) k n }
 {
