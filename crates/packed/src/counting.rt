@@ -39,14 +39,7 @@ fn is_of_code(r: &[u8], place: u8, v: bool) -> bool
 
 // A place up to a last one.
 #[tactic(auto, using(base::specs::Rules::cases), unfolding(crate::specs::Takes::count_in))]
-pub fn take_count(
-    r: &mut [u8],
-    last: u8,
-    parts: Parts,
-    v: bool,
-    ms: &mut [u8],
-    ss: &mut [u8],
-)
+pub fn take_count(r: &mut [u8], last: u8, parts: Parts, v: bool, ms: &mut [u8], ss: &mut [u8])
     ensures { taken r.new ms.new ss.new ≡ count_in v parts.image parts.pad r.old ms.old ss.old last }
 {
     let a = base::byte_at(r, 18);

@@ -116,6 +116,7 @@ fn rule_in(r: &[u8], image: usize, offset: u8, sent: u8, ms: &[u8]) -> u8
 }
 
 // E/S with E set to an offset.
+// Stays beside the scratchpad's own: no plainer, since that crate would hand a field of E/S to every crate above for one line.
 #[tactic(auto, unfolding(scratchpad::specs::Registers::with_e))]
 fn with_e(es: u8, offset: u8) -> u8
     ensures { result ≡ with_e es offset }

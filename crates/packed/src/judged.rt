@@ -14,7 +14,7 @@ fn fields_stand(record: &[u8; RECORD_SIZE]) -> bool
     ensures { result ≡ fields_stand record.now }
 {
     let registers = Registers {
-        t: records::pair(record[10], record[11]),
+        t: records::pair_at(record, 10),
         es: record[12],
     };
     let switch = Switch {
@@ -53,7 +53,7 @@ fn rest_is_zero(record: &[u8; RECORD_SIZE]) -> bool
 fn is_within(record: &[u8; RECORD_SIZE], most: Limits) -> bool
     ensures { result ≡ within (step_at record.now) most }
 {
-    let w = records::pair(record[16], record[17]);
+    let w = records::pair_at(record, 16);
     (w <= most.w) & (record[18] <= most.a) & (record[19] <= most.b) & (record[20] <= most.c)
 }
 

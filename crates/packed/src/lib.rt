@@ -30,6 +30,7 @@ pub struct Parts {
 }
 
 // What a chip is in the middle of: the number of the step, and what it needs to go on.
+// Stays a number: bytes that C lends may hold any, and `stands` tells those that name no step.
 #[derive(Clone, Copy)]
 pub struct Step {
     pub number: u8,

@@ -1,7 +1,6 @@
 // A chip's record as bytes, numbers with the low byte first.
 ghost use Rattle.std.specs.Prelude.{◌≡◌};
 ghost use Rattle.base.specs.Bytes.{same_bytes};
-ghost use Rattle.records.specs.Numbers.{number_at};
 ghost use Rattle.packed.specs.Packed.{step_at, packed_with, packed, unpacked, put_record};
 
 use crate::{RECORD_SIZE, Step, level};
@@ -38,21 +37,13 @@ pub fn pack(c: Chip) -> [u8; RECORD_SIZE]
     bytes_of(c, Step::from(c.level))
 }
 
-// The code that a record begins with.
-fn code_of(record: &[u8; RECORD_SIZE]) -> u64
-    ensures { result ≡ number_at record.now 0 8 }
-{
-    let [b0, b1, b2, b3, b4, b5, b6, b7, ..] = *record;
-    records::code(b0, b1, b2, b3, b4, b5, b6, b7)
-}
-
 // The step that a record names.
 fn step_of(record: &[u8; RECORD_SIZE]) -> Step
     ensures { result ≡ step_at record.now }
 {
     Step {
         number: record[15],
-        w: records::pair(record[16], record[17]),
+        w: records::pair_at(record, 16),
         a: record[18],
         b: record[19],
         c: record[20],
@@ -65,7 +56,7 @@ fn unpack_whole(record: &[u8; RECORD_SIZE]) -> Chip
     ensures { result ≡ unpacked record.now }
 {
     let registers = Registers {
-        t: records::pair(record[10], record[11]),
+        t: records::pair_at(record, 10),
         es: record[12],
     };
     let switch = Switch {
@@ -73,7 +64,7 @@ fn unpack_whole(record: &[u8; RECORD_SIZE]) -> Chip
         outside: record[14],
     };
     Chip {
-        code: code_of(record),
+        code: records::code_at(record, 0),
         kind: record[8],
         rc: record[9] == 1,
         level: Level::from(step_of(record)),

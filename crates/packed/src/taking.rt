@@ -47,14 +47,7 @@ pub fn take_any(r: &mut [u8], parts: Parts, v: bool, ms: &mut [u8], ss: &mut [u8
 
 // A slot by the shape of the step.
 #[tactic(auto, using(base::specs::Rules::cases))]
-fn take_by(
-    shape: Shape,
-    r: &mut [u8],
-    parts: Parts,
-    v: bool,
-    ms: &mut [u8],
-    ss: &mut [u8],
-)
+fn take_by(shape: Shape, r: &mut [u8], parts: Parts, v: bool, ms: &mut [u8], ss: &mut [u8])
     ensures { taken r.new ms.new ss.new ≡ takes_by v parts.image parts.pad r.old ms.old ss.old shape }
 {
     match shape {
