@@ -1,10 +1,9 @@
 -- Laws: the answers of the plain forms as numbers, taken at what a match found.
-use Rattle.std.specs.Prelude.{ℕ, zero, suc, ◌-◌, ◌<◌, true, ◌≡◌, refl, ltb, ℤ, pos, ◌-ℤ◌, Result, Ok, Err, Bool}
+use Rattle.std.specs.Prelude.{ℕ, ◌<◌, ◌≡◌, ℤ, pos, Result, Ok, Err, Bool}
 use Rattle.line.specs.declared.Refusal.{Refusal}
-use Rattle.std.proofs.Common.{arith, ◌∙◌, ap, sym, subst, lt-ltb, to_z, of_z, SFits, to_z-of_z}
+use Rattle.std.proofs.Common.{◌∙◌, ap, to_z, of_z, to_z-of_z}
 use Rattle.std.specs.Int.Signed.{mag}
 use Rattle.std.specs.Int.{w32}
-use Rattle.std.proofs.Math.Facts.{to_z_pos}
 use Rattle.base.specs.Along.{along}
 use Rattle.line.specs.Event.{answered}
 use Rattle.line.specs.Slots.{slotted}
@@ -43,27 +42,6 @@ refused_at n q p r e h k = k ∙ along (λ (a : SearchAnswer). search_number n (
 
 pub card_at : (n : ℕ) (q p : Result ℕ Refused) (r : ℤ) → q ≡ p → r ≡ card_number n (carded p) → r ≡ card_number n (carded q)
 card_at n = along (λ (k : Result ℕ Refused). card_number n (carded k))
-
--- a small number, taken from 0
-minus_is : (n : ℕ) → n < 256 → to_z w32 0 -ℤ to_z w32 n ≡ minus n
-minus_is n h = (λ j. to_z_pos w32 {n = 0} (omega arith) j -ℤ to_z_pos w32 {n = n} (omega arith) j) ∙ go n
-  where
-    go : (k : ℕ) → pos 0 -ℤ pos k ≡ minus k
-    go zero = refl
-    go (suc k) =
-        let e : ltb 0 (suc k) ≡ true = lt-ltb 0 (suc k) (omega arith) in
-        let f : suc k - suc 0 ≡ k = omega arith in
-        rw (e, f)
-
-pub minus_fits : (n : ℕ) → n < 256 → SFits w32 (to_z w32 0 -ℤ to_z w32 n)
-minus_fits n h = subst (λ (z : ℤ). SFits w32 z) (sym (minus_is n h)) (record { sfits = go n h })
-  where
-    go : (k : ℕ) → k < 256 → mag (minus k) < 2147483648
-    go zero h = omega arith
-    go (suc k) h = omega arith
-
-pub minus_back : (n : ℕ) → n < 256 → to_z w32 (of_z w32 (to_z w32 0 -ℤ to_z w32 n)) ≡ minus n
-minus_back n h = to_z-of_z {w = w32} {z = to_z w32 0 -ℤ to_z w32 n} (minus_fits n h) ∙ minus_is n h
 
 -- a number that is handed on stays as it is
 pub passed : (z : ℤ) → mag z < 2147483648 → to_z w32 (of_z w32 z) ≡ z

@@ -13,3 +13,4 @@ pub mod Ranges
 pub mod SlotLoops
 pub mod Narrow
 pub mod Runs
+pub mod Surveys

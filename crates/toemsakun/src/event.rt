@@ -1,44 +1,26 @@
 // One event on a table that is lent as bytes, each record changed in its place.
 ghost use Rattle.std.specs.Prelude.{◌≡◌, length};
-ghost use Rattle.base.specs.Pick.{pick};
 ghost use Rattle.line.specs.Event.{bit, answered};
 ghost use Rattle.line.specs.Line.{value_of, after_by};
 ghost use Rattle.line.specs.declared.Plan.TheVariants as plan;
-ghost use Rattle.line.specs.Carrier.{plan_seen};
 ghost use Rattle.line.specs.Carried.{walked};
 ghost use Rattle.packed.specs.Packed.{unpacked_table};
 ghost use Rattle.packed.specs.Places.{Table16};
 ghost use Rattle.toemsakun.specs.Library.{event_left, answer_number, packed_outcome, event_bytes};
-ghost use Rattle.toemsakun.specs.Judging.{plan_bytes, refused_by8};
+ghost use Rattle.toemsakun.specs.Judging.{plan_bytes};
 ghost use Rattle.toemsakun.specs.Slots.{Lined, line_in};
 
 use crate::{loops, slots};
-use line::{Event, Plan, Refusal, Survey};
-use packed::RECORD_SIZE;
-
-// What an event comes to, where the bytes may be no table.
-fn plan_if(table: bool, survey: Survey, n: usize, e: Event, images: usize, pads: usize) -> Plan
-    ensures { result ≡ pick table (plan_seen survey n e images pads) refused_by8 }
-{
-    if table {
-        return line::carrier::plan_of(survey, n, e, images, pads);
-    }
-    Plan::Refused(Refusal::OutOfRange)
-}
+use line::{Event, Plan, Refusal};
 
 // What an event comes to on bytes and their buffers.
 fn plan_bytes(table: &[u8], e: Event, ms: &[u8], ss: &[u8]) -> Plan
     ensures { result ≡ plan_bytes table.now e ms.now ss.now }
 {
-    let size = table.len();
-    let n = size / RECORD_SIZE;
-    if n <= 16 {
-        let judged = loops::judge(table, n, e.chip);
-        let survey = judged.survey;
-        let whole = base::are_both(judged.ok, size == n * RECORD_SIZE);
-        return plan_if(whole, survey, n, e, ms.len(), ss.len());
-    }
-    Plan::Refused(Refusal::OutOfRange)
+    let Some(survey) = loops::judge(table, e.chip) else {
+        return Plan::Refused(Refusal::OutOfRange);
+    };
+    line::carrier::plan_of(survey, survey.spot.place, e, ms.len(), ss.len())
 }
 
 // A plan is carried out.

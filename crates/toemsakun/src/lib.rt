@@ -14,15 +14,8 @@ ghost use Rattle.packed.specs.Packed.{table_from};
 ghost use Rattle.toemsakun.specs.Laws.{no_table};
 ghost use Rattle.toemsakun.specs.Library.{table_size, images_bytes, pads_bytes, card_left, card_bytes, event_left, event_bytes, slots_left, slots_bytes, search_left, search_bytes};
 
-use line::{Survey, Table};
+use line::Table;
 use packed::RECORD_SIZE;
-
-// What the records of a table come to: whether they are records, and a survey of them.
-#[derive(Clone, Copy)]
-pub struct Judged {
-    pub ok: bool,
-    pub survey: Survey,
-}
 
 // The table that bytes are, or one that every call refuses.
 fn unpack(table: &[u8]) -> Table

@@ -1,14 +1,12 @@
 // The loops over the records of a table, each in its place.
-ghost use Rattle.std.specs.Prelude.{◌≡◌, ◌*◌, ◌≤◌, eqb, length, get_or};
-ghost use Rattle.base.specs.Bits.{both};
+ghost use Rattle.std.specs.Prelude.{◌≡◌, ◌*◌, ◌≤◌, length, get_or};
 ghost use Rattle.line.specs.Layout.{lent};
 ghost use Rattle.line.specs.Carrier.{first_spot, bus_over, acts};
 ghost use Rattle.chip.specs.With.{no_chip};
 ghost use Rattle.packed.specs.Packed.{record_size, unpacked_from, unpacked_table};
 ghost use Rattle.packed.specs.Places.{Table16};
-ghost use Rattle.toemsakun.specs.Standing.{stand_as, survey_of};
+ghost use Rattle.toemsakun.specs.Surveys.{survey_in};
 
-use crate::Judged;
 use line::{Plan, Spot, Survey};
 use packed::RECORD_SIZE;
 
@@ -26,17 +24,18 @@ fn kind_named(table: &[u8], n: usize, chip: u32) -> u8
     0
 }
 
-// The first n records: whether each stands, and a survey of them, were it so.
-pub fn judge(table: &[u8], n: usize, chip: u32) -> Judged
-    requires { (n ≤ 16) × (n * record_size ≤ length table.now) }
-    ensures record_size_value { both result.ok (eqb (length table.now) (n * record_size)) ≡ stand_as (unpacked_from n table.now) table.now }
-    ensures survey_value { result.survey ≡ survey_of chip (unpacked_from n table.now) }
+// A survey of the chips of the records, where they are a table of at most 16 chips whose fields lie in their ranges.
+pub fn judge(table: &[u8], chip: u32) -> Option<Survey>
+    ensures { result ≡ survey_in chip table.now }
 {
+    let n = table.len() / RECORD_SIZE;
+    if n > 16 {
+        return None;
+    }
     let mut ok = true;
     let mut image: usize = 0;
     let mut pad: usize = 0;
-    let mut i: usize = 0;
-    while i < n {
+    for i in 0..n {
         let at = i * RECORD_SIZE;
         let end = at + RECORD_SIZE;
         let good = packed::stands(&table[at..end]);
@@ -44,7 +43,10 @@ pub fn judge(table: &[u8], n: usize, chip: u32) -> Judged
         let kind = packed::kind_of(&table[at..end]);
         image += chip::kinds::image_size(kind);
         pad += chip::kinds::pad_size(kind);
-        i += 1;
+    }
+    let whole = base::are_both(ok, table.len() == n * RECORD_SIZE);
+    if !whole {
+        return None;
     }
     let named = kind_named(table, n, chip);
     let spot = Spot {
@@ -52,14 +54,11 @@ pub fn judge(table: &[u8], n: usize, chip: u32) -> Judged
         image: image,
         pad: pad,
     };
-    Judged {
-        ok: ok,
-        survey: Survey {
-            within: true,
-            kind: named,
-            spot: spot,
-        },
-    }
+    Some(Survey {
+        within: true,
+        kind: named,
+        spot: spot,
+    })
 }
 
 // The AND of what the host and every chip of the table put on the bus.

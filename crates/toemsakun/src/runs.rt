@@ -1,7 +1,5 @@
 // A run of slots on a table that is lent as bytes: judged once, then slot by slot in place, eight to a byte.
 ghost use Rattle.std.specs.Prelude.{◌≡◌, ◌≤◌, length};
-ghost use Rattle.base.specs.Pick.{pick};
-ghost use Rattle.line.specs.Carrier.{run_verdict_by};
 ghost use Rattle.line.specs.Slots.{bits_of, host_bits, number_from, bytes_from, run_on, bytes_asked, run_fits, slotted};
 ghost use Rattle.packed.specs.Places.{Table16};
 ghost use Rattle.toemsakun.specs.Answers.{slots_put};
@@ -12,26 +10,6 @@ ghost use Rattle.toemsakun.specs.Verdicts.{refused8, verdict_bytes};
 use crate::slots::Range;
 use crate::{loops, slots};
 use line::{Refusal, Survey};
-use packed::RECORD_SIZE;
-
-// What a run is judged to, where the bytes may be no table.
-fn verdict_if(
-    table: bool,
-    survey: Survey,
-    n: usize,
-    images: usize,
-    pads: usize,
-    slots: usize,
-    bits: usize,
-    answers: usize,
-) -> Result<(), Refusal>
-    ensures { result ≡ pick table (run_verdict_by survey n images pads slots bits answers) refused8 }
-{
-    if table {
-        return line::carrier::run_verdict_by(survey, n, images, pads, slots, bits, answers);
-    }
-    Err(Refusal::OutOfRange)
-}
 
 // What a run is judged to on bytes and their buffers, with bits and answers of two sizes.
 fn verdict_bytes(
@@ -44,15 +22,11 @@ fn verdict_bytes(
 ) -> Result<(), Refusal>
     ensures { result ≡ verdict_bytes table.now ms.now ss.now (run_fits slots bits answers) }
 {
-    let size = table.len();
-    let n = size / RECORD_SIZE;
-    if n <= 16 {
-        let judged = loops::judge(table, n, 0);
-        let survey = judged.survey;
-        let whole = base::are_both(judged.ok, size == n * RECORD_SIZE);
-        return verdict_if(whole, survey, n, ms.len(), ss.len(), slots, bits, answers);
-    }
-    Err(Refusal::OutOfRange)
+    let Some(survey) = loops::judge(table, 0) else {
+        return Err(Refusal::OutOfRange);
+    };
+    let n = survey.spot.place;
+    line::carrier::run_verdict_by(survey, n, ms.len(), ss.len(), slots, bits, answers)
 }
 
 // Up to eight slots, whose host bits are the first of a byte: the bits on the bus as a byte.

@@ -1,10 +1,9 @@
-use mathlib.Core.Path.{refl}
-use Rattle.toemsakun.specs.Judging.{plan_found, plan_long}
-use borrow.Author.Rules.{rules}
+use mathlib.Core.Path.{◌∙◌, sym}
+use Rattle.toemsakun.specs.Surveys.{plan_some, plan_none}
 use Rattle.toemsakun.proofs.event.plan_bytes.Goals as goal
 
-pub returns-then-n-le16 : goal.returns-then-n-le16
-returns-then-n-le16 c = let a = c.args in let j = c.judge-judged in plan_found a.table.now a.e a.ms.now a.ss.now _ j.result.ok c.are_both-whole.result j.result.survey c.plan_if.result refl j.ensures.record_size_value c.are_both-whole.ensures j.ensures.survey_value c.plan_if.ensures
+pub returns-in_default : goal.returns-in_default
+returns-in_default c = plan_none _ _ _ _ (sym c.in_default.is ∙ c.judge.ensures)
 
 pub returns : goal.returns
-returns c = let a = c.args in plan_long a.table.now a.e a.ms.now a.ss.now (search rules)
+returns c = plan_some _ _ _ _ _ _ (sym c.in-Some.is ∙ c.judge.ensures) c.plan_of.ensures

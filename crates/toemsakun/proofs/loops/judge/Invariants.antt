@@ -1,9 +1,5 @@
 use Rattle.toemsakun.specs.Standing.{Judging}
-use Prim.Native.Nat.{◌-◌}
 use Rattle.toemsakun.proofs.loops.judge.Given as goal
 
 abbrev pub invariant-loop-i : goal.invariant-loop-i
 invariant-loop-i l = Judging l.n l.table l.i l.ok l.image l.pad
-
-abbrev pub decreases-loop-i : goal.decreases-loop-i
-decreases-loop-i l = l.n - l.i
