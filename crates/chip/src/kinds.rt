@@ -6,7 +6,7 @@ use memory::Part;
 use rom::Knows;
 
 // The kinds that the model knows.
-#[derive(Clone, Copy, PartialEq, Eq)]
+#[derive(Clone, Copy)]
 enum Kind {
     Ds28ec20,
     Ds2413,
@@ -37,7 +37,7 @@ pub fn is_known(kind: u8) -> bool
 pub fn is_ds28ec20(kind: u8) -> bool
     ensures { result ≡ is_ds28ec20 kind }
 {
-    named(kind) == Some(Kind::Ds28ec20)
+    matches!(named(kind), Some(Kind::Ds28ec20))
 }
 
 // A kind with a memory.
@@ -49,7 +49,7 @@ pub fn has_memory(kind: u8) -> bool
 }
 
 // A kind with a scratchpad.
-#[tactic(auto, unfolding(crate::specs::Kinds::is_ds28ec20, crate::specs::Kinds::has_memory, crate::specs::Kinds::has_scratchpad))]
+#[tactic(auto, unfolding(crate::specs::Kinds::has_memory, crate::specs::Kinds::has_scratchpad))]
 pub fn has_scratchpad(kind: u8) -> bool
     ensures { result ≡ has_scratchpad kind }
 {
@@ -57,7 +57,7 @@ pub fn has_scratchpad(kind: u8) -> bool
 }
 
 // A kind with T and E/S.
-#[tactic(auto, unfolding(crate::specs::Kinds::is_ds28ec20, crate::specs::Kinds::has_memory, crate::specs::Kinds::has_registers))]
+#[tactic(auto, unfolding(crate::specs::Kinds::has_memory, crate::specs::Kinds::has_registers))]
 pub fn has_registers(kind: u8) -> bool
     ensures { result ≡ has_registers kind }
 {
@@ -69,7 +69,7 @@ pub fn has_registers(kind: u8) -> bool
 pub fn has_switch(kind: u8) -> bool
     ensures { result ≡ has_switch kind }
 {
-    named(kind) == Some(Kind::Ds2413)
+    matches!(named(kind), Some(Kind::Ds2413))
 }
 
 // A kind that event 4 takes.
