@@ -98,6 +98,7 @@ fn take_next(over: bool, text: &[u8], more: bool, image: &mut [u8]) -> Result<Tu
 }
 
 // All lines of what is there of a text, put into an image.
+// Stays a loop with a place in the text: each line says how long it is, and the place and the number of lines are part of the answer.
 fn read_all(over: bool, text: &[u8], more: bool, image: &mut [u8]) -> Taken
     ensures { went result.ending result.at result.lines result.over image.new ≡ went_by image.old (lines_of more over text.now) }
 {

@@ -72,6 +72,7 @@ fn is_above(count: u8, address: u16) -> bool
 }
 
 // What a record is.
+// Stays with a number for its type: refusal 18 is of every number but 00 and 01, and no enum names those.
 pub fn judge(bytes: &[u8]) -> Result<Judged, Fault>
     ensures { result ≡ judged bytes.now }
 {

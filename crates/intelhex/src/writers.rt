@@ -39,10 +39,11 @@ fn data_record_of(address: u16, given: &[u8]) -> [u8; RECORD_SIZE]
     requires { length given.now ≡ 16 }
     ensures { result ≡ data_record address given.now }
 {
+    let [high, low] = address.to_be_bytes();
     let mut bytes = [0u8; RECORD_SIZE];
     bytes[0] = DATA_BYTES as u8;
-    bytes[1] = (address / 256) as u8;
-    bytes[2] = (address % 256) as u8;
+    bytes[1] = high;
+    bytes[2] = low;
     bytes[4..].copy_from_slice(given);
     bytes
 }
