@@ -1,5 +1,5 @@
 -- How playing a recording ends is found again from the number of its refusal: two endings with the same are the same.
-use Rattle.std.specs.Prelude.{ℕ, ◌≡◌, refl, eqb}
+use Rattle.std.specs.Prelude.{ℕ, ◌≡◌, refl, eqb, Result, Ok, Err}
 use Rattle.std.proofs.Common.{◌∙◌, ap, sym}
 use Rattle.base.specs.Pick.{pick}
 use Rattle.line.specs.Event.{number_of}
@@ -42,16 +42,16 @@ fault-from UnusedBits = refl
 fault-from (OnLine r) = line_fault r ∙ ap (λ (x : Refusal). OnLine x) (refusal-from r)
 
 -- an ending from it
-ending_from : Ends → Ending
-ending_from ended = ending.End
-ending_from part = ending.Part
-ending_from (refusal r) = ending.Refused (fault_from r)
+ending_from : Ends → Result Ending Fault
+ending_from ended = Ok ending.End
+ending_from part = Ok ending.Part
+ending_from (refusal r) = Err (fault_from r)
 
-ending-from : (e : Ending) → ending_from (ends_of e) ≡ e
+ending-from : (e : Result Ending Fault) → ending_from (ends_of e) ≡ e
 unfolding ending_from
-ending-from ending.End = refl
-ending-from ending.Part = refl
-ending-from (ending.Refused f) = ap (λ (x : Fault). ending.Refused x) (fault-from f)
+ending-from (Ok ending.End) = refl
+ending-from (Ok ending.Part) = refl
+ending-from (Err f) = ap (λ (x : Fault). (Err x)) (fault-from f)
 
-pub ends_once : (a b : Ending) → ends_of a ≡ ends_of b → a ≡ b
+pub ends_once : (a b : Result Ending Fault) → ends_of a ≡ ends_of b → a ≡ b
 ends_once a b e = sym (ending-from a) ∙ ap ending_from e ∙ ending-from b

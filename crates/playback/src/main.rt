@@ -7,7 +7,7 @@ ghost use Rattle.std.specs.Prelude.{◌≤◌, length};
 use console::input::Hand;
 use console::{Outputs, Told, input};
 use line::Table;
-use recording::{CardsEnding, Ending};
+use recording::{CardsEnding, Ending, Fault};
 use std::io::{Stderr, Stdin};
 
 // The most bytes at hand: more than the longest record that can be taken has, which is 8,198.
@@ -53,11 +53,11 @@ impl Source {
 }
 
 // Ends the line of answers, unless more is awaited, and writes the line of a refusal at an offset.
-fn write_end(to: Outputs, ending: Ending, at: u64) -> Result<(), Told> {
+fn write_end(to: Outputs, ending: Result<Ending, Fault>, at: u64) -> Result<(), Told> {
     match ending {
-        Ending::Part => Ok(()),
-        Ending::End => to.write(b"\n"),
-        Ending::Refused(f) => {
+        Ok(Ending::Part) => Ok(()),
+        Ok(Ending::End) => to.write(b"\n"),
+        Err(f) => {
             to.write(b"\n")?;
             terminal::say_refused(to.out, recording::number_of(f), at);
             Ok(())
@@ -74,11 +74,11 @@ fn read_card(source: &mut Source) -> Result<(Table, CardsEnding), Told> {
         table = read.table;
         let ending = read.ending;
         match ending {
-            CardsEnding::Stopped(Ending::Part) => source.fetch()?,
+            CardsEnding::Stopped(Ok(Ending::Part)) => source.fetch()?,
             _ => return Ok((table, ending)),
         }
     }
-    Ok((table, CardsEnding::Stopped(Ending::Part)))
+    Ok((table, CardsEnding::Stopped(Ok(Ending::Part))))
 }
 
 // Plays the events on the line that the card set up: first those that came with the card, then those that come.
@@ -98,7 +98,7 @@ fn play_events(source: &mut Source, to: Outputs, start: Table) -> Result<(), Tol
         to.write(&text[..input::within(played.answers, &text)])?;
         let ending = played.ending;
         match ending {
-            Ending::Part => source.fetch()?,
+            Ok(Ending::Part) => source.fetch()?,
             _ => return write_end(to, ending, source.hand.offset),
         }
     }

@@ -1,5 +1,5 @@
 -- A run of slots cut into two records, wherever it stands in a recording.
-use Rattle.std.specs.Prelude.{ℕ, ◌+◌, ◌-◌, ◌≤◌, Bool, true, false, List, [], ◌++◌, ◌≡◌, refl, ltb, length, take, drop}
+use Rattle.std.specs.Prelude.{ℕ, ◌+◌, ◌-◌, ◌≤◌, Bool, true, false, List, [], ◌++◌, ◌≡◌, refl, ltb, length, take, drop, Result, Ok, Err}
 use Rattle.std.proofs.Common.{add-zero, arith, true≢false, ◌∙◌, ap, sym, subst, take-append-drop, length-take-le, drop-drop, le-ltb}
 use Rattle.base.specs.Pick.{pick_false}
 use Rattle.chip.specs.Chip.{set_up_chip}
@@ -7,6 +7,7 @@ use Rattle.line.specs.Attached.{Attached}
 use Rattle.line.specs.Slots.{host_bits}
 use Rattle.line.specs.Tables.{blank_table, joined}
 use Rattle.line.specs.declared.Table.{Table}
+use Rattle.recording.specs.declared.Fault.{Fault}
 use Rattle.recording.specs.Reading.{number_of_fault, found_at, starts_event}
 use Rattle.recording.specs.There.{next_at, found_whole}
 use Rattle.recording.specs.Ways.{Awaited, of_head, of-event, of-card, found_has}
@@ -36,7 +37,7 @@ pub data RecordStarts (s : List ℕ) : ℕ → Type 0 where
   at_next : {at : ℕ} → RecordStarts s at → at + 4 ≤ next_at s at → next_at s at ≤ length s → RecordStarts s (next_at s at)
 
 -- where a record that was found ends, one starts
-past_record : (s : List ℕ) (at room : ℕ) (event : Bool) (x : Record) (next : ℕ) → RecordStarts s at → found_at s at room event false ≡ found.Record x next → RecordStarts s next
+past_record : (s : List ℕ) (at room : ℕ) (event : Bool) (x : Record) (next : ℕ) → RecordStarts s at → found_at s at room event false ≡ Ok (found.Record x next) → RecordStarts s next
 past_record s at room event x next h e =
     let i = found_lies s at room event false x next e in
     let a = i.further in
@@ -60,11 +61,11 @@ data Comes (s : List ℕ) (p : ℕ) : Type 0 where
   not_there : (r q : ℕ) → Faulty s r q → q + 4 ≤ p → next_at s q ≤ p → Comes s p
 
 -- where a record is all there, one is found or refused
-abbrev Judged : Found → Type 0
-Judged found.End = ⊥
-Judged found.Part = ⊥
-Judged (found.Record x next) = Unit
-Judged (found.Refused f) = Unit
+abbrev Judged : Result Found Fault → Type 0
+Judged (Ok found.End) = ⊥
+Judged (Ok found.Part) = ⊥
+Judged (Ok (found.Record x next)) = Unit
+Judged (Err f) = Unit
 
 module _ (s : List ℕ) (at : ℕ) (a : at + 4 ≤ next_at s at) (w : next_at s at ≤ length s) where
   judged : (room : ℕ) (event : Bool) → Judged (found_at s at room event false)
@@ -81,28 +82,28 @@ module _ (s : List ℕ) (at : ℕ) (a : at + 4 ≤ next_at s at) (w : next_at s 
   events_come : (l : Attached) → Reached s l at → Comes s (next_at s at)
   events_come l r = by_found (found_at s at (room_for l.count) true false) refl
     where
-      by_said : (x : Record) (next : ℕ) → found_at s at (room_for l.count) true false ≡ found.Record x next → (y : Said) → (record_step s x l).said ≡ y → Comes s (next_at s at)
+      by_said : (x : Record) (next : ℕ) → found_at s at (room_for l.count) true false ≡ Ok (found.Record x next) → (y : Said) → (record_step s x l).said ≡ y → Comes s (next_at s at)
       by_said x next e (bits bs) b = subst (Comes s) (sym (ends-by s at (room_for l.count) true false x next e)) (to_events (record_step s x l).line (onto x next bs r e b))
       by_said x next e (none n) b = not_there n at (in_events l x next r e b) a (omega arith)
 
-      by_found : (x : Found) → found_at s at (room_for l.count) true false ≡ x → Comes s (next_at s at)
-      by_found found.End e = absurd (subst Judged e (judged (room_for l.count) true))
-      by_found found.Part e = absurd (subst Judged e (judged (room_for l.count) true))
-      by_found (found.Record x next) e = by_said x next e (record_step s x l).said refl
-      by_found (found.Refused f) e = not_there (number_of_fault f) at (in_record l f r e refl) a (omega arith)
+      by_found : (x : Result Found Fault) → found_at s at (room_for l.count) true false ≡ x → Comes s (next_at s at)
+      by_found (Ok found.End) e = absurd (subst Judged e (judged (room_for l.count) true))
+      by_found (Ok found.Part) e = absurd (subst Judged e (judged (room_for l.count) true))
+      by_found (Ok (found.Record x next)) e = by_said x next e (record_step s x l).said refl
+      by_found (Err f) e = not_there (number_of_fault f) at (in_record l f r e refl) a (omega arith)
 
   -- so does reading the card
   card_comes : (t : Table) → CardReached s t at → Comes s (next_at s at)
   card_comes t r = by_kind (starts_event s at) refl
     where
-      by_found : starts_event s at ≡ false → (x : Found) → found_at s at (room_for t.n) false false ≡ x → Comes s (next_at s at)
-      by_found n found.End e = absurd (subst Judged e (judged (room_for t.n) false))
-      by_found n found.Part e = absurd (subst Judged e (judged (room_for t.n) false))
-      by_found n (found.Record (record_of.Chip code kind) next) e =
+      by_found : starts_event s at ≡ false → (x : Result Found Fault) → found_at s at (room_for t.n) false false ≡ x → Comes s (next_at s at)
+      by_found n (Ok found.End) e = absurd (subst Judged e (judged (room_for t.n) false))
+      by_found n (Ok found.Part) e = absurd (subst Judged e (judged (room_for t.n) false))
+      by_found n (Ok (found.Record (record_of.Chip code kind) next)) e =
           subst (Comes s) (sym (ends-by s at (room_for t.n) false false _ next e)) (to_card (joined (set_up_chip code kind) t) (chip code kind next r e))
-      by_found n (found.Record (record_of.Slots count from to) next) e = absurd (true≢false (sym (found_starts s at (room_for t.n) false false _ next e) ∙ n))
-      by_found n (found.Record (record_of.Event x) next) e = absurd (true≢false (sym (found_starts s at (room_for t.n) false false _ next e) ∙ n))
-      by_found n (found.Refused f) e = not_there (number_of_fault f) at (in_card t f r n e refl) a (omega arith)
+      by_found n (Ok (found.Record (record_of.Slots count from to) next)) e = absurd (true≢false (sym (found_starts s at (room_for t.n) false false _ next e) ∙ n))
+      by_found n (Ok (found.Record (record_of.Event x) next)) e = absurd (true≢false (sym (found_starts s at (room_for t.n) false false _ next e) ∙ n))
+      by_found n (Err f) e = not_there (number_of_fault f) at (in_card t f r n e refl) a (omega arith)
 
       by_kind : (b : Bool) → starts_event s at ≡ b → Comes s (next_at s at)
       by_kind true e = events_come (set_up_line t) (card r e)
@@ -122,15 +123,15 @@ comes s p (at_next {at = at} h a w) = next_comes s at a w (comes s at h)
 -- the cut ----------------------------------------------------------------------------------------------------
 
 -- a run of slots that is found at an offset can be cut there after k bits
-abbrev Cuts : List ℕ → ℕ → Found → Type 0
-Cuts s p found.End = Unit
-Cuts s p found.Part = Unit
-Cuts s p (found.Record (record_of.Chip code kind) next) = Unit
-Cuts s p (found.Record (record_of.Slots count from to) next) =
+abbrev Cuts : List ℕ → ℕ → Result Found Fault → Type 0
+Cuts s p (Ok found.End) = Unit
+Cuts s p (Ok found.Part) = Unit
+Cuts s p (Ok (found.Record (record_of.Chip code kind) next)) = Unit
+Cuts s p (Ok (found.Record (record_of.Slots count from to) next)) =
     let hs = host_bits count (take (to - from) (drop from s)) in
     (k : ℕ) → k ≤ count → playback (take p s ++ (slots_bytes (take k hs) ++ (slots_bytes (drop k hs) ++ drop next s))) ≡ place_moved p (bytes_added k hs) (playback s)
-Cuts s p (found.Record (record_of.Event e) next) = Unit
-Cuts s p (found.Refused f) = Unit
+Cuts s p (Ok (found.Record (record_of.Event e) next)) = Unit
+Cuts s p (Err f) = Unit
 
 module _ (s : List ℕ) (p : ℕ) (w : p ≤ length s) (room : ℕ) (event more : Bool) where
   -- where nothing of what comes before is held back
@@ -139,19 +140,19 @@ module _ (s : List ℕ) (p : ℕ) (w : p ≤ length s) (room : ℕ) (event more 
       subst (Cuts s p) (sym (found_moved s p w 0 room event more) ∙ ap (λ (x : ℕ). found_at s x room event more) (add-zero p))
       (by_found (found_at (drop p s) 0 room event more) refl)
     where
-      by_found : (x : Found) → found_at (drop p s) 0 room event more ≡ x → Cuts s p (moved p x)
-      by_found found.End f = tt
-      by_found found.Part f = tt
-      by_found (found.Record (record_of.Chip code kind) next) f = tt
-      by_found (found.Record (record_of.Slots count from to) next) f = λ k h.
+      by_found : (x : Result Found Fault) → found_at (drop p s) 0 room event more ≡ x → Cuts s p (moved p x)
+      by_found (Ok found.End) f = tt
+      by_found (Ok found.Part) f = tt
+      by_found (Ok (found.Record (record_of.Chip code kind) next)) f = tt
+      by_found (Ok (found.Record (record_of.Slots count from to) next)) f = λ k h.
           let m : to - from ≡ p + to - (p + from) = omega arith in
           let d : take (to - from) (drop from (drop p s)) ≡ take (p + to - (p + from)) (drop (p + from) s) = λ j. take (m j) (drop-drop from p s j) in
           let two : List Bool → List ℕ → List ℕ = λ hs later. take p s ++ (slots_bytes (take k hs) ++ (slots_bytes (drop k hs) ++ later)) in
           (λ j. playback (two (host_bits count (sym d j)) (sym (drop-drop next p s) j)))
           ∙ taken_cut (take p s) (drop p s) count from to next room event more (drop_bytes p s b) e f k h
           ∙ (λ j. place_moved (length-take-le p s w j) (bytes_added k (host_bits count (d j))) (playback (take-append-drop p s j)))
-      by_found (found.Record (record_of.Event v) next) f = tt
-      by_found (found.Refused g) f = tt
+      by_found (Ok (found.Record (record_of.Event v) next)) f = tt
+      by_found (Err g) f = tt
 
 -- the place of a refusal before the run is not moved
 not_moved : (s : List ℕ) (p r q n : ℕ) → Faulty s r q → q ≤ p → playback s ≡ place_moved p n (playback s)
@@ -164,7 +165,7 @@ not_moved s p r q n f a =
 -- the first and after the last counted in: the answers, the end or refusal and the line left are the same, and a place after the run's first byte
 -- comes as many bytes later as were added
 pub run_cut : (s : List ℕ) (p count from to next room : ℕ) (event more : Bool) → Bytes s → RecordStarts s p
-    → found_at s p room event more ≡ found.Record (record_of.Slots count from to) next → let hs = host_bits count (take (to - from) (drop from s)) in (k : ℕ) → k ≤ count
+    → found_at s p room event more ≡ Ok (found.Record (record_of.Slots count from to) next) → let hs = host_bits count (take (to - from) (drop from s)) in (k : ℕ) → k ≤ count
     → playback (take p s ++ (slots_bytes (take k hs) ++ (slots_bytes (drop k hs) ++ drop next s))) ≡ place_moved p (bytes_added k hs) (playback s)
 run_cut s p count from to next room event more b r e k h = by_way (comes s p r)
   where

@@ -15,6 +15,7 @@ use Rattle.card.specs.declared.Fault.{Fault as CardFault}
 use Rattle.line.specs.Events.{outside_event}
 use Rattle.line.specs.Slots.{bytes_asked}
 use Rattle.records.specs.Numbers.{number_at}
+use Rattle.recording.specs.declared.Fault.{Fault}
 use Rattle.recording.specs.Reading.{is_event, length_asked, chip_record, card_record, unused_clear, slots_record, event_in, event_record, found_at, starts_event}
 use Rattle.recording.specs.There.{size_at, kind_at, next_at, found_whole, starts_by_kind}
 use Rattle.recording.specs.declared.Record.{Record}
@@ -29,11 +30,11 @@ moved_record k (record_of.Chip code kind) = record_of.Chip code kind
 moved_record k (record_of.Slots count from to) = record_of.Slots count (k + from) (k + to)
 moved_record k (record_of.Event e) = record_of.Event e
 
-abbrev pub moved : ℕ → Found → Found
-moved k found.End = found.End
-moved k found.Part = found.Part
-moved k (found.Record r next) = found.Record (moved_record k r) (k + next)
-moved k (found.Refused f) = found.Refused f
+abbrev pub moved : ℕ → Result Found Fault → Result Found Fault
+moved k (Ok found.End) = Ok found.End
+moved k (Ok found.Part) = Ok found.Part
+moved k (Ok (found.Record r next)) = Ok (found.Record (moved_record k r) (k + next))
+moved k (Err f) = Err f
 
 -- and a record of a card
 abbrev moved_entry : ℕ → Result (Option Entry) CardFault → Result (Option Entry) CardFault
@@ -93,7 +94,7 @@ module _ (s z : List ℕ) (k at size : ℕ) (f : Alike s at z (k + at) (size + 2
       = (λ j. take (m j) (drop (k + at + 4 + 2) z)) ∙ bytes_alike s (at + 4 + 2) z (k + at + 4 + 2) (size - 4) a (omega arith) (omega arith) ∙ (λ j. take (sym n j) (drop (at + 4 + 2) s)) in
       let from : k + at + 4 + 2 ≡ k + (at + 4 + 2) = omega arith in
       let to : k + at + (size + 2) ≡ k + (at + (size + 2)) = omega arith in
-      pick_like (moved k) _ _ _ _ _ _ (λ j. unused_clear (c j) (bs j)) (λ e. λ j. found.Record (record_of.Slots (c j) (from j) (to j)) (to j)) (λ e. refl)
+      pick_like (moved k) _ _ _ _ _ _ (λ j. unused_clear (c j) (bs j)) (λ e. λ j. (Ok (found.Record (record_of.Slots (c j) (from j) (to j)) (to j)))) (λ e. refl)
 
   module _ (kind : ℕ) where
     -- the length asked is the size in both, or in neither
@@ -145,7 +146,7 @@ module _ (s z : List ℕ) (k at size : ℕ) (f : Alike s at z (k + at) (size + 2
         let g = eqb-true _ _ e in
         pick_like (moved k) _ _ _ _ _ _ refl
         (λ p. let b : size ≡ 4 + bytes_asked (number_at s (at + 4) 2) = g ∙ pick_true _ _ _ p in slots_alike (omega arith))
-        (λ p. λ j. found.Record (record_of.Event (event_in_alike v p g j)) (to j)))
+        (λ p. λ j. (Ok (found.Record (record_of.Event (event_in_alike v p g j)) (to j)))))
         (λ e. refl)
 
     -- a record of a card

@@ -2,7 +2,7 @@
 use Prim.Native.Nat.{ℕ, suc, ◌+◌, ◌<◌, ◌≤◌}
 use Rattle.std.proofs.Math.Nat.{zero-add}
 use Rattle.std.proofs.Common.{arith, ◌∙◌, subst, take-append-drop, length-take-le}
-use Rattle.std.specs.Prelude.{Bool, ◌≡◌, length, take, drop}
+use Rattle.std.specs.Prelude.{Bool, ◌≡◌, length, take, drop, Result, Ok, Err}
 use Rattle.std.proofs.Math.Bool.{true, false}
 use mathlib.Core.List.{List, [], ◌++◌}
 use Rattle.std.proofs.Math.Path.{refl, ap, sym}
@@ -13,6 +13,7 @@ use Rattle.chip.specs.Chip.{set_up_chip}
 use Rattle.line.specs.Attached.{Attached}
 use Rattle.line.specs.Tables.{blank_table, joined}
 use Rattle.line.specs.declared.Table.{Table}
+use Rattle.recording.specs.declared.Fault.{Fault}
 use Rattle.recording.specs.Reading.{found_at, starts_event}
 use Rattle.recording.specs.Unused.{no_bytes}
 use Rattle.recording.specs.There.{size_at, next_at, found_awaited, starts_not}
@@ -36,13 +37,13 @@ use Rattle.played.specs.Reached.{CardReached, first, chip, Reached, card, onto, 
 use Rattle.played.specs.Cut.{after_refusal}
 
 -- a record that is found ends where its length says
-abbrev EndsBy : List ℕ → ℕ → Found → Type 0
-EndsBy s at found.End = Unit
-EndsBy s at found.Part = Unit
-EndsBy s at (found.Record x next) = next_at s at ≡ next
-EndsBy s at (found.Refused f) = Unit
+abbrev EndsBy : List ℕ → ℕ → Result Found Fault → Type 0
+EndsBy s at (Ok found.End) = Unit
+EndsBy s at (Ok found.Part) = Unit
+EndsBy s at (Ok (found.Record x next)) = next_at s at ≡ next
+EndsBy s at (Err f) = Unit
 
-pub ends-by : (s : List ℕ) (at room : ℕ) (event more : Bool) (x : Record) (next : ℕ) → found_at s at room event more ≡ found.Record x next → next_at s at ≡ next
+pub ends-by : (s : List ℕ) (at room : ℕ) (event more : Bool) (x : Record) (next : ℕ) → found_at s at room event more ≡ Ok (found.Record x next) → next_at s at ≡ next
 ends-by s at room event more x next e =
     subst (EndsBy s at) e (found_has (EndsBy s at) s at room event more (λ e. tt) (λ a. tt) (λ f. tt) (λ w k t r. refl) (λ w k t u. refl) (λ w t. refl))
 
@@ -85,7 +86,7 @@ module _ (s : List ℕ) (p : ℕ) (w : p ≤ length s) where
       let n : size_at s at ≡ size_at before at = ap (λ (z : List ℕ). size_at z at) (sym (take-append-drop p s)) ∙ size_stays before (drop p s) at (omega arith) in
       sym (whole_stays before (drop p s) at (omega arith) room event false (omega arith)) ∙ ap (λ (z : List ℕ). found_at z at room event false) (take-append-drop p s)
 
-  record_before : (at room : ℕ) (event : Bool) (x : Record) (next : ℕ) → found_at s at room event false ≡ found.Record x next → next ≤ p → found_at before at room event true ≡ found.Record x next
+  record_before : (at room : ℕ) (event : Bool) (x : Record) (next : ℕ) → found_at s at room event false ≡ Ok (found.Record x next) → next ≤ p → found_at before at room event true ≡ Ok (found.Record x next)
   record_before at room event x next e h =
       let a = (found_lies s at room event false x next e).further in
       let n = ends-by s at room event false x next e in
@@ -117,10 +118,10 @@ module _ (s : List ℕ) (p : ℕ) (w : p ≤ length s) where
   unfolding play_from
   awaited l at h =
       let m = many in
-      ap (λ (x : Found). view (play_on (λ next k. play_from (length before) true before next k) before at l x)) (found_awaited before at (room_for l.count) true (omega arith))
+      ap (λ (x : Result Found Fault). view (play_on (λ next k. play_from (length before) true before next k) before at l x)) (found_awaited before at (room_for l.count) true (omega arith))
 
   -- the events of a record that ends in them
-  step_before : (at room : ℕ) (event : Bool) (x : Record) (next : ℕ) (l : Attached) → found_at before at room event true ≡ found.Record x next → record_step before x l ≡ record_step s x l
+  step_before : (at room : ℕ) (event : Bool) (x : Record) (next : ℕ) (l : Attached) → found_at before at room event true ≡ Ok (found.Record x next) → record_step before x l ≡ record_step s x l
   step_before at room event x next l f =
       sym (step_stays false before (drop p s) x l (found_lies before at room event true x next f).fits) ∙ ap (λ (z : List ℕ). record_step z x l) (take-append-drop p s)
 
@@ -149,7 +150,7 @@ module _ (s : List ℕ) (p : ℕ) (w : p ≤ length s) where
       let f = record_before o (room_for k.count) true x next e h in
       let go : ℕ → Attached → Played = λ next m. play_from (length before) true before next m in
       play_before k o r (omega arith)
-      ∙ ap (λ (y : Found). view (play_on go before o k y)) f
+      ∙ ap (λ (y : Result Found Fault). view (play_on go before o k y)) f
       ∙ ap (λ (y : Step). view (on_step go o next y.said y.line)) (step_before o (room_for k.count) true x next k f)
       ∙ ap (λ (y : Said). view (on_step go o next y (record_step s x k).line)) b
       ∙ ap view (play_fuel true before (length before) (suc (length before)) next (record_step s x k).line (omega arith) (omega arith) (omega arith))
@@ -172,14 +173,14 @@ module _ (s : List ℕ) (p : ℕ) (w : p ≤ length s) where
       ∙ ap refusal k
   refused_before r q (in_record l f h e k) a b =
       ap (λ (x : Ends × ℕ). x.0) (play_before l q h (omega arith))
-      ∙ ap (λ (y : Found). (play_on (λ next m. play_from (length before) true before next m) before q l y).ends) (found_before q (room_for l.count) true a b ∙ e)
+      ∙ ap (λ (y : Result Found Fault). (play_on (λ next m. play_from (length before) true before next m) before q l y).ends) (found_before q (room_for l.count) true a b ∙ e)
       ∙ ap refusal k
   refused_before r q (in_events l x next h e k) a b =
       let n = ends-by s q (room_for l.count) true false x next e in
       let f = record_before q (room_for l.count) true x next e (omega arith) in
       let go : ℕ → Attached → Played = λ next m. play_from (length before) true before next m in
       ap (λ (x : Ends × ℕ). x.0) (play_before l q h (omega arith))
-      ∙ ap (λ (y : Found). (play_on go before q l y).ends) f
+      ∙ ap (λ (y : Result Found Fault). (play_on go before q l y).ends) f
       ∙ ap (λ (y : Step). (on_step go q next y.said y.line).ends) (step_before q (room_for l.count) true x next l f)
       ∙ ap (λ (y : Said). (on_step go q next y (record_step s x l).line).ends) k
 

@@ -1,6 +1,6 @@
 -- The recordings of document 02, M-103, by calls: whoever calls `recording::read_cards` and `recording::play`, each with an outcome that its own
 -- contract permits, is told what is played back, of a recording in one piece and in pieces.
-use Rattle.std.specs.Prelude.{ℕ, ◌+◌, ◌*◌, ◌≤◌, Bool, true, false, ◌≡◌, refl, length, take, drop}
+use Rattle.std.specs.Prelude.{ℕ, ◌+◌, ◌*◌, ◌≤◌, Bool, true, false, ◌≡◌, refl, length, take, drop, Result, Ok, Err}
 use Rattle.std.proofs.Common.{arith, ◌∙◌, ap, sym, eq-eqb}
 use mathlib.Core.List.{List, [], ◌∷◌, ◌++◌, map, flatten, append-nil}
 use contract.Lifetimes.{Lfts}
@@ -10,6 +10,7 @@ use Rattle.base.specs.Pick.{pick_true}
 use Rattle.line.specs.Attached.{Attached, attached}
 use Rattle.line.specs.Tables.{blank_table}
 use Rattle.line.specs.declared.Table.{Table}
+use Rattle.recording.specs.declared.Fault.{Fault}
 use Rattle.recording.specs.Cards.{cards_read, cards_of}
 use Rattle.recording.specs.Playing.{Ends, ends_of, Played, played, play_all, digit, Handed, handed, handed_from, play_of, set_up_line, further, after_cards, playback}
 use Rattle.recording.specs.declared.Ending.{Ending}
@@ -39,13 +40,13 @@ cards_is more s t back c = c.permits ∙ λ j. cards_of more (c.from_bytes j) t
 
 -- what the caller of `recording::play` is left with: how it ended and where, the number of answers, the text, and the table with its buffers
 pub record Back : Type 0 where
-  pub ending : Ending
+  pub ending : Result Ending Fault
   pub at : ℕ
   pub number : ℕ
   pub text : List ℕ
   pub line : Attached
 
-abbrev pub back : Ending → ℕ → ℕ → List ℕ → Attached → Back
+abbrev pub back : Result Ending Fault → ℕ → ℕ → List ℕ → Attached → Back
 back e at n text l = record { ending = e; at = at; number = n; text = text; line = l }
 
 -- a caller's table, by value
@@ -109,7 +110,7 @@ play_tells more s out l b r c =
 -- the calls of a whole recording, with a text to write in: its card from the empty table, and, where events begin, those of the rest on a text
 -- of eight places for each byte and on the table that came back, with images and scratchpads of FFh
 pub data PlayedBack (s out : List ℕ) : Back → Type 2 where
-  card_alone : {e : Ending} {at : ℕ} {t : Table} → CardsCall false s (blank_table 0) (cards_read (cards.Stopped e) at t) → PlayedBack s out (back e at 0 out (set_up_line t))
+  card_alone : {e : Result Ending Fault} {at : ℕ} {t : Table} → CardsCall false s (blank_table 0) (cards_read (cards.Stopped e) at t) → PlayedBack s out (back e at 0 out (set_up_line t))
   with_events : {at : ℕ} {t : Table} {b : Back} → CardsCall false s (blank_table 0) (cards_read cards.Events at t) → length out ≡ 8 * length (drop at s)
       → PlayCall false (drop at s) out (set_up_line t) b → PlayedBack s out (back b.ending (at + b.at) b.number b.text b.line)
 
@@ -153,15 +154,15 @@ heard_is more s l bs b c =
     λ j. played (digits_once bs (play_all more s l).answers (sym c.heard ∙ x.answers) j) (x.ends j) (x.at j) (x.line j)
 
 -- where it goes on after a card with no events yet
-abbrev pub stage_carded : Ending → Table → Stage
-stage_carded ending.End t = over (ends_of ending.End) (set_up_line t)
-stage_carded ending.Part t = carding t
-stage_carded (ending.Refused f) t = over (ends_of (ending.Refused f)) (set_up_line t)
+abbrev pub stage_carded : Result Ending Fault → Table → Stage
+stage_carded (Ok ending.End) t = over (ends_of (Ok ending.End)) (set_up_line t)
+stage_carded (Ok ending.Part) t = carding t
+stage_carded (Err f) t = over (ends_of (Err f)) (set_up_line t)
 
 -- a piece more by calls, on it and the bytes that are not taken yet, after which more may come or not: `read_cards` in the card, and `play` on the
 -- rest where events begin; `play` in the events; and none where it is over
 pub data HandCalled (more : Bool) (p : List ℕ) : Hand → Hand → Type 2 where
-  in_card : {s : List ℕ} {n : ℕ} {bs : List Bool} {t u : Table} {e : Ending} {at : ℕ} → CardsCall more (s ++ p) t (cards_read (cards.Stopped e) at u)
+  in_card : {s : List ℕ} {n : ℕ} {bs : List Bool} {t u : Table} {e : Result Ending Fault} {at : ℕ} → CardsCall more (s ++ p) t (cards_read (cards.Stopped e) at u)
       → HandCalled more p (hand (carding t) s n bs) (hand (stage_carded e u) (drop at (s ++ p)) (n + at) bs)
   past_card : {s : List ℕ} {n : ℕ} {bs cs : List Bool} {t u : Table} {at : ℕ} {b : Back} → CardsCall more (s ++ p) t (cards_read cards.Events at u)
       → Heard more (drop at (s ++ p)) (set_up_line u) cs b → HandCalled more p (hand (carding t) s n bs) (hand_after (drop at (s ++ p)) (n + at) bs (heard_as cs b))
@@ -170,11 +171,11 @@ pub data HandCalled (more : Bool) (p : List ℕ) : Hand → Hand → Type 2 wher
   when_over : {s : List ℕ} {n : ℕ} {bs : List Bool} {e : Ends} {l : Attached} → HandCalled more p (hand (over e l) s n bs) (hand (over e l) (s ++ p) n bs)
 
 -- a card with no events yet, by how it ended
-carded : (more : Bool) (s : List ℕ) (n : ℕ) (bs : List Bool) (at : ℕ) (u : Table) (e : Ending)
+carded : (more : Bool) (s : List ℕ) (n : ℕ) (bs : List Bool) (at : ℕ) (u : Table) (e : Result Ending Fault)
     → hand (stage_carded e u) (drop at s) (n + at) bs ≡ card_after more s n bs at u (cards.Stopped e)
-carded more s n bs at u ending.End = refl
-carded more s n bs at u ending.Part = refl
-carded more s n bs at u (ending.Refused f) = refl
+carded more s n bs at u (Ok ending.End) = refl
+carded more s n bs at u (Ok ending.Part) = refl
+carded more s n bs at u (Err f) = refl
 
 -- what a card comes to is what was read of it
 by_read : (more : Bool) (s : List ℕ) (n : ℕ) (bs : List Bool) (t : Table) (c : CardsRead) → CardsCall more s t c

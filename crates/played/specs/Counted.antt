@@ -1,8 +1,9 @@
 -- A recording handed over in pieces: at every stage each byte was taken or is held.
-use Rattle.std.specs.Prelude.{ℕ, ◌+◌, ◌≤◌, Bool, List, ◌++◌, ◌≡◌, refl, length, drop}
+use Rattle.std.specs.Prelude.{ℕ, ◌+◌, ◌≤◌, Bool, List, ◌++◌, ◌≡◌, refl, length, drop, Result, Ok, Err}
 use Rattle.std.proofs.Common.{arith, ◌∙◌, length-append, length-drop}
 use Rattle.line.specs.Attached.{Attached}
 use Rattle.line.specs.declared.Table.{Table}
+use Rattle.recording.specs.declared.Fault.{Fault}
 use Rattle.recording.specs.Reading.{found_at}
 use Rattle.recording.specs.Cards.{cards_of}
 use Rattle.recording.specs.Playing.{Ends, record_step, play_all, set_up_line}
@@ -22,11 +23,11 @@ module _ (more : Bool) (s : List ℕ) where
   within_stops : (at room : ℕ) (event : Bool) → at ≤ length s → Stops Within s at (found_at s at room event more)
   within_stops at room event h = by_found (found_at s at room event more)
     where
-      by_found : (x : Found) → Stops Within s at x
-      by_found found.End = h
-      by_found found.Part = h
-      by_found (found.Record r next) = λ l. by_any Within at (λ n. h) (record_step s r l).said
-      by_found (found.Refused f) = h
+      by_found : (x : Result Found Fault) → Stops Within s at x
+      by_found (Ok found.End) = h
+      by_found (Ok found.Part) = h
+      by_found (Ok (found.Record r next)) = λ l. by_any Within at (λ n. h) (record_step s r l).said
+      by_found (Err f) = h
 
   all_played : (l : Attached) → (play_all more s l).at ≤ length s
   all_played l = play_stops more s Within within_stops l
@@ -45,9 +46,9 @@ dropped n at s h = let e = length-drop at s in omega arith
 -- none is lost by reading a card, nor by playing
 card_counted : (more : Bool) (s : List ℕ) (n : ℕ) (bs : List Bool) (at : ℕ) (t : Table) (x : CardsEnding) → at ≤ length s → bytes_in (card_after more s n bs at t x) ≡ n + length s
 card_counted more s n bs at t cards.Events h = dropped (n + at) (play_all more (drop at s) (set_up_line t)).at (drop at s) (all_played more (drop at s) (set_up_line t)) ∙ dropped n at s h
-card_counted more s n bs at t (cards.Stopped ending.End) h = dropped n at s h
-card_counted more s n bs at t (cards.Stopped ending.Part) h = dropped n at s h
-card_counted more s n bs at t (cards.Stopped (ending.Refused f)) h = dropped n at s h
+card_counted more s n bs at t (cards.Stopped (Ok ending.End)) h = dropped n at s h
+card_counted more s n bs at t (cards.Stopped (Ok ending.Part)) h = dropped n at s h
+card_counted more s n bs at t (cards.Stopped (Err f)) h = dropped n at s h
 
 bytes_counted : (more : Bool) (s : List ℕ) (n : ℕ) (bs : List Bool) (g : Stage) → bytes_in (hand_bytes more s n bs g) ≡ n + length s
 bytes_counted more s n bs (carding t) = let c = cards_of more s t in card_counted more s n bs c.at c.table c.ending (all_read more s t)

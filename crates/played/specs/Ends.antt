@@ -20,6 +20,7 @@ use Rattle.card.specs.Card.{entry_at}
 use Rattle.card.specs.declared.Entry.{Entry}
 use Rattle.card.specs.declared.Fault.{Fault as CardFault}
 use Rattle.card.specs.declared.Fault.TheVariants as on_card
+use Rattle.recording.specs.declared.Fault.{Fault}
 use Rattle.recording.specs.Reading.{number_of_fault, cut_off, cut_record, chip_record, card_record, slots_record, event_in, event_record, whole_record, at_end, found_by, found_at}
 use Rattle.recording.specs.Cards.{room_for, cards_of}
 use Rattle.recording.specs.Playing.{Ends, ended, part, refusal, Said, bits, none, Step, said_by, slots_step, record_step, play_all, after_cards, playback}
@@ -51,13 +52,13 @@ abbrev pub refusals : List ℕ
 refusals = 1 ∷ 2 ∷ 3 ∷ 7 ∷ 9 ∷ 10 ∷ []
 
 -- no part of a record, no event over 4, and no refusal but these
-abbrev Settled : Found → Type 0
-Settled found.End = Unit
-Settled found.Part = ⊥
-Settled (found.Record (record_of.Chip code kind) next) = Unit
-Settled (found.Record (record_of.Slots count from to) next) = Unit
-Settled (found.Record (record_of.Event e) next) = e.number ≤ 4
-Settled (found.Refused f) = one_of (number_of_fault f) refusals ≡ true
+abbrev Settled : Result Found Fault → Type 0
+Settled (Ok found.End) = Unit
+Settled (Ok found.Part) = ⊥
+Settled (Ok (found.Record (record_of.Chip code kind) next)) = Unit
+Settled (Ok (found.Record (record_of.Slots count from to) next)) = Unit
+Settled (Ok (found.Record (record_of.Event e) next)) = e.number ≤ 4
+Settled (Err f) = one_of (number_of_fault f) refusals ≡ true
 
 -- where nothing is left, and where a record is cut
 end_settled : Settled (at_end false)
@@ -111,11 +112,11 @@ module _ (s : List ℕ) where
   over_stops : (at room : ℕ) (over : Bool) → Stops (λ e p. Over e) s at (found_at s at room over false)
   over_stops at room over = by_found (found_at s at room over false) (found_settled s at room over)
     where
-      by_found : (x : Found) → Settled x → Stops (λ e p. Over e) s at x
-      by_found found.End h = tt
-      by_found found.Part h = h
-      by_found (found.Record r next) h = λ l. by_any (λ e p. Over e) at (λ n. tt) (record_step s r l).said
-      by_found (found.Refused f) h = tt
+      by_found : (x : Result Found Fault) → Settled x → Stops (λ e p. Over e) s at x
+      by_found (Ok found.End) h = tt
+      by_found (Ok found.Part) h = h
+      by_found (Ok (found.Record r next)) h = λ l. by_any (λ e p. Over e) at (λ n. tt) (record_step s r l).said
+      by_found (Err f) h = tt
 
   play_over : (l : Attached) → Over (play_all false s l).ends
   play_over l = play_stops false s (λ e p. Over e) (λ at room over h. over_stops at room over) l
@@ -133,7 +134,7 @@ unfolding playback
 playback_over s = let c = cards_of false s (blank_table 0) in after_over s c.at c.table c.ending (cards_over s (blank_table 0))
 
 -- THEOREM: where no more may come, neither the card nor what is played, on any line, nor a whole recording ends in the middle of a record
-pub cards_never_part : (s : List ℕ) (t : Table) → (cards_of false s t).ending ≡ cards.Stopped ending.Part → ⊥
+pub cards_never_part : (s : List ℕ) (t : Table) → (cards_of false s t).ending ≡ cards.Stopped (Ok ending.Part) → ⊥
 cards_never_part s t e = subst (λ (x : CardsEnding). Over (card_ends x)) e (cards_over s t)
 
 pub play_never_part : (s : List ℕ) (l : Attached) → (play_all false s l).ends ≡ part → ⊥
@@ -178,7 +179,7 @@ module _ (l : Attached) (w : Stands l) where
   answer_refused e k (refused n) h f = subst (λ (m : ℕ). one_of m refusals ≡ true) f.1 (event_refused e k f.0 (h ∙ ap refused (sym f.1)))
 
   -- any record; a run is not refused there
-  record_refused : (s : List ℕ) (x : Record) (next : ℕ) → Settled (found.Record x next) → RefusedSo (record_step s x l).said
+  record_refused : (s : List ℕ) (x : Record) (next : ℕ) → Settled (Ok (found.Record x next)) → RefusedSo (record_step s x l).said
   unfolding slots_step
   record_refused s (record_of.Chip code kind) next h = tt
   record_refused s (record_of.Slots count from to) next h =

@@ -1,9 +1,10 @@
 -- Every run of slots that is taken from a recording has the one form that such records are written in.
-use Rattle.std.specs.Prelude.{ℕ, suc, ◌+◌, ◌-◌, ◌*◌, ◌/◌, ◌%◌, ◌≤◌, Bool, true, List, [], ◌∷◌, ◌++◌, ◌≡◌, length, take, drop}
+use Rattle.std.specs.Prelude.{ℕ, suc, ◌+◌, ◌-◌, ◌*◌, ◌/◌, ◌%◌, ◌≤◌, Bool, true, List, [], ◌∷◌, ◌++◌, ◌≡◌, length, take, drop, Result, Ok, Err}
 use Rattle.std.proofs.Common.{arith, ◌∙◌, ap, sym, take-append-drop, length-take-le}
 use Rattle.line.specs.Runs.{host_many}
 use Rattle.line.specs.Slots.{bytes_asked, host_bits}
 use Rattle.records.specs.Numbers.{number_at}
+use Rattle.recording.specs.declared.Fault.{Fault}
 use Rattle.recording.specs.Reading.{unused_clear, found_at}
 use Rattle.recording.specs.There.{size_at, kind_at, next_at}
 use Rattle.recording.specs.Ways.{found_has}
@@ -15,17 +16,17 @@ use Rattle.played.specs.Packing.{packed, packed_back}
 use Rattle.played.specs.Written.{slots_bytes}
 
 -- a run that is found is one of as many bits as its count, at most 65535, written at the beginning of the bytes
-abbrev pub Formed : List ℕ → Found → Type 0
-Formed s found.End = Unit
-Formed s found.Part = Unit
-Formed s (found.Record (record_of.Chip code kind) next) = Unit
-Formed s (found.Record (record_of.Slots count from to) next) = let hs = host_bits count (take (to - from) (drop from s)) in (length hs ≡ count) × (count ≤ 65535) × (s ≡ slots_bytes hs ++ drop next s)
-Formed s (found.Record (record_of.Event e) next) = Unit
-Formed s (found.Refused f) = Unit
+abbrev pub Formed : List ℕ → Result Found Fault → Type 0
+Formed s (Ok found.End) = Unit
+Formed s (Ok found.Part) = Unit
+Formed s (Ok (found.Record (record_of.Chip code kind) next)) = Unit
+Formed s (Ok (found.Record (record_of.Slots count from to) next)) = let hs = host_bits count (take (to - from) (drop from s)) in (length hs ≡ count) × (count ≤ 65535) × (s ≡ slots_bytes hs ++ drop next s)
+Formed s (Ok (found.Record (record_of.Event e) next)) = Unit
+Formed s (Err f) = Unit
 
 -- by the bytes of its length, its kind and its count
 run_formed : (s : List ℕ) → Bytes s → size_at s 0 ≡ 4 + bytes_asked (number_at s 4 2) → kind_at s 0 ≡ 16 → next_at s 0 ≤ length s
-    → unused_clear (number_at s 4 2) (take (next_at s 0 - 6) (drop 6 s)) ≡ true → Formed s (found.Record (record_of.Slots (number_at s 4 2) 6 (next_at s 0)) (next_at s 0))
+    → unused_clear (number_at s 4 2) (take (next_at s 0 - 6) (drop 6 s)) ≡ true → Formed s (Ok (found.Record (record_of.Slots (number_at s 4 2) 6 (next_at s 0)) (next_at s 0)))
 run_formed (a ∷ b ∷ c ∷ d ∷ x ∷ y ∷ rest) h e k l u =
     let h1 = others_below 256 a _ h in
     let h2 = others_below 256 b _ h1 in

@@ -1,5 +1,5 @@
 -- A recording handed over in pieces: what the caller of `read_cards` and `play` keeps between two pieces, and what it comes to.
-use Rattle.std.specs.Prelude.{ℕ, ◌+◌, Bool, true, false, List, [], ◌∷◌, ◌++◌, drop}
+use Rattle.std.specs.Prelude.{ℕ, ◌+◌, Bool, true, false, List, [], ◌∷◌, ◌++◌, drop, Ok, Err}
 use Rattle.line.specs.Attached.{Attached}
 use Rattle.line.specs.Tables.{blank_table}
 use Rattle.line.specs.declared.Table.{Table}
@@ -42,9 +42,9 @@ hand_after s n bs p = hand (stage_after p.ends p.line) (drop p.at s) (n + p.at) 
 -- what was read of a card
 abbrev pub card_after : Bool → List ℕ → ℕ → List Bool → ℕ → Table → CardsEnding → Hand
 card_after more s n bs at t cards.Events = hand_after (drop at s) (n + at) bs (play_all more (drop at s) (set_up_line t))
-card_after more s n bs at t (cards.Stopped ending.End) = hand (over ended (set_up_line t)) (drop at s) (n + at) bs
-card_after more s n bs at t (cards.Stopped ending.Part) = hand (carding t) (drop at s) (n + at) bs
-card_after more s n bs at t (cards.Stopped (ending.Refused f)) = hand (over (ends_of (ending.Refused f)) (set_up_line t)) (drop at s) (n + at) bs
+card_after more s n bs at t (cards.Stopped (Ok ending.End)) = hand (over ended (set_up_line t)) (drop at s) (n + at) bs
+card_after more s n bs at t (cards.Stopped (Ok ending.Part)) = hand (carding t) (drop at s) (n + at) bs
+card_after more s n bs at t (cards.Stopped (Err f)) = hand (over (ends_of (Err f)) (set_up_line t)) (drop at s) (n + at) bs
 
 -- the bytes at hand, by the stage
 abbrev pub hand_bytes : Bool → List ℕ → ℕ → List Bool → Stage → Hand

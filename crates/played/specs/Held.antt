@@ -1,9 +1,10 @@
 -- THEOREM: whatever the pieces of a recording are, what is held between them is shorter than the longest record.
-use Rattle.std.specs.Prelude.{ℕ, ◌+◌, ◌<◌, Bool, List, ◌++◌, length, drop}
+use Rattle.std.specs.Prelude.{ℕ, ◌+◌, ◌<◌, Bool, List, ◌++◌, length, drop, Result, Ok, Err}
 use Rattle.std.proofs.Common.{arith, length-drop}
 use Rattle.histories.specs.Below.{Bytes, none_below, append_bytes, drop_bytes}
 use Rattle.line.specs.Attached.{Attached}
 use Rattle.line.specs.declared.Table.{Table}
+use Rattle.recording.specs.declared.Fault.{Fault}
 use Rattle.recording.specs.Reading.{found_at}
 use Rattle.recording.specs.Cards.{cards_of}
 use Rattle.recording.specs.Playing.{Ends, ended, part, refusal, record_step, Played, play_all, set_up_line}
@@ -27,11 +28,11 @@ FewLeft s (refusal r) at = Unit
 few_stops : (more : Bool) (s : List ℕ) → Bytes s → (at room : ℕ) (event : Bool) → Stops (FewLeft s) s at (found_at s at room event more)
 few_stops more s b at room event = by_found (found_at s at room event more) (found_small s b at room event more)
   where
-    by_found : (x : Found) → Small s at x → Stops (FewLeft s) s at x
-    by_found found.End f = tt
-    by_found found.Part f = f
-    by_found (found.Record r next) f = λ l. by_any (FewLeft s) at (λ n. tt) (record_step s r l).said
-    by_found (found.Refused r) f = tt
+    by_found : (x : Result Found Fault) → Small s at x → Stops (FewLeft s) s at x
+    by_found (Ok found.End) f = tt
+    by_found (Ok found.Part) f = f
+    by_found (Ok (found.Record r next)) f = λ l. by_any (FewLeft s) at (λ n. tt) (record_step s r l).said
+    by_found (Err r) f = tt
 
 -- what is held is bytes, and until the recording is over fewer than the longest record has
 abbrev pub Few : Stage → List ℕ → Type 0
@@ -64,9 +65,9 @@ card_fits more s n bs u b = by_ending c.ending c.at c.table (cards_stop more s (
 
     by_ending : (e : CardsEnding) (at : ℕ) (v : Table) → FewLeft s (card_ends e) at → Fits (card_after more s n bs at v e)
     by_ending cards.Events at v f = play_fits more (drop at s) (n + at) bs (set_up_line v) (drop_bytes at s b)
-    by_ending (cards.Stopped ending.End) at v f = record { bytes = drop_bytes at s b; few = tt }
-    by_ending (cards.Stopped ending.Part) at v f = record { bytes = drop_bytes at s b; few = let e = length-drop at s in omega arith }
-    by_ending (cards.Stopped (ending.Refused r)) at v f = record { bytes = drop_bytes at s b; few = tt }
+    by_ending (cards.Stopped (Ok ending.End)) at v f = record { bytes = drop_bytes at s b; few = tt }
+    by_ending (cards.Stopped (Ok ending.Part)) at v f = record { bytes = drop_bytes at s b; few = let e = length-drop at s in omega arith }
+    by_ending (cards.Stopped (Err r)) at v f = record { bytes = drop_bytes at s b; few = tt }
 
 -- before the first piece, and after each
 pub start_fits : Fits start

@@ -1,5 +1,5 @@
 -- Document 02, M-103: "prints every event's bus answer": a recording is a history of the public event, up to the first refusal.
-use Rattle.std.specs.Prelude.{ℕ, zero, suc, ◌-◌, Bool, true, false, List, [], ◌∷◌, ◌++◌, map, ◌≡◌, refl, eqb, length, take, drop}
+use Rattle.std.specs.Prelude.{ℕ, zero, suc, ◌-◌, Bool, true, false, List, [], ◌∷◌, ◌++◌, map, ◌≡◌, refl, eqb, length, take, drop, Result, Ok, Err}
 use Rattle.std.proofs.Common.{arith, ◌∙◌, ap, sym, subst, eqb-true}
 use Rattle.base.specs.Pick.{pick_if}
 use Rattle.line.specs.Attached.{Attached, says_of, leaves_of, left_by, Stands}
@@ -9,6 +9,7 @@ use Rattle.line.specs.Slots.{host_bits}
 use Rattle.line.specs.Tables.{blank_table}
 use Rattle.line.specs.declared.Event.{Event}
 use Rattle.line.specs.declared.Table.{Table}
+use Rattle.recording.specs.declared.Fault.{Fault}
 use Rattle.recording.specs.Reading.{number_of_fault, found_at}
 use Rattle.recording.specs.Cards.{room_for, cards_of}
 use Rattle.recording.specs.Playing.{Ends, ended, part, refusal, ends_of, Said, bits, none, Step, said_by, slots_step, record_step, Played, played, after, on_step, play_on, play_from, play_all, set_up_line, after_cards, playback}
@@ -33,11 +34,11 @@ events_in s (record_of.Slots count from to) = slots (host_bits count (take (to -
 events_in s (record_of.Event e) = e ∷ []
 
 -- by what stands at an offset
-abbrev events_on : (ℕ → List Event) → List ℕ → Found → List Event
-events_on go s found.End = []
-events_on go s found.Part = []
-events_on go s (found.Record r next) = events_in s r ++ go next
-events_on go s (found.Refused f) = []
+abbrev events_on : (ℕ → List Event) → List ℕ → Result Found Fault → List Event
+events_on go s (Ok found.End) = []
+events_on go s (Ok found.Part) = []
+events_on go s (Ok (found.Record r next)) = events_in s r ++ go next
+events_on go s (Err f) = []
 
 -- those of the records from an offset on, at most so many, where room more chips might come: reading goes by the bytes alone
 unfoldable pub events_from : ℕ → Bool → List ℕ → ℕ → ℕ → List Event
@@ -45,11 +46,11 @@ events_from zero more s at room = []
 events_from (suc k) more s at room = events_on (λ next. events_from k more s next room) s (found_at s at room true more)
 
 -- how reading ends, by what stands at an offset
-abbrev ends_on : (ℕ → Ends) → Found → Ends
-ends_on go found.End = ended
-ends_on go found.Part = part
-ends_on go (found.Record r next) = go next
-ends_on go (found.Refused f) = refusal (number_of_fault f)
+abbrev ends_on : (ℕ → Ends) → Result Found Fault → Ends
+ends_on go (Ok found.End) = ended
+ends_on go (Ok found.Part) = part
+ends_on go (Ok (found.Record r next)) = go next
+ends_on go (Err f) = refusal (number_of_fault f)
 
 -- how reading them ends, where no event is refused
 unfoldable pub reading_ends : ℕ → Bool → List ℕ → ℕ → ℕ → Ends
@@ -151,11 +152,11 @@ module _ (s : List ℕ) (at : ℕ) (l : Attached) (w : Stands l) (events : ℕ �
       let h = subst (λ (n : ℕ). AsHistory (events next (room_for n)) (end next (room_for n)) (run_on xs l) (go next (run_on xs l))) (count_kept xs l w) (on next (run_on xs l) (stands_on xs l w)) in
       before xs _ _ l (go next m) bs a (subst (λ (j : Attached). AsHistory (events next room) (end next room) (run_on xs l) (go next j)) (sym q) h)
 
-  on_found : (f : Found) → AsHistory (events_on (λ next. events next room) s f) (ends_on (λ next. end next room) f) l (play_on go s at l f)
-  on_found found.End = record { answers = refl; line = refl; ends = refl }
-  on_found found.Part = record { answers = refl; line = refl; ends = refl }
-  on_found (found.Record r next) = on-step (events_in s r) next (record_step s r l).said (record_step s r l).line (record_comes s r at l w)
-  on_found (found.Refused f) = record { answers = refl; line = refl; ends = refl }
+  on_found : (f : Result Found Fault) → AsHistory (events_on (λ next. events next room) s f) (ends_on (λ next. end next room) f) l (play_on go s at l f)
+  on_found (Ok found.End) = record { answers = refl; line = refl; ends = refl }
+  on_found (Ok found.Part) = record { answers = refl; line = refl; ends = refl }
+  on_found (Ok (found.Record r next)) = on-step (events_in s r) next (record_step s r l).said (record_step s r l).line (record_comes s r at l w)
+  on_found (Err f) = record { answers = refl; line = refl; ends = refl }
 
 -- THEOREM: the records from an offset on, played on a line that stands well, are the history of their events
 pub records_as_history : (k : ℕ) (more : Bool) (s : List ℕ) (at : ℕ) (l : Attached) → Stands l

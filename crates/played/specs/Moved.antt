@@ -2,7 +2,7 @@
 use Prim.Native.Nat.{ℕ, zero, suc, ◌+◌, ◌-◌, ◌<◌, ◌≤◌}
 use Rattle.std.proofs.Common.{add_assoc, ◌∙◌, length-drop, get_or-drop, drop-drop}
 use native.Mathlib.Omega.{arith}
-use Rattle.std.specs.Prelude.{Bool, List, ◌≡◌, eqb, ltb, take, drop, get_or}
+use Rattle.std.specs.Prelude.{Bool, List, ◌≡◌, eqb, ltb, take, drop, get_or, Result, Ok, Err}
 use Rattle.std.proofs.Math.Bool.{true, false}
 use Rattle.std.proofs.Math.Path.{refl, ap, sym}
 use Rattle.std.proofs.Math.ListN.{length}
@@ -13,6 +13,7 @@ use Rattle.line.specs.Attached.{Attached}
 use Rattle.line.specs.Slots.{bytes_asked}
 use Rattle.line.specs.Tables.{joined}
 use Rattle.line.specs.declared.Table.{Table}
+use Rattle.recording.specs.declared.Fault.{Fault}
 use Rattle.recording.specs.Reading.{length_asked, cut_off, may_be_right, cut_record, at_end, found_at, starts_event}
 use Rattle.recording.specs.There.{There, nothing, few, head, all, there, found_end, found_short, found_cut, starts_not}
 use Rattle.recording.specs.Cards.{room_for, cards_read, cards_on, cards_from}
@@ -120,13 +121,13 @@ module _ (s : List ℕ) (k : ℕ) (g : k ≤ length s) where
     said_moved next (bits bs) u = ap (after bs) (e next u)
     said_moved next (none r) u = refl
 
-    play_on_moved : (x : Found) → play_on on s (k + at) l (moved k x) ≡ further k (play_on on' (drop k s) at l x)
-    play_on_moved found.End = refl
-    play_on_moved found.Part = refl
-    play_on_moved (found.Record r next) =
+    play_on_moved : (x : Result Found Fault) → play_on on s (k + at) l (moved k x) ≡ further k (play_on on' (drop k s) at l x)
+    play_on_moved (Ok found.End) = refl
+    play_on_moved (Ok found.Part) = refl
+    play_on_moved (Ok (found.Record r next)) =
         let d = step_moved r l in
         (λ j. on_step on (k + at) (k + next) (d j).said (d j).line) ∙ said_moved next (record_step (drop k s) r l).said (record_step (drop k s) r l).line
-    play_on_moved (found.Refused f) = refl
+    play_on_moved (Err f) = refl
 
   -- playing from any offset on
   pub play_moved : (most : ℕ) (more : Bool) (at : ℕ) (l : Attached) → play_from most more s (k + at) l ≡ further k (play_from most more (drop k s) at l)
@@ -137,14 +138,14 @@ module _ (s : List ℕ) (k : ℕ) (g : k ≤ length s) where
       ∙ play_on_moved at l (λ next u. play_from m more s next u) (λ next u. play_from m more (drop k s) next u) (λ next u. play_moved m more next u) (found_at (drop k s) at (room_for l.count) true more)
 
   -- and so does reading a card
-  cards_on_moved : (at : ℕ) (t : Table) (on on' : ℕ → Table → CardsRead) → ((next : ℕ) (u : Table) → on (k + next) u ≡ further_cards k (on' next u)) → (x : Found)
+  cards_on_moved : (at : ℕ) (t : Table) (on on' : ℕ → Table → CardsRead) → ((next : ℕ) (u : Table) → on (k + next) u ≡ further_cards k (on' next u)) → (x : Result Found Fault)
       → cards_on on (k + at) t (moved k x) ≡ further_cards k (cards_on on' at t x)
-  cards_on_moved at t on on' e found.End = refl
-  cards_on_moved at t on on' e found.Part = refl
-  cards_on_moved at t on on' e (found.Record (record_of.Chip code kind) next) = e next (joined (set_up_chip code kind) t)
-  cards_on_moved at t on on' e (found.Record (record_of.Slots count from to) next) = refl
-  cards_on_moved at t on on' e (found.Record (record_of.Event v) next) = refl
-  cards_on_moved at t on on' e (found.Refused f) = refl
+  cards_on_moved at t on on' e (Ok found.End) = refl
+  cards_on_moved at t on on' e (Ok found.Part) = refl
+  cards_on_moved at t on on' e (Ok (found.Record (record_of.Chip code kind) next)) = e next (joined (set_up_chip code kind) t)
+  cards_on_moved at t on on' e (Ok (found.Record (record_of.Slots count from to) next)) = refl
+  cards_on_moved at t on on' e (Ok (found.Record (record_of.Event v) next)) = refl
+  cards_on_moved at t on on' e (Err f) = refl
 
   -- reading from any offset on
   pub cards_moved : (most : ℕ) (more : Bool) (at : ℕ) (t : Table) → cards_from most more s (k + at) t ≡ further_cards k (cards_from most more (drop k s) at t)

@@ -1,5 +1,5 @@
 -- The calls of Called.antt can be made: each has an outcome that its contract permits, whatever is lent and however long it lives.
-use Rattle.std.specs.Prelude.{ℕ, ◌*◌, Bool, true, false, List, [], ◌∷◌, ◌++◌, ◌≡◌, refl, eqb, length, drop, replicate}
+use Rattle.std.specs.Prelude.{ℕ, ◌*◌, Bool, true, false, List, [], ◌∷◌, ◌++◌, ◌≡◌, refl, eqb, length, drop, replicate, Result, Ok, Err}
 use Rattle.std.proofs.Common.{ap}
 use contract.Lifetimes.{Lfts}
 use Rattle.std.proofs.lemmas.List.{length-replicate}
@@ -9,6 +9,7 @@ use Rattle.line.specs.Attached.{Attached}
 use Rattle.line.specs.Tables.{blank_table}
 use Rattle.line.specs.declared.Refusal.TheVariants as refusal-of
 use Rattle.line.specs.declared.Table.{Table}
+use Rattle.recording.specs.declared.Fault.{Fault}
 use Rattle.recording.specs.Reading.{found_at}
 use Rattle.recording.specs.Cards.{cards_read, cards_of}
 use Rattle.recording.specs.Playing.{Ends, refusal, ends_of, Said, bits, none, record_step, play_all, Handed, handed, play_of, set_up_line}
@@ -29,7 +30,7 @@ use Rattle.played.specs.Called.{CardsCall, Back, back, PlayCall, play_tells, Pla
 
 -- an ending that the code has
 abbrev EndingFor : Ends → Type 0
-EndingFor x = (e : Ending) × (ends_of e ≡ x)
+EndingFor x = (e : Result Ending Fault) × (ends_of e ≡ x)
 
 -- at every offset
 ending_stops : (more : Bool) (s : List ℕ) (at room : ℕ) (event : Bool) → Stops (λ x p. EndingFor x) s at (found_at s at room event more)
@@ -37,13 +38,13 @@ ending_stops more s at room event = by_found (found_at s at room event more)
   where
     by_said : (x : Said) → RefusalFor x → StopsBy (λ y p. EndingFor y) at x
     by_said (bits bs) f = tt
-    by_said (none n) f = (ending.Refused (fault.OnLine f.0), ap (λ (k : ℕ). refusal k) f.1)
+    by_said (none n) f = ((Err (fault.OnLine f.0)), ap (λ (k : ℕ). refusal k) f.1)
 
-    by_found : (x : Found) → Stops (λ y p. EndingFor y) s at x
-    by_found found.End = (ending.End, refl)
-    by_found found.Part = (ending.Part, refl)
-    by_found (found.Record r next) = λ l. by_said (record_step s r l).said (record_refusal s r l)
-    by_found (found.Refused f) = (ending.Refused f, refl)
+    by_found : (x : Result Found Fault) → Stops (λ y p. EndingFor y) s at x
+    by_found (Ok found.End) = ((Ok ending.End), refl)
+    by_found (Ok found.Part) = ((Ok ending.Part), refl)
+    by_found (Ok (found.Record r next)) = λ l. by_said (record_step s r l).said (record_refusal s r l)
+    by_found (Err f) = ((Err f), refl)
 
 -- of all that is there, and of the player on any text
 all_ending : (more : Bool) (s : List ℕ) (l : Attached) → EndingFor (play_all more s l).ends
@@ -52,7 +53,7 @@ all_ending more s l = play_stops more s (λ x p. EndingFor x) (λ at room event 
 play_ending : (more : Bool) (s out : List ℕ) (l : Attached) → EndingFor (play_of more s out l).ends
 unfolding play_of
 play_ending more s out l =
-    pick_both (λ (h : Handed). EndingFor h.ends) (eqb (length out) (8 * length s)) _ _ (all_ending more s l) (ending.Refused (fault.OnLine refusal-of.WrongSize), refl)
+    pick_both (λ (h : Handed). EndingFor h.ends) (eqb (length out) (8 * length s)) _ _ (all_ending more s l) ((Err (fault.OnLine refusal-of.WrongSize)), refl)
 
 -- ---- the calls
 

@@ -1,5 +1,5 @@
 -- The recordings of document 02, M-103: how one is cut into the pieces in which it is handed over changes nothing.
-use Rattle.std.specs.Prelude.{ℕ, suc, ◌+◌, Bool, ◌≡◌, refl, length, drop}
+use Rattle.std.specs.Prelude.{ℕ, suc, ◌+◌, Bool, ◌≡◌, refl, length, drop, Ok, Err}
 use Rattle.std.proofs.Common.{zero-add, add_assoc, arith, ◌∙◌, ap, sym, drop-drop}
 use Rattle.std.proofs.Math.Bool.{true, false}
 use mathlib.Core.List.{List, [], ◌∷◌, ◌++◌, append_assoc, flatten}
@@ -64,9 +64,9 @@ module _ (rest s : List ℕ) where
 -- what a card comes to where it was read further on
 card_further : (s : List ℕ) (n : ℕ) (bs : List Bool) (k at : ℕ) (u : Table) (e : CardsEnding) → came_to (card_after false (drop k s) (n + k) bs at u e) ≡ came_to (card_after false s n bs (k + at) u e)
 card_further s n bs k at u cards.Events = λ j. came_to (hand_after (drop-drop at k s j) (add_assoc n k at j) bs (play_all false (drop-drop at k s j) (set_up_line u)))
-card_further s n bs k at u (cards.Stopped ending.End) = λ j. played bs ended (add_assoc n k at j) (set_up_line u)
-card_further s n bs k at u (cards.Stopped ending.Part) = λ j. played bs part (add_assoc n k at j) (set_up_line u)
-card_further s n bs k at u (cards.Stopped (ending.Refused f)) = λ j. played bs (ends_of (ending.Refused f)) (add_assoc n k at j) (set_up_line u)
+card_further s n bs k at u (cards.Stopped (Ok ending.End)) = λ j. played bs ended (add_assoc n k at j) (set_up_line u)
+card_further s n bs k at u (cards.Stopped (Ok ending.Part)) = λ j. played bs part (add_assoc n k at j) (set_up_line u)
+card_further s n bs k at u (cards.Stopped (Err f)) = λ j. played bs (ends_of (Err f)) (add_assoc n k at j) (set_up_line u)
 
 -- in the card
 card_whole : (rest s : List ℕ) (n : ℕ) (bs : List Bool) (u : Table) → whole_from (hand_bytes true s n bs (carding u)) rest ≡ came_to (hand_bytes false (s ++ rest) n bs (carding u))
@@ -87,13 +87,13 @@ card_whole rest s n bs u = by_ending c.ending c.at c.table (cards_resumed_all fa
         play_whole rest (drop at s) (n + at) bs (set_up_line v)
         ∙ ap (λ (x : List ℕ). came_to (hand_after x (n + at) bs (play_all false x (set_up_line v)))) (sym (drop-append-le at s rest r.0))
         ∙ ap came (sym r.1)
-    by_ending (cards.Stopped ending.End) at v r = absurd r
-    by_ending (cards.Stopped ending.Part) at v r =
+    by_ending (cards.Stopped (Ok ending.End)) at v r = absurd r
+    by_ending (cards.Stopped (Ok ending.Part)) at v r =
         let o = cards_of false (drop at s ++ rest) v in
         ap (λ (x : List ℕ). came_to (card_after false x (n + at) bs o.at o.table o.ending)) (sym (drop-append-le at s rest r.0))
         ∙ card_further (s ++ rest) n bs at o.at o.table o.ending
         ∙ ap came (sym r.1)
-    by_ending (cards.Stopped (ending.Refused f)) at v r = ap came (sym r)
+    by_ending (cards.Stopped (Err f)) at v r = ap came (sym r)
 
 -- a piece and then the rest is the piece with the rest, wherever the recording has come
 pub piece_whole : (h : Hand) (p rest : List ℕ) → whole_from (hand_piece true p h) rest ≡ whole_from h (p ++ rest)
@@ -127,9 +127,9 @@ one_piece s = by_ending c.at c.table c.ending
     by_ending at u cards.Events =
         let p = play_all false (drop at s) (set_up_line u) in
         came_after (drop at s) (0 + at) [] p ∙ (λ j. played p.answers p.ends (zero-add at j + p.at) p.line)
-    by_ending at u (cards.Stopped ending.End) = λ j. played [] ended (zero-add at j) (set_up_line u)
-    by_ending at u (cards.Stopped ending.Part) = λ j. played [] part (zero-add at j) (set_up_line u)
-    by_ending at u (cards.Stopped (ending.Refused f)) = λ j. played [] (ends_of (ending.Refused f)) (zero-add at j) (set_up_line u)
+    by_ending at u (cards.Stopped (Ok ending.End)) = λ j. played [] ended (zero-add at j) (set_up_line u)
+    by_ending at u (cards.Stopped (Ok ending.Part)) = λ j. played [] part (zero-add at j) (set_up_line u)
+    by_ending at u (cards.Stopped (Err f)) = λ j. played [] (ends_of (Err f)) (zero-add at j) (set_up_line u)
 
 -- THEOREM: handed over in pieces cut at any byte, a recording plays as in one
 pub pieces_as_one : (ps : List (List ℕ)) → came_to (hand_all ps start) ≡ playback (flatten ps)

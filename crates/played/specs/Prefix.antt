@@ -1,7 +1,7 @@
 -- Laws: a record that is found or refused, though more may come, is found or refused whatever comes.
 use Prim.Native.Nat.{ℕ, ◌+◌, ◌-◌, ◌<◌, ◌≤◌}
 use Rattle.std.proofs.Common.{zero-add, arith, true≢false, ◌∙◌, sym, length-append}
-use Rattle.std.specs.Prelude.{Bool, List, ◌++◌, ◌≡◌, length}
+use Rattle.std.specs.Prelude.{Bool, List, ◌++◌, ◌≡◌, length, Result, Ok, Err}
 use Rattle.std.proofs.Math.Bool.{true, false}
 use Rattle.std.proofs.Math.Path.{refl, ap}
 use Rattle.std.proofs.Math.Dec.{eqb, ltb}
@@ -13,6 +13,7 @@ use Rattle.card.specs.Card.{entry_length, whole_entry}
 use Rattle.chip.specs.Kinds.{known_kind}
 use Rattle.line.specs.Slots.{bytes_asked}
 use Rattle.records.specs.Numbers.{number_at}
+use Rattle.recording.specs.declared.Fault.{Fault}
 use Rattle.recording.specs.Reading.{is_event, length_asked, cut_off, may_be_right, cut_record, card_record, event_record, at_end, found_at, starts_event}
 use Rattle.recording.specs.There.{size_at, kind_at, next_at, There, nothing, few, head, all, there, found_end, found_short, found_cut, found_whole}
 use Rattle.recording.specs.Ways.{found_has}
@@ -24,33 +25,33 @@ use Rattle.recording.specs.declared.Found.TheVariants as found
 use Rattle.played.specs.Alike.{moved, Alike, alike_on, number_2, starts_alike, found_alike}
 
 -- what is found without the rest is found with it; the end is not, and where a part is found, nothing is said
-abbrev pub Stays : Found → Found → Type 0
-Stays found.End y = ⊥
-Stays found.Part y = Unit
-Stays (found.Record r next) y = y ≡ found.Record r next
-Stays (found.Refused f) y = y ≡ found.Refused f
+abbrev pub Stays : Result Found Fault → Result Found Fault → Type 0
+Stays (Ok found.End) y = ⊥
+Stays (Ok found.Part) y = Unit
+Stays (Ok (found.Record r next)) y = y ≡ Ok (found.Record r next)
+Stays (Err f) y = y ≡ Err f
 
 -- what is the same stays, where it is not the end
-abbrev NotEnd : Found → Type 0
-NotEnd found.End = ⊥
-NotEnd found.Part = Unit
-NotEnd (found.Record r next) = Unit
-NotEnd (found.Refused f) = Unit
+abbrev NotEnd : Result Found Fault → Type 0
+NotEnd (Ok found.End) = ⊥
+NotEnd (Ok found.Part) = Unit
+NotEnd (Ok (found.Record r next)) = Unit
+NotEnd (Err f) = Unit
 
-same_stays : (x y : Found) → NotEnd x → y ≡ x → Stays x y
-same_stays found.End y n e = n
-same_stays found.Part y n e = tt
-same_stays (found.Record r next) y n e = e
-same_stays (found.Refused f) y n e = e
+same_stays : (x y : Result Found Fault) → NotEnd x → y ≡ x → Stays x y
+same_stays (Ok found.End) y n e = n
+same_stays (Ok found.Part) y n e = tt
+same_stays (Ok (found.Record r next)) y n e = e
+same_stays (Err f) y n e = e
 
 -- what is found no byte further on
-moved_none : (x : Found) → moved 0 x ≡ x
-moved_none found.End = refl
-moved_none found.Part = refl
-moved_none (found.Record (record_of.Chip code kind) next) = λ j. found.Record (record_of.Chip code kind) (zero-add next j)
-moved_none (found.Record (record_of.Slots count from to) next) = λ j. found.Record (record_of.Slots count (zero-add from j) (zero-add to j)) (zero-add next j)
-moved_none (found.Record (record_of.Event e) next) = λ j. found.Record (record_of.Event e) (zero-add next j)
-moved_none (found.Refused f) = refl
+moved_none : (x : Result Found Fault) → moved 0 x ≡ x
+moved_none (Ok found.End) = refl
+moved_none (Ok found.Part) = refl
+moved_none (Ok (found.Record (record_of.Chip code kind) next)) = λ j. (Ok (found.Record (record_of.Chip code kind) (zero-add next j)))
+moved_none (Ok (found.Record (record_of.Slots count from to) next)) = λ j. (Ok (found.Record (record_of.Slots count (zero-add from j) (zero-add to j)) (zero-add next j)))
+moved_none (Ok (found.Record (record_of.Event e) next)) = λ j. (Ok (found.Record (record_of.Event e) (zero-add next j)))
+moved_none (Err f) = refl
 
 module _ (s t : List ℕ) (at : ℕ) where
   -- the bytes that are there
@@ -117,15 +118,15 @@ module _ (s t : List ℕ) (at : ℕ) where
           go false c q e = asked_stays
 
     -- a record of which not all is there, by its length and kind: what is refused of it is refused by y too
-    cut_by : (size kind : ℕ) (y : Found) → (is_event kind ≡ true → may_be_right s at size kind ≡ false → y ≡ found.Refused (fault.OnCard on_card.WrongLength))
-        → (is_event kind ≡ false → known_kind kind ≡ true → eqb size entry_length ≡ false → y ≡ found.Refused (fault.OnCard on_card.WrongLength))
-        → (is_event kind ≡ false → known_kind kind ≡ false → y ≡ found.Refused (fault.OnCard on_card.UnknownKind)) → Stays (cut_record s at true size kind) y
+    cut_by : (size kind : ℕ) (y : Result Found Fault) → (is_event kind ≡ true → may_be_right s at size kind ≡ false → y ≡ Err (fault.OnCard on_card.WrongLength))
+        → (is_event kind ≡ false → known_kind kind ≡ true → eqb size entry_length ≡ false → y ≡ Err (fault.OnCard on_card.WrongLength))
+        → (is_event kind ≡ false → known_kind kind ≡ false → y ≡ Err (fault.OnCard on_card.UnknownKind)) → Stays (cut_record s at true size kind) y
     unfolding cut_record cut_off pick
     cut_by size kind y a b c =
-        pick_if (λ (x : Found). Stays x y) _ _ _ (λ e. off _ (a e))
-        (λ e. pick_if (λ (x : Found). Stays x y) _ _ _ (λ f. off _ (b e f)) (c e))
+        pick_if (λ (x : Result Found Fault). Stays x y) _ _ _ (λ e. off _ (a e))
+        (λ e. pick_if (λ (x : Result Found Fault). Stays x y) _ _ _ (λ f. off _ (b e f)) (c e))
       where
-        off : (right : Bool) → (right ≡ false → y ≡ found.Refused (fault.OnCard on_card.WrongLength)) → Stays (cut_off right true) y
+        off : (right : Bool) → (right ≡ false → y ≡ Err (fault.OnCard on_card.WrongLength)) → Stays (cut_off right true) y
         off true f = tt
         off false f = f refl
 

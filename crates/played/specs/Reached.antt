@@ -2,7 +2,7 @@
 -- and at its first byte.
 use Prim.Native.Nat.{ℕ, zero, suc, ◌≤◌}
 use Rattle.std.proofs.Common.{arith, true≢false, ◌∙◌, subst}
-use Rattle.std.specs.Prelude.{Bool, List, ◌≡◌, length}
+use Rattle.std.specs.Prelude.{Bool, List, ◌≡◌, length, Result, Ok, Err}
 use Rattle.std.proofs.Math.Bool.{true, false}
 use Rattle.std.proofs.Math.Path.{refl, ap, sym}
 use Rattle.base.specs.Exactly.{Iff}
@@ -32,21 +32,21 @@ use Rattle.played.specs.Starts.{found_starts}
 -- reading reaches an offset with these chips, before any record of kinds 16 to 19
 pub data CardReached (s : List ℕ) : Table → ℕ → Type 0 where
   first : CardReached s (blank_table 0) 0
-  chip : {t : Table} {at : ℕ} (code kind next : ℕ) → CardReached s t at → found_at s at (room_for t.n) false false ≡ found.Record (record_of.Chip code kind) next
+  chip : {t : Table} {at : ℕ} (code kind next : ℕ) → CardReached s t at → found_at s at (room_for t.n) false false ≡ Ok (found.Record (record_of.Chip code kind) next)
       → CardReached s (joined (set_up_chip code kind) t) next
 
 -- playing reaches an offset with this line, from the first record of kinds 16 to 19 on: none before it is at fault, and none of their events
 -- is refused
 pub data Reached (s : List ℕ) : Attached → ℕ → Type 0 where
   card : {t : Table} {at : ℕ} → CardReached s t at → starts_event s at ≡ true → Reached s (set_up_line t) at
-  onto : {l : Attached} {at : ℕ} (x : Record) (next : ℕ) (bs : List Bool) → Reached s l at → found_at s at (room_for l.count) true false ≡ found.Record x next
+  onto : {l : Attached} {at : ℕ} (x : Record) (next : ℕ) (bs : List Bool) → Reached s l at → found_at s at (room_for l.count) true false ≡ Ok (found.Record x next)
       → (record_step s x l).said ≡ bits bs → Reached s (record_step s x l).line next
 
 -- what is reached at an offset is at fault: a record before the first of kinds 16 to 19, one from there on, or one of its events
 pub data Faulty (s : List ℕ) (r p : ℕ) : Type 0 where
-  in_card : (t : Table) (f : Fault) → CardReached s t p → starts_event s p ≡ false → found_at s p (room_for t.n) false false ≡ found.Refused f → number_of_fault f ≡ r → Faulty s r p
-  in_record : (l : Attached) (f : Fault) → Reached s l p → found_at s p (room_for l.count) true false ≡ found.Refused f → number_of_fault f ≡ r → Faulty s r p
-  in_events : (l : Attached) (x : Record) (next : ℕ) → Reached s l p → found_at s p (room_for l.count) true false ≡ found.Record x next → (record_step s x l).said ≡ none r → Faulty s r p
+  in_card : (t : Table) (f : Fault) → CardReached s t p → starts_event s p ≡ false → found_at s p (room_for t.n) false false ≡ Err f → number_of_fault f ≡ r → Faulty s r p
+  in_record : (l : Attached) (f : Fault) → Reached s l p → found_at s p (room_for l.count) true false ≡ Err f → number_of_fault f ≡ r → Faulty s r p
+  in_events : (l : Attached) (x : Record) (next : ℕ) → Reached s l p → found_at s p (room_for l.count) true false ≡ Ok (found.Record x next) → (record_step s x l).said ≡ none r → Faulty s r p
 
 -- the way there ----------------------------------------------------------------------------------------------
 
@@ -103,22 +103,22 @@ module _ (s : List ℕ) where
   -- a recording that is refused comes to a fault, by how reading the card ended ..
   abbrev CardTo : ℕ → Table → CardsEnding → Type 0
   CardTo at t cards.Events = CardReached s t at × (starts_event s at ≡ true)
-  CardTo at t (cards.Stopped ending.End) = Unit
-  CardTo at t (cards.Stopped ending.Part) = Unit
-  CardTo at t (cards.Stopped (ending.Refused f)) = Faulty s (number_of_fault f) at
+  CardTo at t (cards.Stopped (Ok ending.End)) = Unit
+  CardTo at t (cards.Stopped (Ok ending.Part)) = Unit
+  CardTo at t (cards.Stopped (Err f)) = Faulty s (number_of_fault f) at
 
   abbrev CardsTo : CardsRead → Type 0
   CardsTo c = CardTo c.at c.table c.ending
 
   -- what is found there, and what is read from there on
   card_found : (at : ℕ) (t : Table) (go : ℕ → Table → CardsRead) → CardReached s t at → starts_event s at ≡ false → ((next : ℕ) (u : Table) → CardReached s u next → CardsTo (go next u))
-      → (f : Found) → found_at s at (room_for t.n) false false ≡ f → CardsTo (cards_on go at t f)
-  card_found at t go h n on found.End e = tt
-  card_found at t go h n on found.Part e = tt
-  card_found at t go h n on (found.Record (record_of.Chip code kind) next) e = on next (joined (set_up_chip code kind) t) (chip code kind next h e)
-  card_found at t go h n on (found.Record (record_of.Slots count from to) next) e = absurd (true≢false (sym (found_starts s at (room_for t.n) false false _ next e) ∙ n))
-  card_found at t go h n on (found.Record (record_of.Event x) next) e = absurd (true≢false (sym (found_starts s at (room_for t.n) false false _ next e) ∙ n))
-  card_found at t go h n on (found.Refused f) e = in_card t f h n e refl
+      → (f : Result Found Fault) → found_at s at (room_for t.n) false false ≡ f → CardsTo (cards_on go at t f)
+  card_found at t go h n on (Ok found.End) e = tt
+  card_found at t go h n on (Ok found.Part) e = tt
+  card_found at t go h n on (Ok (found.Record (record_of.Chip code kind) next)) e = on next (joined (set_up_chip code kind) t) (chip code kind next h e)
+  card_found at t go h n on (Ok (found.Record (record_of.Slots count from to) next)) e = absurd (true≢false (sym (found_starts s at (room_for t.n) false false _ next e) ∙ n))
+  card_found at t go h n on (Ok (found.Record (record_of.Event x) next)) e = absurd (true≢false (sym (found_starts s at (room_for t.n) false false _ next e) ∙ n))
+  card_found at t go h n on (Err f) e = in_card t f h n e refl
 
   card_to : (k at : ℕ) (t : Table) → CardReached s t at → CardsTo (cards_from k false s at t)
   unfolding cards_from
@@ -138,17 +138,17 @@ module _ (s : List ℕ) where
 
   -- what the events of a record answer, what is found, and what is played from there on
   step_to : (at : ℕ) (l : Attached) (go : ℕ → Attached → Played) → Reached s l at → ((next : ℕ) (m : Attached) → Reached s m next → PlayedTo (go next m))
-      → (x : Record) (next : ℕ) → found_at s at (room_for l.count) true false ≡ found.Record x next → (y : Said) → (record_step s x l).said ≡ y
+      → (x : Record) (next : ℕ) → found_at s at (room_for l.count) true false ≡ Ok (found.Record x next) → (y : Said) → (record_step s x l).said ≡ y
       → PlayedTo (on_step go at next y (record_step s x l).line)
   step_to at l go h on x next e (bits bs) g = on next (record_step s x l).line (onto x next bs h e g)
   step_to at l go h on x next e (none r) g = in_events l x next h e g
 
   found_to : (at : ℕ) (l : Attached) (go : ℕ → Attached → Played) → Reached s l at → ((next : ℕ) (m : Attached) → Reached s m next → PlayedTo (go next m))
-      → (f : Found) → found_at s at (room_for l.count) true false ≡ f → PlayedTo (play_on go s at l f)
-  found_to at l go h on found.End e = tt
-  found_to at l go h on found.Part e = tt
-  found_to at l go h on (found.Record x next) e = step_to at l go h on x next e (record_step s x l).said refl
-  found_to at l go h on (found.Refused f) e = in_record l f h e refl
+      → (f : Result Found Fault) → found_at s at (room_for l.count) true false ≡ f → PlayedTo (play_on go s at l f)
+  found_to at l go h on (Ok found.End) e = tt
+  found_to at l go h on (Ok found.Part) e = tt
+  found_to at l go h on (Ok (found.Record x next)) e = step_to at l go h on x next e (record_step s x l).said refl
+  found_to at l go h on (Err f) e = in_record l f h e refl
 
   play_to : (k at : ℕ) (l : Attached) → Reached s l at → PlayedTo (play_from k false s at l)
   unfolding play_from
@@ -159,9 +159,9 @@ module _ (s : List ℕ) where
   after_to : (at : ℕ) (t : Table) (e : CardsEnding) → CardTo at t e → PlayedTo (after_cards s at t e)
   after_to at t cards.Events (h, e) =
       subst PlayedTo (play_there false s at (card_goes t at h).within (suc (length s)) (omega arith) (set_up_line t)) (play_to (suc (length s)) at (set_up_line t) (card h e))
-  after_to at t (cards.Stopped ending.End) h = tt
-  after_to at t (cards.Stopped ending.Part) h = tt
-  after_to at t (cards.Stopped (ending.Refused f)) h = h
+  after_to at t (cards.Stopped (Ok ending.End)) h = tt
+  after_to at t (cards.Stopped (Ok ending.Part)) h = tt
+  after_to at t (cards.Stopped (Err f)) h = h
 
   playback_to : PlayedTo (playback s)
   unfolding playback cards_of

@@ -1,6 +1,6 @@
 -- Demand 1 for a recording: what the record at an offset gives, "exactly when": 3, 2, 3, 1 in document 01's order, and document 02's "9, a card
 -- record after one of kinds 16 to 19; 10, a nonzero unused bit".
-use Rattle.std.specs.Prelude.{ℕ, ◌+◌, ◌<◌, Bool, not, List, ◌≡◌, eqb, ltb}
+use Rattle.std.specs.Prelude.{ℕ, ◌+◌, ◌<◌, Bool, not, List, ◌≡◌, eqb, ltb, Result, Ok, Err}
 use Rattle.std.proofs.Common.{arith, true≢false, ◌∙◌, sym, eqb-true}
 use Rattle.std.proofs.Math.Bool.{true, false}
 use Rattle.std.proofs.Math.Path.{refl, ap}
@@ -35,11 +35,11 @@ unfolding is_event both pick
 slots_event kind e = ap is_event (eqb-true kind 16 e)
 
 -- the sorts of what stands at an offset, by number: a refusal by its own, the others by numbers that no refusal has
-sort : Found → ℕ
-sort found.End = 100
-sort found.Part = 101
-sort (found.Record r next) = 102
-sort (found.Refused f) = number_of_fault f
+sort : Result Found Fault → ℕ
+sort (Ok found.End) = 100
+sort (Ok found.Part) = 101
+sort (Ok (found.Record r next)) = 102
+sort (Err f) = number_of_fault f
 
 -- a choice comes to its second way, which its first never is, exactly when the test fails
 fails : {A : Type 0} (t : Bool) (a b : A) → (a ≡ b → ⊥) → Iff (pick t a b ≡ b) (not t ≡ true)
@@ -86,34 +86,34 @@ module _ (s : List ℕ) (at room : ℕ) (over more : Bool) where
   clear = unused_clear (number_at s (at + 4) 2) (run_at s at)
 
   -- two refusals of document 01
-  abbrev wrong : Found
-  wrong = found.Refused (fault.OnCard on_card.WrongLength)
+  abbrev wrong : Result Found Fault
+  wrong = Err (fault.OnCard on_card.WrongLength)
 
-  abbrev unknown : Found
-  unknown = found.Refused (fault.OnCard on_card.UnknownKind)
+  abbrev unknown : Result Found Fault
+  unknown = Err (fault.OnCard on_card.UnknownKind)
 
   -- what a whole record gives, of kinds 16 to 19 and of the card; and what a cut one gives
-  abbrev of_event : Found
-  of_event = pick asked (pick run (pick clear (slots_at s at) (found.Refused fault.UnusedBits)) (other_at s at)) wrong
+  abbrev of_event : Result Found Fault
+  of_event = pick asked (pick run (pick clear (slots_at s at) (Err fault.UnusedBits)) (other_at s at)) wrong
 
-  abbrev of_card : Found
+  abbrev of_card : Result Found Fault
   of_card =
       pick (known s at room)
-      (pick (ten s at room) (pick (ltb 0 room) (pick over (found.Refused fault.CardAfterEvent) (chip_at s at)) (found.Refused (fault.OnCard on_card.TooMany))) wrong)
+      (pick (ten s at room) (pick (ltb 0 room) (pick over (Err fault.CardAfterEvent) (chip_at s at)) (Err (fault.OnCard on_card.TooMany))) wrong)
       unknown
 
-  abbrev of_cut : Found
-  of_cut = pick event (pick (both right more) found.Part wrong) (pick (known s at room) (pick (both (ten s at room) more) found.Part wrong) unknown)
+  abbrev of_cut : Result Found Fault
+  of_cut = pick event (pick (both right more) (Ok found.Part) wrong) (pick (known s at room) (pick (both (ten s at room) more) (Ok found.Part) wrong) unknown)
 
   -- what stands there, by what it is judged by
-  abbrev judged : Found
+  abbrev judged : Result Found Fault
   judged =
-      pick (ended s at room) (pick more found.Part found.End)
-      (pick (short s at room) (pick more found.Part wrong)
+      pick (ended s at room) (pick more (Ok found.Part) (Ok found.End))
+      (pick (short s at room) (pick more (Ok found.Part) wrong)
       (pick (whole s at room) (pick event of_event of_card) of_cut))
 
   -- a record that is not all there is awaited, or refused by 3
-  cut_is : (r : Bool) → cut_off r more ≡ pick (both r more) found.Part wrong
+  cut_is : (r : Bool) → cut_off r more ≡ pick (both r more) (Ok found.Part) wrong
   unfolding cut_off both pick
   cut_is true = refl
   cut_is false = refl
@@ -124,8 +124,8 @@ module _ (s : List ℕ) (at room : ℕ) (over more : Bool) where
   card_is e f g =
       ap (card_record over) (entry_is s at room ∙ pick_false _ _ _ e ∙ pick_false _ _ _ f ∙ pick_true _ _ _ g)
       ∙ pick_of (card_record over) _ _ _
-      ∙ ap (λ (x : Found). pick (known s at room) x unknown)
-      (pick_of (card_record over) _ _ _ ∙ ap (λ (x : Found). pick (ten s at room) x wrong) (pick_of (card_record over) _ _ _))
+      ∙ ap (λ (x : Result Found Fault). pick (known s at room) x unknown)
+      (pick_of (card_record over) _ _ _ ∙ ap (λ (x : Result Found Fault). pick (ten s at room) x wrong) (pick_of (card_record over) _ _ _))
 
   -- what is found is what it is judged to
   found_is : found_at s at room over more ≡ judged
@@ -134,64 +134,64 @@ module _ (s : List ℕ) (at room : ℕ) (over more : Bool) where
       pick_of (found_by s at room over more) _ _ _
       ∙ pick_ways (ended s at room) _ _ _ _ (λ e. refl)
       (λ e. pick_of (found_by s at room over more) _ _ _
-      ∙ pick_ways (short s at room) _ _ _ _ (λ f. cut_is true ∙ ap (λ (b : Bool). pick b found.Part wrong) (true_both more))
+      ∙ pick_ways (short s at room) _ _ _ _ (λ f. cut_is true ∙ ap (λ (b : Bool). pick b (Ok found.Part) wrong) (true_both more))
       (λ f. pick_of (found_by s at room over more) _ _ _
       ∙ pick_ways (whole s at room) _ _ _ _
       (λ g. pick_ways event _ _ _ _ (λ h. refl) (λ h. card_is e f g))
       (λ g. pick_ways event _ _ _ _ (λ h. cut_is right) (λ h. pick_ways (known s at room) _ _ _ _ (λ k. cut_is (ten s at room)) (λ k. refl)))))
 
-  gives : (x : Found) {B : Type 0} → Iff (judged ≡ x) B → Iff (found_at s at room over more ≡ x) B
+  gives : (x : Result Found Fault) {B : Type 0} → Iff (judged ≡ x) B → Iff (found_at s at room over more ≡ x) B
   gives x i = ((λ e. i.0 (sym found_is ∙ e)), (λ b. found_is ∙ i.1 b))
 
   -- a run or another event of the length asked is refused by 10 alone, a chip of the right length by 1 and 9
-  right_event : (f : Fault) → (10 ≡ number_of_fault f → ⊥) → number_of_fault f < 100 → pick run (pick clear (slots_at s at) (found.Refused fault.UnusedBits)) (other_at s at) ≡ found.Refused f → ⊥
+  right_event : (f : Fault) → (10 ≡ number_of_fault f → ⊥) → number_of_fault f < 100 → pick run (pick clear (slots_at s at) (Err fault.UnusedBits)) (other_at s at) ≡ Err f → ⊥
   unfolding sort
   right_event f a c =
       by_neither run _ _ _
-      (by_neither clear _ _ _ (apart sort (slots_at s at) (found.Refused f) (λ p. omega arith)) (apart sort (found.Refused fault.UnusedBits) (found.Refused f) a))
-      (apart sort (other_at s at) (found.Refused f) (λ p. omega arith))
+      (by_neither clear _ _ _ (apart sort (slots_at s at) (Err f) (λ p. omega arith)) (apart sort (Err fault.UnusedBits) (Err f) a))
+      (apart sort (other_at s at) (Err f) (λ p. omega arith))
 
   right_chip : (f : Fault) → (1 ≡ number_of_fault f → ⊥) → (9 ≡ number_of_fault f → ⊥) → number_of_fault f < 100
-      → pick (ltb 0 room) (pick over (found.Refused fault.CardAfterEvent) (chip_at s at)) (found.Refused (fault.OnCard on_card.TooMany)) ≡ found.Refused f → ⊥
+      → pick (ltb 0 room) (pick over (Err fault.CardAfterEvent) (chip_at s at)) (Err (fault.OnCard on_card.TooMany)) ≡ Err f → ⊥
   unfolding sort
   right_chip f a b c =
       by_neither (ltb 0 room) _ _ _
-      (by_neither over _ _ _ (apart sort (found.Refused fault.CardAfterEvent) (found.Refused f) b) (apart sort (chip_at s at) (found.Refused f) (λ p. omega arith)))
-      (apart sort (found.Refused (fault.OnCard on_card.TooMany)) (found.Refused f) a)
+      (by_neither over _ _ _ (apart sort (Err fault.CardAfterEvent) (Err f) b) (apart sort (chip_at s at) (Err f) (λ p. omega arith)))
+      (apart sort (Err (fault.OnCard on_card.TooMany)) (Err f) a)
 
   -- a whole record of kinds 16 to 19 is refused by 3 and 10 alone
-  whole_event : (f : Fault) → (3 ≡ number_of_fault f → ⊥) → (10 ≡ number_of_fault f → ⊥) → number_of_fault f < 100 → of_event ≡ found.Refused f → ⊥
+  whole_event : (f : Fault) → (3 ≡ number_of_fault f → ⊥) → (10 ≡ number_of_fault f → ⊥) → number_of_fault f < 100 → of_event ≡ Err f → ⊥
   unfolding sort
-  whole_event f a b c = by_neither asked _ _ _ (right_event f b c) (apart sort wrong (found.Refused f) a)
+  whole_event f a b c = by_neither asked _ _ _ (right_event f b c) (apart sort wrong (Err f) a)
 
   -- a record that is not whole, by 3 and 2 alone: so each other refusal is of a whole record
-  of_whole : (f : Fault) (B : Type 0) → (2 ≡ number_of_fault f → ⊥) → (3 ≡ number_of_fault f → ⊥) → number_of_fault f < 100 → Iff (pick event of_event of_card ≡ found.Refused f) B
-      → Iff (found_at s at room over more ≡ found.Refused f) ((ended s at room ≡ false) × ((short s at room ≡ false) × ((whole s at room ≡ true) × B)))
+  of_whole : (f : Fault) (B : Type 0) → (2 ≡ number_of_fault f → ⊥) → (3 ≡ number_of_fault f → ⊥) → number_of_fault f < 100 → Iff (pick event of_event of_card ≡ Err f) B
+      → Iff (found_at s at room over more ≡ Err f) ((ended s at room ≡ false) × ((short s at room ≡ false) × ((whole s at room ≡ true) × B)))
   unfolding sort
   of_whole f B a b c i =
-      let part = apart sort found.Part (found.Refused f) (λ p. omega arith) in
-      let three = apart sort wrong (found.Refused f) b in
-      gives (found.Refused f)
-      (by_left _ (ended s at room) _ _ _ (by_neither more _ _ _ part (apart sort found.End (found.Refused f) (λ p. omega arith)))
+      let part = apart sort (Ok found.Part) (Err f) (λ p. omega arith) in
+      let three = apart sort wrong (Err f) b in
+      gives (Err f)
+      (by_left _ (ended s at room) _ _ _ (by_neither more _ _ _ part (apart sort (Ok found.End) (Err f) (λ p. omega arith)))
       (by_left _ (short s at room) _ _ _ (by_neither more _ _ _ part three)
       (by_then _ (whole s at room) _ _ _
       (by_neither event _ _ _ (by_neither (both right more) _ _ _ part three)
-      (by_neither (known s at room) _ _ _ (by_neither (both (ten s at room) more) _ _ _ part three) (apart sort unknown (found.Refused f) a)))
+      (by_neither (known s at room) _ _ _ (by_neither (both (ten s at room) more) _ _ _ part three) (apart sort unknown (Err f) a)))
       i)))
 
   -- a record of a kind of the card
-  of-card : (x : Found) (B : Type 0) → (of_event ≡ x → ⊥) → Iff (of_card ≡ x) ((known s at room ≡ true) × B) → Iff (pick event of_event of_card ≡ x) ((known s at room ≡ true) × B)
+  of-card : (x : Result Found Fault) (B : Type 0) → (of_event ≡ x → ⊥) → Iff (of_card ≡ x) ((known s at room ≡ true) × B) → Iff (pick event of_event of_card ≡ x) ((known s at room ≡ true) × B)
   of-card x B n i = then_exactly (by_left _ event _ _ _ n i) ((λ p. p.1), (λ q. (known_no_event kind q.0, q)))
 
   -- 2: there is a head, and "a kind not named", whatever its length says
-  pub refused_2 : Iff (found_at s at room over more ≡ found.Refused (fault.OnCard on_card.UnknownKind))
+  pub refused_2 : Iff (found_at s at room over more ≡ Err (fault.OnCard on_card.UnknownKind))
       ((ended s at room ≡ false) × ((short s at room ≡ false) × ((event ≡ false) × (known s at room ≡ false))))
   unfolding sort
   refused_2 =
-      let part = apart sort found.Part unknown (λ p. omega arith) in
+      let part = apart sort (Ok found.Part) unknown (λ p. omega arith) in
       let three = apart sort wrong unknown (λ p. omega arith) in
       gives unknown
-      (by_left _ (ended s at room) _ _ _ (by_neither more _ _ _ part (apart sort found.End unknown (λ p. omega arith)))
+      (by_left _ (ended s at room) _ _ _ (by_neither more _ _ _ part (apart sort (Ok found.End) unknown (λ p. omega arith)))
       (by_left _ (short s at room) _ _ _ (by_neither more _ _ _ part three)
       (by_either _ (whole s at room) _ _ _
       (by_left _ event _ _ _ (whole_event (fault.OnCard on_card.UnknownKind) (λ p. omega arith) (λ p. omega arith) (omega arith))
@@ -199,36 +199,36 @@ module _ (s : List ℕ) (at room : ℕ) (over more : Bool) where
       (by_left _ event _ _ _ (by_neither (both right more) _ _ _ part three) (by_else (known s at room) _ _ (by_neither (both (ten s at room) more) _ _ _ part three))))))
 
   -- 1: a whole record of a kind of the card and the right length, and no place for it
-  pub refused_1 : Iff (found_at s at room over more ≡ found.Refused (fault.OnCard on_card.TooMany))
+  pub refused_1 : Iff (found_at s at room over more ≡ Err (fault.OnCard on_card.TooMany))
       ((ended s at room ≡ false) × ((short s at room ≡ false) × ((whole s at room ≡ true) × ((known s at room ≡ true) × ((ten s at room ≡ true) × (ltb 0 room ≡ false))))))
   unfolding sort
   refused_1 =
-      let x = found.Refused (fault.OnCard on_card.TooMany) in
+      let x = (Err (fault.OnCard on_card.TooMany)) in
       of_whole (fault.OnCard on_card.TooMany) _ (λ p. omega arith) (λ p. omega arith) (omega arith)
       (of-card x _ (whole_event (fault.OnCard on_card.TooMany) (λ p. omega arith) (λ p. omega arith) (omega arith))
       (by_then _ (known s at room) _ _ _ (apart sort unknown x (λ p. omega arith))
       (by_then _ (ten s at room) _ _ _ (apart sort wrong x (λ p. omega arith))
-      (by_else (ltb 0 room) _ _ (by_neither over _ _ _ (apart sort (found.Refused fault.CardAfterEvent) x (λ p. omega arith)) (apart sort (chip_at s at) x (λ p. omega arith)))))))
+      (by_else (ltb 0 room) _ _ (by_neither over _ _ _ (apart sort (Err fault.CardAfterEvent) x (λ p. omega arith)) (apart sort (chip_at s at) x (λ p. omega arith)))))))
 
   -- 9: a record that the card could have held, with a place for it, where a record of kinds 16 to 19 came before
-  pub refused_9 : Iff (found_at s at room over more ≡ found.Refused fault.CardAfterEvent)
+  pub refused_9 : Iff (found_at s at room over more ≡ Err fault.CardAfterEvent)
       ((ended s at room ≡ false) × ((short s at room ≡ false) × ((whole s at room ≡ true) × ((known s at room ≡ true) × ((ten s at room ≡ true) × ((ltb 0 room ≡ true) × (over ≡ true)))))))
   unfolding sort
   refused_9 =
-      let x = found.Refused fault.CardAfterEvent in
+      let x = (Err fault.CardAfterEvent) in
       of_whole fault.CardAfterEvent _ (λ p. omega arith) (λ p. omega arith) (omega arith)
       (of-card x _ (whole_event fault.CardAfterEvent (λ p. omega arith) (λ p. omega arith) (omega arith))
       (by_then _ (known s at room) _ _ _ (apart sort unknown x (λ p. omega arith))
       (by_then _ (ten s at room) _ _ _ (apart sort wrong x (λ p. omega arith))
-      (by_then _ (ltb 0 room) _ _ _ (apart sort (found.Refused (fault.OnCard on_card.TooMany)) x (λ p. omega arith))
+      (by_then _ (ltb 0 room) _ _ _ (apart sort (Err (fault.OnCard on_card.TooMany)) x (λ p. omega arith))
       (by_first over _ _ (apart sort (chip_at s at) x (λ p. omega arith)))))))
 
   -- 10: a whole run of slots of the length that its count asks, one of whose unused bits is not 0
-  pub refused_10 : Iff (found_at s at room over more ≡ found.Refused fault.UnusedBits)
+  pub refused_10 : Iff (found_at s at room over more ≡ Err fault.UnusedBits)
       ((ended s at room ≡ false) × ((short s at room ≡ false) × ((whole s at room ≡ true) × ((run ≡ true) × ((asked ≡ true) × (clear ≡ false))))))
   unfolding sort
   refused_10 =
-      let x = found.Refused fault.UnusedBits in
+      let x = (Err fault.UnusedBits) in
       of_whole fault.UnusedBits _ (λ p. omega arith) (λ p. omega arith) (omega arith)
       (then_exactly
       (by_then _ event _ _ _
@@ -249,13 +249,13 @@ module _ (s : List ℕ) (at room : ℕ) (over more : Bool) where
       (pick event (not (both right more)) (pick (known s at room) (not (both (ten s at room) more)) false)))
 
   -- 3: there is a record, and a fault of its length
-  pub refused_3 : Iff (found_at s at room over more ≡ found.Refused (fault.OnCard on_card.WrongLength)) ((ended s at room ≡ false) × (length_fault ≡ true))
+  pub refused_3 : Iff (found_at s at room over more ≡ Err (fault.OnCard on_card.WrongLength)) ((ended s at room ≡ false) × (length_fault ≡ true))
   unfolding sort
   refused_3 =
-      let part = apart sort found.Part wrong (λ p. omega arith) in
+      let part = apart sort (Ok found.Part) wrong (λ p. omega arith) in
       let two = never (apart sort unknown wrong (λ p. omega arith)) in
       gives wrong
-      (by_left _ (ended s at room) _ _ _ (by_neither more _ _ _ part (apart sort found.End wrong (λ p. omega arith)))
+      (by_left _ (ended s at room) _ _ _ (by_neither more _ _ _ part (apart sort (Ok found.End) wrong (λ p. omega arith)))
       (by_tests (short s at room) _ _ _ _ _ (fails more _ _ part)
       (by_tests (whole s at room) _ _ _ _ _
       (by_tests event _ _ _ _ _

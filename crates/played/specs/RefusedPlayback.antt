@@ -1,5 +1,5 @@
 -- Demand 1 for a whole recording, document 02's own refusals: "9, a card record after one of kinds 16 to 19; 10, a nonzero unused bit".
-use Rattle.std.specs.Prelude.{ℕ, ◌-◌, true, false, List, ◌≡◌, refl, length}
+use Rattle.std.specs.Prelude.{ℕ, ◌-◌, true, false, List, ◌≡◌, refl, length, Err}
 use Rattle.std.proofs.Common.{arith, true≢false, ◌∙◌, ap, sym, subst, leb-false, ltb-false}
 use Rattle.base.specs.Exactly.{Iff}
 use Rattle.line.specs.Attached.{Attached}
@@ -16,7 +16,6 @@ use Rattle.card.specs.declared.Fault.TheVariants as on_card
 use Rattle.recording.specs.declared.Fault.{Fault}
 use Rattle.recording.specs.declared.Fault.TheVariants as fault
 use Rattle.recording.specs.declared.Record.{Record}
-use Rattle.recording.specs.declared.Found.TheVariants as found
 use Rattle.played.specs.LineRefusals.{RefusalFor, record_refusal}
 use Rattle.played.specs.Refused.{slots_event, refused_9, refused_10}
 use Rattle.played.specs.Reached.{Reached, Faulty, in_card, in_record, in_events, playback_refused}
@@ -55,7 +54,7 @@ fault_10 (fault.OnLine r) e = absurd ((other_number r).1 e)
 pub record RefusedRecord (s : List ℕ) (f : Fault) (p : ℕ) : Type 0 where
   pub line : Attached
   pub reached : Reached s line p
-  pub fault : found_at s p (room_for line.count) true false ≡ found.Refused f
+  pub fault : found_at s p (room_for line.count) true false ≡ Err f
 
 module _ (s : List ℕ) (p : ℕ) where
   -- THEOREM: playback ends by 9 exactly when it reaches a card record after one of kinds 16 to 19 (as refused-9 says)
@@ -64,8 +63,8 @@ module _ (s : List ℕ) (p : ℕ) where
     where
       by_fault : Faulty s 9 p → RefusedRecord s fault.CardAfterEvent p
       by_fault (in_card t f h n e q) =
-          absurd (true≢false (sym ((refused_9 s p (room_for t.n) false false).0 (e ∙ ap (λ (g : Fault). found.Refused g) (fault_9 f q))).1.1.1.1.1.1))
-      by_fault (in_record l f h e q) = record { line = l; reached = h; fault = e ∙ ap (λ (g : Fault). found.Refused g) (fault_9 f q) }
+          absurd (true≢false (sym ((refused_9 s p (room_for t.n) false false).0 (e ∙ ap (λ (g : Fault). (Err g)) (fault_9 f q))).1.1.1.1.1.1))
+      by_fault (in_record l f h e q) = record { line = l; reached = h; fault = e ∙ ap (λ (g : Fault). (Err g)) (fault_9 f q) }
       by_fault (in_events l x next h e q) = let n = line_number s x l 9 q in absurd ((other_number n.0).0 n.1)
 
   -- THEOREM: and by 10 exactly when it reaches a run with a nonzero unused bit (as refused-10 says)
@@ -74,9 +73,9 @@ module _ (s : List ℕ) (p : ℕ) where
     where
       by_fault : Faulty s 10 p → RefusedRecord s fault.UnusedBits p
       by_fault (in_card t f h n e q) =
-          let c = (refused_10 s p (room_for t.n) false false).0 (e ∙ ap (λ (g : Fault). found.Refused g) (fault_10 f q)) in
+          let c = (refused_10 s p (room_for t.n) false false).0 (e ∙ ap (λ (g : Fault). (Err g)) (fault_10 f q)) in
           let a = leb-false (length s) p c.0 in
           let b = ltb-false (length s - p) 4 c.1.0 in
           absurd (true≢false (sym (starts_by_kind s p (omega arith) ∙ slots_event _ c.1.1.1.0) ∙ n))
-      by_fault (in_record l f h e q) = record { line = l; reached = h; fault = e ∙ ap (λ (g : Fault). found.Refused g) (fault_10 f q) }
+      by_fault (in_record l f h e q) = record { line = l; reached = h; fault = e ∙ ap (λ (g : Fault). (Err g)) (fault_10 f q) }
       by_fault (in_events l x next h e q) = let n = line_number s x l 10 q in absurd ((other_number n.0).1 n.1)

@@ -1,7 +1,7 @@
 -- Laws: playing and reading all that is there, though more may come, and going on with the rest where that stopped, is playing and reading with the rest.
 use Prim.Native.Nat.{ℕ, zero, suc, ◌+◌, ◌-◌, ◌<◌, ◌≤◌}
 use Rattle.std.proofs.Common.{arith, ◌∙◌, sym, length-drop, leb-true, leb-false}
-use Rattle.std.specs.Prelude.{Bool, ◌≡◌, leb, length, take, drop}
+use Rattle.std.specs.Prelude.{Bool, ◌≡◌, leb, length, take, drop, Result, Ok, Err}
 use Rattle.std.proofs.Math.Bool.{true, false}
 use mathlib.Core.List.{List, ◌++◌, append_assoc}
 use Rattle.std.proofs.Math.Path.{refl, ap}
@@ -12,6 +12,7 @@ use Rattle.chip.specs.Chip.{set_up_chip}
 use Rattle.line.specs.Attached.{Attached}
 use Rattle.line.specs.Tables.{joined}
 use Rattle.line.specs.declared.Table.{Table}
+use Rattle.recording.specs.declared.Fault.{Fault}
 use Rattle.recording.specs.Reading.{found_at, starts_event}
 use Rattle.recording.specs.There.{found_awaited, starts_not}
 use Rattle.recording.specs.Cards.{room_for, cards_read, cards_on, cards_from, cards_of}
@@ -67,10 +68,10 @@ module _ (more : Bool) (s t : List ℕ) where
   -- by what stands at an offset, where playing resumes after each record
   module _ (at : ℕ) (l : Attached) (h : at ≤ length s) (on on' : ℕ → Attached → Played)
       (e : (next : ℕ) (u : Attached) → at < next → next ≤ length s → Resumed (on next u) (on' next u)) (q : Played) (w : q ≡ further at (play_all more (drop at s ++ t) l)) where
-    play_on_resumed : (x y : Found) → q ≡ play_on on' (s ++ t) at l y → Stays x y → Sound s at x → Resumed (play_on on s at l x) q
-    play_on_resumed found.End y g f i = absurd f
-    play_on_resumed found.Part y g f i = (h, w)
-    play_on_resumed (found.Record r next) y g f i =
+    play_on_resumed : (x y : Result Found Fault) → q ≡ play_on on' (s ++ t) at l y → Stays x y → Sound s at x → Resumed (play_on on s at l x) q
+    play_on_resumed (Ok found.End) y g f i = absurd f
+    play_on_resumed (Ok found.Part) y g f i = (h, w)
+    play_on_resumed (Ok (found.Record r next)) y g f i =
         rw (g ∙ ap (play_on on' (s ++ t) at l) f)
         (rw (step_stays r l i.fits)
         (by_said (record_step s r l).said (record_step s r l).line))
@@ -78,7 +79,7 @@ module _ (more : Bool) (s t : List ℕ) where
         by_said : (x : Said) (u : Attached) → Resumed (on_step on at next x u) (on_step on' at next x u)
         by_said (bits bs) u = after_resumed bs (on next u) (on' next u) (e next u (let a = i.further in omega arith) i.within)
         by_said (none n) u = refl
-    play_on_resumed (found.Refused r) y g f i = g ∙ ap (play_on on' (s ++ t) at l) f
+    play_on_resumed (Err r) y g f i = g ∙ ap (play_on on' (s ++ t) at l) f
 
   -- so it does from any offset on
   pub play_resumed : (k j at : ℕ) (l : Attached) → at ≤ length s → length s < at + k → length (s ++ t) < at + j → Resumed (play_from k true s at l) (play_from j more (s ++ t) at l)
@@ -95,9 +96,9 @@ module _ (more : Bool) (s t : List ℕ) where
   -- reading a card likewise; a record of an event ends it also with t
   abbrev pub CardsResume : CardsEnding → ℕ → Table → CardsRead → Type 0
   CardsResume cards.Events at u q = (at ≤ length s) × (q ≡ cards_read cards.Events at u)
-  CardsResume (cards.Stopped ending.End) at u q = ⊥
-  CardsResume (cards.Stopped ending.Part) at u q = (at ≤ length s) × (q ≡ further_cards at (cards_of more (drop at s ++ t) u))
-  CardsResume (cards.Stopped (ending.Refused f)) at u q = q ≡ cards_read (cards.Stopped (ending.Refused f)) at u
+  CardsResume (cards.Stopped (Ok ending.End)) at u q = ⊥
+  CardsResume (cards.Stopped (Ok ending.Part)) at u q = (at ≤ length s) × (q ≡ further_cards at (cards_of more (drop at s ++ t) u))
+  CardsResume (cards.Stopped (Err f)) at u q = q ≡ cards_read (cards.Stopped (Err f)) at u
 
   abbrev pub CardsResumed : CardsRead → CardsRead → Type 0
   CardsResumed c q = CardsResume c.ending c.at c.table q
@@ -105,17 +106,17 @@ module _ (more : Bool) (s t : List ℕ) where
   -- by what stands at an offset
   cards_on_resumed : (at : ℕ) (u : Table) → at ≤ length s → (on on' : ℕ → Table → CardsRead)
       → ((next : ℕ) (v : Table) → at < next → next ≤ length s → CardsResumed (on next v) (on' next v)) → (q : CardsRead)
-      → q ≡ further_cards at (cards_of more (drop at s ++ t) u) → (x y : Found) → q ≡ cards_on on' at u y → Stays x y → Sound s at x → CardsResumed (cards_on on at u x) q
-  cards_on_resumed at u h on on' e q w found.End y g f i = absurd f
-  cards_on_resumed at u h on on' e q w found.Part y g f i = (h, w)
-  cards_on_resumed at u h on on' e q w (found.Record (record_of.Chip code kind) next) y g f i = rw (g ∙ ap (cards_on on' at u) f) (e next (joined (set_up_chip code kind) u) (let a = i.further in omega arith) i.within)
-  cards_on_resumed at u h on on' e q w (found.Record (record_of.Slots count from to) next) y g f i = (h, g ∙ ap (cards_on on' at u) f)
-  cards_on_resumed at u h on on' e q w (found.Record (record_of.Event v) next) y g f i = (h, g ∙ ap (cards_on on' at u) f)
-  cards_on_resumed at u h on on' e q w (found.Refused r) y g f i = g ∙ ap (cards_on on' at u) f
+      → q ≡ further_cards at (cards_of more (drop at s ++ t) u) → (x y : Result Found Fault) → q ≡ cards_on on' at u y → Stays x y → Sound s at x → CardsResumed (cards_on on at u x) q
+  cards_on_resumed at u h on on' e q w (Ok found.End) y g f i = absurd f
+  cards_on_resumed at u h on on' e q w (Ok found.Part) y g f i = (h, w)
+  cards_on_resumed at u h on on' e q w (Ok (found.Record (record_of.Chip code kind) next)) y g f i = rw (g ∙ ap (cards_on on' at u) f) (e next (joined (set_up_chip code kind) u) (let a = i.further in omega arith) i.within)
+  cards_on_resumed at u h on on' e q w (Ok (found.Record (record_of.Slots count from to) next)) y g f i = (h, g ∙ ap (cards_on on' at u) f)
+  cards_on_resumed at u h on on' e q w (Ok (found.Record (record_of.Event v) next)) y g f i = (h, g ∙ ap (cards_on on' at u) f)
+  cards_on_resumed at u h on on' e q w (Err r) y g f i = g ∙ ap (cards_on on' at u) f
 
   -- before that, by whether an event starts there
-  cards_by_kind : (at : ℕ) (u : Table) → (on on' : ℕ → Table → CardsRead) (x y : Found) (q : CardsRead) → q ≡ pick (starts_event (s ++ t) at) (cards_read cards.Events at u) (cards_on on' at u y)
-      → (length s < at + 4 → x ≡ found.Part) → (at ≤ length s) × (q ≡ further_cards at (cards_of more (drop at s ++ t) u)) → (q ≡ cards_on on' at u y → CardsResumed (cards_on on at u x) q)
+  cards_by_kind : (at : ℕ) (u : Table) → (on on' : ℕ → Table → CardsRead) (x y : Result Found Fault) (q : CardsRead) → q ≡ pick (starts_event (s ++ t) at) (cards_read cards.Events at u) (cards_on on' at u y)
+      → (length s < at + 4 → x ≡ Ok found.Part) → (at ≤ length s) × (q ≡ further_cards at (cards_of more (drop at s ++ t) u)) → (q ≡ cards_on on' at u y → CardsResumed (cards_on on at u x) q)
       → CardsResumed (pick (starts_event s at) (cards_read cards.Events at u) (cards_on on at u x)) q
   cards_by_kind at u on on' x y q g few w f = by_head (leb (at + 4) (length s)) refl
     where

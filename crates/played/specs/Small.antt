@@ -1,5 +1,5 @@
 -- Laws: no record that can be taken is longer than a run of 65,535 slots, so of a record of which more may come fewer bytes are there.
-use Rattle.std.specs.Prelude.{ℕ, ◌+◌, ◌-◌, ◌<◌, ◌≤◌, Bool, List, ◌≡◌}
+use Rattle.std.specs.Prelude.{ℕ, ◌+◌, ◌-◌, ◌<◌, ◌≤◌, Bool, List, ◌≡◌, Result, Ok, Err}
 use native.Mathlib.Omega.{arith}
 use Rattle.std.proofs.Math.Bool.{true}
 use Rattle.std.proofs.Math.ListN.{length}
@@ -7,6 +7,7 @@ use borrow.Author.Tests.{ltb-true, eqb-true}
 use Rattle.base.specs.Both.{both_holds}
 use Rattle.base.specs.Pick.{pick_if, pick_both}
 use Rattle.histories.specs.Below.{Bytes, byte_at}
+use Rattle.recording.specs.declared.Fault.{Fault}
 use Rattle.recording.specs.Reading.{length_asked, may_be_right, found_at}
 use Rattle.recording.specs.There.{size_at, kind_at}
 use Rattle.recording.specs.Ways.{Awaited, of_head, of-event, of-card, found_has}
@@ -26,11 +27,11 @@ asked_small s b body kind =
     pick_both (λ (n : ℕ). n + 2 ≤ longest) _ _ _ (omega arith) (pick_both (λ (n : ℕ). n + 2 ≤ longest) _ _ _ (omega arith) (omega arith))
 
 -- where a part is found, fewer bytes are there
-abbrev pub Small : List ℕ → ℕ → Found → Type 0
-Small s at found.End = Unit
-Small s at found.Part = length s < at + longest
-Small s at (found.Record r next) = Unit
-Small s at (found.Refused f) = Unit
+abbrev pub Small : List ℕ → ℕ → Result Found Fault → Type 0
+Small s at (Ok found.End) = Unit
+Small s at (Ok found.Part) = length s < at + longest
+Small s at (Ok (found.Record r next)) = Unit
+Small s at (Err f) = Unit
 
 module _ (s : List ℕ) (b : Bytes s) (at : ℕ) where
   -- what is there where more of a record is awaited
@@ -51,5 +52,5 @@ module _ (s : List ℕ) (b : Bytes s) (at : ℕ) where
       found_has (Small s at) s at room over more (λ e. tt) awaited_small (λ f. tt) (λ w k t r. tt) (λ w k t u. tt) (λ w t. tt)
 
   -- a part
-  pub part_small : (room : ℕ) (over more : Bool) → found_at s at room over more ≡ found.Part → length s < at + longest
+  pub part_small : (room : ℕ) (over more : Bool) → found_at s at room over more ≡ Ok found.Part → length s < at + longest
   part_small room over more e = rw e at (found_small room over more)

@@ -1,5 +1,5 @@
 -- A recording handed over in pieces: at every stage the line that goes on stands well.
-use Rattle.std.specs.Prelude.{ℕ, suc, Bool, List, ◌++◌, length, take, drop}
+use Rattle.std.specs.Prelude.{ℕ, suc, Bool, List, ◌++◌, length, take, drop, Ok, Err}
 use Rattle.line.specs.Attached.{Attached, Stands}
 use Rattle.line.specs.declared.Table.{Table}
 use Rattle.recording.specs.Cards.{room_for, cards_of}
@@ -34,9 +34,9 @@ card_stands : (more : Bool) (s : List ℕ) (n : ℕ) (bs : List Bool) (at : ℕ)
 card_stands more s n bs at t cards.Events c =
     let p = play_all more (drop at s) (set_up_line t) in
     after_stands p.ends p.line (played_stands more (drop at s) (set_up_line t) (table_stands t c))
-card_stands more s n bs at t (cards.Stopped ending.End) c = tt
-card_stands more s n bs at t (cards.Stopped ending.Part) c = c
-card_stands more s n bs at t (cards.Stopped (ending.Refused f)) c = tt
+card_stands more s n bs at t (cards.Stopped (Ok ending.End)) c = tt
+card_stands more s n bs at t (cards.Stopped (Ok ending.Part)) c = c
+card_stands more s n bs at t (cards.Stopped (Err f)) c = tt
 
 bytes-stand : (more : Bool) (s : List ℕ) (n : ℕ) (bs : List Bool) (g : Stage) → StageStands g → StageStands (hand_bytes more s n bs g).stage
 bytes-stand more s n bs (carding t) w = let c = cards_of more s t in card_stands more s n bs c.at c.table c.ending (cards_keep more s t w)

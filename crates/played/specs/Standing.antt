@@ -1,5 +1,5 @@
 -- The line that a recording's card sets up stands well, however much of the card was read: so no event of a recording is refused by 8 or 5.
-use Rattle.std.specs.Prelude.{ℕ, zero, suc, ◌+◌, ◌<◌, ◌≤◌, Bool, true, false, List, [], ◌∷◌, ◌++◌, ◌≡◌, refl, leb, ltb, length, take, set}
+use Rattle.std.specs.Prelude.{ℕ, zero, suc, ◌+◌, ◌<◌, ◌≤◌, Bool, true, false, List, [], ◌∷◌, ◌++◌, ◌≡◌, refl, leb, ltb, length, take, set, Result, Ok, Err}
 use Rattle.std.proofs.Common.{add-one, arith, ◌∙◌, ap, length-set, take-suc-set, le-leb, lt-ltb, eq-eqb}
 use Rattle.std.proofs.lemmas.List.{length-replicate}
 use Rattle.base.specs.Pick.{pick_true, pick_both}
@@ -12,6 +12,7 @@ use Rattle.line.specs.Event.{all_in_range, table_in_range, sizes_fit}
 use Rattle.line.specs.Layout.{images_size, pads_size, images_asked, pads_asked}
 use Rattle.line.specs.Tables.{blank_table, joined}
 use Rattle.line.specs.declared.Table.{Table}
+use Rattle.recording.specs.declared.Fault.{Fault}
 use Rattle.recording.specs.Reading.{starts_event, found_at}
 use Rattle.recording.specs.Ways.{found_has}
 use Rattle.recording.specs.Cards.{room_for, cards_on, cards_from, cards_of}
@@ -67,13 +68,13 @@ join_keeps c t r k g =
 -- reading ------------------------------------------------------------------------------------------------
 
 -- a chip that is found in a recording is of a known kind, and there is room for it
-abbrev pub FoundFits : ℕ → Found → Type 0
-FoundFits room found.End = Unit
-FoundFits room found.Part = Unit
-FoundFits room (found.Record (record_of.Chip code kind) next) = (known_kind kind ≡ true) × (0 < room)
-FoundFits room (found.Record (record_of.Slots count from to) next) = Unit
-FoundFits room (found.Record (record_of.Event e) next) = Unit
-FoundFits room (found.Refused f) = Unit
+abbrev pub FoundFits : ℕ → Result Found Fault → Type 0
+FoundFits room (Ok found.End) = Unit
+FoundFits room (Ok found.Part) = Unit
+FoundFits room (Ok (found.Record (record_of.Chip code kind) next)) = (known_kind kind ≡ true) × (0 < room)
+FoundFits room (Ok (found.Record (record_of.Slots count from to) next)) = Unit
+FoundFits room (Ok (found.Record (record_of.Event e) next)) = Unit
+FoundFits room (Err f) = Unit
 
 pub found_fits : (s : List ℕ) (at room : ℕ) (over more : Bool) → FoundFits room (found_at s at room over more)
 found_fits s at room over more =
@@ -81,14 +82,14 @@ found_fits s at room over more =
 
 -- reading keeps the table so, whatever the bytes are; a refused card leaves the table of no chips
 on_found : (go : ℕ → Table → CardsRead) (at : ℕ) (t : Table) → CardTable t → ((next : ℕ) (u : Table) → CardTable u → CardTable (go next u).table)
-    → (f : Found) → FoundFits (room_for t.n) f → CardTable (cards_on go at t f).table
-on_found go at t g on found.End f = g
-on_found go at t g on found.Part f = g
-on_found go at t g on (found.Record (record_of.Chip code kind) next) (k, r) =
+    → (f : Result Found Fault) → FoundFits (room_for t.n) f → CardTable (cards_on go at t f).table
+on_found go at t g on (Ok found.End) f = g
+on_found go at t g on (Ok found.Part) f = g
+on_found go at t g on (Ok (found.Record (record_of.Chip code kind) next)) (k, r) =
     on next (joined (set_up_chip code kind) t) (join_keeps (set_up_chip code kind) t (omega arith) (set_up_range code kind k) g)
-on_found go at t g on (found.Record (record_of.Slots count from to) next) f = g
-on_found go at t g on (found.Record (record_of.Event e) next) f = g
-on_found go at t g on (found.Refused x) f = blank-table
+on_found go at t g on (Ok (found.Record (record_of.Slots count from to) next)) f = g
+on_found go at t g on (Ok (found.Record (record_of.Event e) next)) f = g
+on_found go at t g on (Err x) f = blank-table
 
 cards_from_keep : (k : ℕ) (more : Bool) (s : List ℕ) (at : ℕ) (t : Table) → CardTable t → CardTable (cards_from k more s at t).table
 unfolding cards_from

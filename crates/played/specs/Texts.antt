@@ -2,13 +2,14 @@
 use Prim.Native.Char.{code as letter}
 use Prim.Native.Nat.{ℕ, zero, suc, ◌+◌, ◌*◌, ◌≤◌}
 use native.Mathlib.Omega.{arith}
-use Rattle.std.specs.Prelude.{Bool, false, List, [], ◌∷◌, ◌++◌, map, ◌≡◌, refl, eqb, length, take, drop, set}
+use Rattle.std.specs.Prelude.{Bool, false, List, [], ◌∷◌, ◌++◌, map, ◌≡◌, refl, eqb, length, take, drop, set, Result, Ok, Err}
 use Rattle.std.proofs.Math.Bool.{true}
 use Rattle.std.proofs.Common.{◌∙◌, ap, sym, length-append, take_at, drop_at}
 use Rattle.std.proofs.lemmas.List.{length-map}
 use Rattle.std.proofs.lemmas.List.Edits.{sets, sets-eq}
 use Rattle.base.specs.Pick.{pick}
 use Rattle.line.specs.Attached.{Attached}
+use Rattle.recording.specs.declared.Fault.{Fault}
 use Rattle.recording.specs.Reading.{found_at}
 use Rattle.recording.specs.Cards.{room_for}
 use Rattle.recording.specs.Playing.{Said, bits, none, record_step, Played, on_step, play_on, play_from, play_all, digit, put_digits}
@@ -22,10 +23,10 @@ use Rattle.recording.specs.declared.Found.TheVariants as found
 module _ (more : Bool) (s : List ℕ) where
   on_few : (at : ℕ) (l : Attached) (go : ℕ → Attached → Played) → at ≤ length s
       → ((next : ℕ) (m : Attached) → next ≤ length s → length (go next m).answers + 8 * next ≤ 8 * length s)
-      → (x : Found) → Sound s at x → length (play_on go s at l x).answers + 8 * at ≤ 8 * length s
-  on_few at l go h on found.End i = omega arith
-  on_few at l go h on found.Part i = omega arith
-  on_few at l go h on (found.Record r next) i = by_said (record_step s r l).said (record_step s r l).line (said_few s r l)
+      → (x : Result Found Fault) → Sound s at x → length (play_on go s at l x).answers + 8 * at ≤ 8 * length s
+  on_few at l go h on (Ok found.End) i = omega arith
+  on_few at l go h on (Ok found.Part) i = omega arith
+  on_few at l go h on (Ok (found.Record r next)) i = by_said (record_step s r l).said (record_step s r l).line (said_few s r l)
     where
       by_said : (x : Said) (m : Attached) → length (bits_said x) ≤ answers_most r → length (on_step go at next x m).answers + 8 * at ≤ 8 * length s
       by_said (bits bs) m f =
@@ -34,7 +35,7 @@ module _ (more : Bool) (s : List ℕ) where
           let c = i.few in
           omega arith
       by_said (none n) m f = omega arith
-  on_few at l go h on (found.Refused f) i = omega arith
+  on_few at l go h on (Err f) i = omega arith
 
   from_few : (k at : ℕ) (l : Attached) → at ≤ length s → length (play_from k more s at l).answers + 8 * at ≤ 8 * length s
   unfolding play_from

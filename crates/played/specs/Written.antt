@@ -1,6 +1,6 @@
 -- A run of slots written as a record of kind 16: "a 2-byte count, then host bits packed least significant first, unused bits 0"; and what
 -- its bytes are read as.
-use Rattle.std.specs.Prelude.{ℕ, ◌+◌, ◌-◌, ◌*◌, ◌/◌, ◌%◌, ◌≤◌, Bool, true, List, [], ◌∷◌, ◌++◌, ◌≡◌, eqb, ltb, leb, length, take, drop}
+use Rattle.std.specs.Prelude.{ℕ, ◌+◌, ◌-◌, ◌*◌, ◌/◌, ◌%◌, ◌≤◌, Bool, true, List, [], ◌∷◌, ◌++◌, ◌≡◌, eqb, ltb, leb, length, take, drop, Ok, Err}
 use Rattle.std.proofs.Common.{arith, ◌∙◌, sym, length-append, take_at, eq-eqb, le-ltb, le-leb}
 use Rattle.std.proofs.Math.Path.{refl, ap}
 use Rattle.std.proofs.lemmas.Bool.{lt-leb}
@@ -61,20 +61,20 @@ module _ (hs : List Bool) (few : length hs ≤ 65535) (later : List ℕ) where
       take_at (packed hs) later (slots_size hs - 6) (bytes_length (bytes_asked (length hs)) hs ∙ e)
 
   -- it is a run of as many slots
-  slots_written : slots_record whole 4 (slots_size hs) ≡ found.Record (record_of.Slots (length hs) 6 (slots_size hs)) (slots_size hs)
+  slots_written : slots_record whole 4 (slots_size hs) ≡ Ok (found.Record (record_of.Slots (length hs) 6 (slots_size hs)) (slots_size hs))
   unfolding slots_record
   slots_written =
-      ap (λ (n : ℕ). pick (unused_clear n (take (slots_size hs - 6) (drop 6 whole))) (found.Record (record_of.Slots n 6 (slots_size hs)) (slots_size hs)) (found.Refused UnusedBits)) count_back
+      ap (λ (n : ℕ). pick (unused_clear n (take (slots_size hs - 6) (drop 6 whole))) (Ok (found.Record (record_of.Slots n 6 (slots_size hs)) (slots_size hs))) (Err UnusedBits)) count_back
       ∙ pick_true _ _ _ (ap (unused_clear (length hs)) bits_written ∙ unused-clear (bytes_asked (length hs)) hs (omega arith))
 
-  event_written : event_record whole (4 + bytes_asked (length hs)) 16 4 (slots_size hs) ≡ found.Record (record_of.Slots (length hs) 6 (slots_size hs)) (slots_size hs)
+  event_written : event_record whole (4 + bytes_asked (length hs)) 16 4 (slots_size hs) ≡ Ok (found.Record (record_of.Slots (length hs) 6 (slots_size hs)) (slots_size hs))
   unfolding event_record length_asked
   event_written =
       pick_true _ _ _ (eq-eqb _ _ (sym (pick_true (eqb 16 16) _ _ refl ∙ ap (λ (n : ℕ). 4 + bytes_asked n) count_back)))
       ∙ pick_true (eqb 16 16) _ _ refl ∙ slots_written
 
   -- at the beginning of the bytes stands the record, whatever comes after it
-  pub found_written : (room : ℕ) (over more : Bool) → found_at whole 0 room over more ≡ found.Record (record_of.Slots (length hs) 6 (slots_size hs)) (slots_size hs)
+  pub found_written : (room : ℕ) (over more : Bool) → found_at whole 0 room over more ≡ Ok (found.Record (record_of.Slots (length hs) 6 (slots_size hs)) (slots_size hs))
   unfolding found_at whole_record is_event both
   found_written room over more =
       ap (found_by whole 0 room over more) head_written

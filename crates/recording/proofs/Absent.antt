@@ -7,20 +7,8 @@ use mathlib.Core.Path.{◌≡◌, ap}
 use denote.Enum.Declared.{tag_of}
 use types.Run.{OneOf}
 use Rattle.recording.specs.declared.Record.{Record}
-use Rattle.recording.specs.declared.Found.{Found}
-use Rattle.recording.specs.declared.Found.TheVariants as found
 use Rattle.recording.specs.declared.Record.TheVariants as record_of
-use Rattle.recording.specs.contracts.Found as found_type
 use Rattle.recording.specs.contracts.Record as record-type
-
--- a variant other than that of a record
-pub no_record : (f : Found) → OneOf (0 ∷ 1 ∷ 3 ∷ []) (tag_of found_type.the_type f) → (r : Record) (next : ℕ) → f ≡ found.Record r next → ⊥
-no_record f k r next e = other _ k (ap (tag_of found_type.the_type) e)
-  where
-    other : (x : ℕ) → OneOf (0 ∷ 1 ∷ 3 ∷ []) x → x ≡ 2 → ⊥
-    other x (inl a) b = omega arith
-    other x (inr (inl a)) b = omega arith
-    other x (inr (inr a)) b = omega arith
 
 -- a variant other than that of a run of slots
 pub no_slots : (r : Record) → OneOf (0 ∷ 2 ∷ []) (tag_of record-type.the_type r) → (count from to : ℕ) → r ≡ record_of.Slots count from to → ⊥

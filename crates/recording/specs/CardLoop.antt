@@ -1,7 +1,7 @@
 -- Laws: the loop that reads the card of a recording.
 use Prim.Native.Nat.{ℕ, suc, ◌+◌, ◌-◌, ◌<◌, ◌≤◌}
 use native.Mathlib.Omega.{arith}
-use Rattle.std.specs.Prelude.{Bool, true, false, List, ◌≡◌, refl, length}
+use Rattle.std.specs.Prelude.{Bool, true, false, List, ◌≡◌, refl, length, Result, Ok}
 use Rattle.std.proofs.Common.{◌∙◌, sym}
 use Rattle.std.proofs.Math.Path.{ap}
 use Rattle.base.specs.Pick.{pick, pick_true, pick_false}
@@ -9,24 +9,16 @@ use Rattle.chip.specs.Chip.{set_up_chip}
 use Rattle.chip.specs.declared.Chip.{Chip}
 use Rattle.line.specs.Tables.{joined}
 use Rattle.line.specs.declared.Table.{Table}
+use Rattle.recording.specs.declared.Fault.{Fault}
 use Rattle.recording.specs.Reading.{found_at, starts_event}
-use Rattle.recording.specs.Cards.{room_for, cards_read, stopped_by, table_by, stopped_at, on_card, cards_on, cards_from, cards_of}
+use Rattle.recording.specs.Cards.{room_for, cards_read, on_card, cards_on, cards_from, cards_of}
 use Rattle.recording.specs.Next.{Lies, found_lies}
 use Rattle.recording.specs.declared.Record.{Record}
 use Rattle.recording.specs.declared.Record.TheVariants as record_of
 use Rattle.recording.specs.declared.Found.{Found}
 use Rattle.recording.specs.declared.Found.TheVariants as found
-use Rattle.recording.specs.declared.Ending.{Ending}
 use Rattle.recording.specs.declared.CardsEnding.TheVariants as cards
 use Rattle.recording.specs.declared.CardsRead.{CardsRead}
-
--- where no record is found, the card stops
-stops : (go : ℕ → Table → CardsRead) (at : ℕ) (t : Table) (f : Found) → ((r : Record) (next : ℕ) → f ≡ found.Record r next → ⊥)
-    → cards_on go at t f ≡ stopped_at at t f
-stops go at t found.End none = refl
-stops go at t found.Part none = refl
-stops go at t (found.Record r next) none = absurd (none r next refl)
-stops go at t (found.Refused x) none = refl
 
 -- a record that is no chip ends the card
 ends : (go : ℕ → Table → CardsRead) (at : ℕ) (t : Table) (next : ℕ) (r : Record) → ((code kind : ℕ) → r ≡ record_of.Chip code kind → ⊥)
@@ -66,7 +58,7 @@ module _ (more : Bool) (s : List ℕ) (first : Table) (at : ℕ) (t : Table) (g 
     pub taking_event : event ≡ true → cards_read cards.Events at t ≡ cards_of more s first
     taking_event h = sym (pick_true (starts_event s at) _ _ (sym e ∙ h)) ∙ one_record
 
-    module _ (h : event ≡ false) (room : ℕ) (q : room ≡ room_for t.n) (f : Found) (d : f ≡ found_at s at room false more) where
+    module _ (h : event ≡ false) (room : ℕ) (q : room ≡ room_for t.n) (f : Result Found Fault) (d : f ≡ found_at s at room false more) where
       -- what is found says how reading goes on
       by_found : cards_on onward at t f ≡ cards_of more s first
       by_found =
@@ -75,11 +67,10 @@ module _ (more : Bool) (s : List ℕ) (first : Table) (at : ℕ) (t : Table) (g 
           ∙ one_record
 
       -- no record can be taken
-      pub taking_stopped : (x : Ending) (u : Table) → ((r : Record) (next : ℕ) → f ≡ found.Record r next → ⊥) → x ≡ stopped_by f → u ≡ table_by f t
-          → cards_read (cards.Stopped x) at u ≡ cards_of more s first
-      taking_stopped x u none a b = (λ j. cards_read (cards.Stopped (a j)) at (b j)) ∙ sym (stops onward at t f none) ∙ by_found
+      pub taking_stopped : (p : Result Found Fault) (x : CardsRead) → f ≡ p → ((go : ℕ → Table → CardsRead) → x ≡ cards_on go at t p) → x ≡ cards_of more s first
+      taking_stopped p x e h = h onward ∙ ap (cards_on onward at t) (sym e) ∙ by_found
 
-      module _ (r : Record) (next : ℕ) (k : f ≡ found.Record r next) where
+      module _ (r : Record) (next : ℕ) (k : f ≡ Ok (found.Record r next)) where
         by_record : on_card onward at t next r ≡ cards_of more s first
         by_record = ap (cards_on onward at t) (sym k) ∙ by_found
 

@@ -10,6 +10,7 @@ use Rattle.records.specs.declared.Head.{Head}
 use Rattle.records.specs.declared.Head.TheVariants as head
 use Rattle.card.specs.declared.Entry.{Entry}
 use Rattle.card.specs.declared.Fault.{Fault as CardFault}
+use Rattle.recording.specs.declared.Fault.{Fault}
 use Rattle.recording.specs.Reading.{length_asked, card_record, found_by, event_head}
 use Rattle.recording.specs.declared.Found.{Found}
 
@@ -54,7 +55,7 @@ kind_counted s body kind =
     (pick_both (λ (n : ℕ). 2 ≤ n) (eqb kind 19) 4 2 (omega arith) (omega arith))
 
 -- what stands at an offset, by the head that a match found there
-pub found-at : (s : List ℕ) (at room : ℕ) (over more : Bool) (q p : Head) (r : Found) → q ≡ p → r ≡ found_by s at room over more p → r ≡ found_by s at room over more q
+pub found-at : (s : List ℕ) (at room : ℕ) (over more : Bool) (q p : Head) (r : Result Found Fault) → q ≡ p → r ≡ found_by s at room over more p → r ≡ found_by s at room over more q
 found-at s at room over more = along (λ (k : Head). found_by s at room over more k)
 
 -- whether a record of one of kinds 16 to 19 starts there, likewise
@@ -62,5 +63,5 @@ pub event_at : (q p : Head) (r : Bool) → q ≡ p → r ≡ event_head p → r 
 event_at = along (λ (k : Head). event_head k)
 
 -- a card record, by what the card makes of it
-pub card_at : (over : Bool) (q p : Result (Option Entry) CardFault) (r : Found) → q ≡ p → r ≡ card_record over p → r ≡ card_record over q
+pub card_at : (over : Bool) (q p : Result (Option Entry) CardFault) (r : Result Found Fault) → q ≡ p → r ≡ card_record over p → r ≡ card_record over q
 card_at over = along (λ (k : Result (Option Entry) CardFault). card_record over k)

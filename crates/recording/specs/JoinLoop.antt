@@ -1,9 +1,10 @@
 -- Laws: the loops that put bits after others and gather runs of slots, and what is put on the line for a record.
-use Rattle.std.specs.Prelude.{ℕ, ◌+◌, ◌-◌, ◌*◌, ◌<◌, ◌≤◌, Bool, true, List, [], ◌∷◌, ◌++◌, ◌≡◌, refl, length, take, drop}
+use Rattle.std.specs.Prelude.{ℕ, ◌+◌, ◌-◌, ◌*◌, ◌<◌, ◌≤◌, Bool, true, List, [], ◌∷◌, ◌++◌, ◌≡◌, refl, length, take, drop, Result, Ok}
 use Rattle.std.proofs.Common.{arith, zero-add, append_assoc, append-nil, ◌∙◌, ap, sym, subst, take-append-drop, length-take-le}
 use Rattle.line.specs.Attached.{verdict_at}
 use Rattle.line.specs.Packing.{host_put, put_long, host_more, host_before}
 use Rattle.line.specs.Slots.{host_bits, bytes_asked, slot_bit, with_slot_bit}
+use Rattle.recording.specs.declared.Fault.{Fault}
 use Rattle.recording.specs.Reading.{found_at}
 use Rattle.recording.specs.Playing.{run_step, slots_step, record_step}
 use Rattle.recording.specs.Putting.{answers_most}
@@ -59,7 +60,7 @@ module _ (host₀ : List ℕ) (slots : ℕ) (bytes : List ℕ) (count : ℕ) (ho
 
 -- one run more after others
 row_more : {more : Bool} {s : List ℕ} {room at : ℕ} {bs : List Bool} {next : ℕ} → Row more s room at bs next
-    → (count from to end : ℕ) → found_at s next room true more ≡ found.Record (record_of.Slots count from to) end
+    → (count from to end : ℕ) → found_at s next room true more ≡ Ok (found.Record (record_of.Slots count from to) end)
     → Row more s room at (bs ++ host_bits count (take (to - from) (drop from s))) end
 row_more {more = more} {s = s} {room = room} (none k) count from to end e =
     subst (λ (x : List Bool). Row more s room k x end) (append-nil (host_bits count (take (to - from) (drop from s)))) (run k count from to end end [] e (none end))
@@ -74,10 +75,10 @@ gathered_start more s room at slots host h w =
     record { bits = []; row = none at; packed = sym (append-nil (host_bits slots host)); counted = omega arith; grown = omega arith; few = h; within = w; long = refl }
 
 module _ (more : Bool) (s : List ℕ) (room at slots : ℕ) (host : List ℕ) (all next : ℕ) (held : List ℕ) (g : GatheredTo more s room at slots host all next held)
-    (f : Found) (d : f ≡ found_at s next room true more) (r : Record) (end : ℕ) (k : f ≡ found.Record r end) (count from to : ℕ) (q : r ≡ record_of.Slots count from to) where
+    (f : Result Found Fault) (d : f ≡ found_at s next room true more) (r : Record) (end : ℕ) (k : f ≡ Ok (found.Record r end)) (count from to : ℕ) (q : r ≡ record_of.Slots count from to) where
   -- a run stands here
-  here : found_at s next room true more ≡ found.Record (record_of.Slots count from to) end
-  here = sym d ∙ k ∙ ap (λ (x : Record). found.Record x end) q
+  here : found_at s next room true more ≡ Ok (found.Record (record_of.Slots count from to) end)
+  here = sym d ∙ k ∙ ap (λ (x : Record). (Ok (found.Record x end))) q
 
   -- the run lies in the recording
   pub gathered_lies : Lies s next (record_of.Slots count from to) end

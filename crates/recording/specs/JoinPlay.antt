@@ -9,6 +9,7 @@ use Rattle.line.specs.Refusals.{well_judged}
 use Rattle.line.specs.Runs.{run_append, run_full}
 use Rattle.line.specs.Slots.{host_bits, Run, run_on}
 use Rattle.line.proofs.Standing.{line_length, put_back, again, judged_stands, run_stands, run_line}
+use Rattle.recording.specs.declared.Fault.{Fault}
 use Rattle.recording.specs.Reading.{found_at}
 use Rattle.recording.specs.Cards.{room_for}
 use Rattle.recording.specs.Playing.{bits, Step, step, run_step, slots_step, record_step, Played, played, after, on_step, play_on, play_from}
@@ -66,10 +67,10 @@ pub record Onward (more : Bool) (s : List ℕ) (at end : ℕ) (d : Step) (p : Pl
   pub goes : p ≡ on_step (λ n m. play_from (suc turns) more s n m) at end d.said d.line
 
 -- where a run is found, playing goes on after it
-first_run : (more : Bool) (s : List ℕ) (k count from to next : ℕ) (l : Attached) (turns : ℕ) → found_at s k (room_for l.count) true more ≡ found.Record (record_of.Slots count from to) next
+first_run : (more : Bool) (s : List ℕ) (k count from to next : ℕ) (l : Attached) (turns : ℕ) → found_at s k (room_for l.count) true more ≡ Ok (found.Record (record_of.Slots count from to) next)
     → play_from (suc turns) more s k l ≡ (let d = slots_step count (take (to - from) (drop from s)) l in on_step (λ n x. play_from turns more s n x) k next d.said d.line)
 unfolding play_from
-first_run more s k count from to next l turns e = ap (λ (x : Found). play_on (λ n m. play_from turns more s n m) s k l x) e
+first_run more s k count from to next l turns e = ap (λ (x : Result Found Fault). play_on (λ n m. play_from turns more s n m) s k l x) e
 
 -- what is left to play after one run and others is what is left after all of them
 all_runs : (more : Bool) (s : List ℕ) (hs bs : List Bool) (l : Attached) → Stands l → (turns end : ℕ) (p : Played) → p ≡ after (run_of bs (after_run hs l)).bits (play_from (suc turns) more s end (after_run bs (after_run hs l)))

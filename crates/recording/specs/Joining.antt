@@ -1,6 +1,6 @@
 -- Form: runs of slots that follow one another in a recording, joined into one whose host bits stand in a buffer of their own. How many are joined
 -- is not said: any number plays as its records do.
-use Rattle.std.specs.Prelude.{ℕ, ◌+◌, ◌-◌, ◌*◌, ◌≤◌, Bool, true, List, [], ◌++◌, ◌≡◌, length, take, drop}
+use Rattle.std.specs.Prelude.{ℕ, ◌+◌, ◌-◌, ◌*◌, ◌≤◌, Bool, true, List, [], ◌++◌, ◌≡◌, length, take, drop, Ok}
 use Rattle.line.specs.Attached.{Attached, verdict_at}
 use Rattle.line.specs.Slots.{host_bits}
 use Rattle.recording.specs.Reading.{found_at}
@@ -13,7 +13,7 @@ use Rattle.recording.specs.declared.Record.TheVariants as record_of
 -- some runs that stand one after the other from an offset on: the host's bits, and the offset after them
 pub data Row (more : Bool) (s : List ℕ) (room : ℕ) : ℕ → List Bool → ℕ → Type 0 where
   none : (at : ℕ) → Row more s room at [] at
-  run : (at count from to next end : ℕ) (bs : List Bool) → found_at s at room true more ≡ found.Record (record_of.Slots count from to) next → Row more s room next bs end
+  run : (at count from to next end : ℕ) (bs : List Bool) → found_at s at room true more ≡ Ok (found.Record (record_of.Slots count from to) next) → Row more s room next bs end
       → Row more s room at (host_bits count (take (to - from) (drop from s)) ++ bs) end
 
 -- slots whose bits stood in a buffer, with those of some runs from an offset on put after them

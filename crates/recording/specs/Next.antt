@@ -1,7 +1,8 @@
 -- Laws: a record that can be taken lies in the recording, has at least four bytes, and ends where the next one starts; a run has the bytes that it asks.
-use Rattle.std.specs.Prelude.{ℕ, ◌+◌, ◌-◌, ◌*◌, ◌≤◌, Bool, List, ◌≡◌, length, take, drop}
+use Rattle.std.specs.Prelude.{ℕ, ◌+◌, ◌-◌, ◌*◌, ◌≤◌, Bool, List, ◌≡◌, length, take, drop, Result, Ok, Err}
 use Rattle.std.proofs.Common.{arith, ◌∙◌, subst, length-drop, length-take-le}
 use Rattle.line.specs.Slots.{bytes_asked}
+use Rattle.recording.specs.declared.Fault.{Fault}
 use Rattle.recording.specs.Reading.{found_at}
 use Rattle.recording.specs.Heads.{kind_counted}
 use Rattle.recording.specs.There.{kind_at}
@@ -20,11 +21,11 @@ pub record Lies (s : List ℕ) (at : ℕ) (r : Record) (next : ℕ) : Type 0 whe
   pub few : answers_most r + 8 * at ≤ 8 * next
 
 -- a record that was found lies in the recording
-abbrev pub Sound : List ℕ → ℕ → Found → Type 0
-Sound s at found.End = Unit
-Sound s at found.Part = Unit
-Sound s at (found.Record r next) = Lies s at r next
-Sound s at (found.Refused f) = Unit
+abbrev pub Sound : List ℕ → ℕ → Result Found Fault → Type 0
+Sound s at (Ok found.End) = Unit
+Sound s at (Ok found.Part) = Unit
+Sound s at (Ok (found.Record r next)) = Lies s at r next
+Sound s at (Err f) = Unit
 
 -- what stands at an offset
 pub found_sound : (s : List ℕ) (at room : ℕ) (over more : Bool) → Sound s at (found_at s at room over more)
@@ -35,7 +36,7 @@ found_sound s at room over more =
     (λ w t. let l = kind_counted s (at + 4) (kind_at s at) in record { further = omega arith; within = w.within; fits = tt; few = omega arith })
 
 -- and so a record that was found there
-pub found_lies : (s : List ℕ) (at room : ℕ) (over more : Bool) (r : Record) (next : ℕ) → found_at s at room over more ≡ found.Record r next → Lies s at r next
+pub found_lies : (s : List ℕ) (at room : ℕ) (over more : Bool) (r : Record) (next : ℕ) → found_at s at room over more ≡ Ok (found.Record r next) → Lies s at r next
 found_lies s at room over more r next e = subst (Sound s at) e (found_sound s at room over more)
 
 -- a run has as many bytes as its slots ask

@@ -5,14 +5,15 @@ use Rattle.std.proofs.Common.{arith, zero-add, append-nil, ◌∙◌, sym, lengt
 use Rattle.std.proofs.Math.Bool.{true}
 use Rattle.std.proofs.Math.Path.{ap}
 use Rattle.base.specs.Pick.{pick_both}
-use Rattle.line.specs.Attached.{Attached, says_of, verdict_at, line_from}
+use Rattle.line.specs.Attached.{Attached, attached, says_of, verdict_at, line_from}
 use Rattle.line.specs.Event.{Answered, bit, refused}
 use Rattle.line.specs.Runs.{run_length, host_most}
 use Rattle.line.specs.Slots.{host_bits}
 use Rattle.line.proofs.Standing.{event_places, run_places}
+use Rattle.recording.specs.declared.Fault.{Fault}
 use Rattle.recording.specs.Reading.{found_at}
-use Rattle.recording.specs.Cards.{room_for, stopped_by}
-use Rattle.recording.specs.Playing.{Ends, ends_of, Said, bits, none, Step, said_by, run_step, slots_step, record_step, Played, played, after, on_step, play_on, play_from, play_all, put_digits, handed, handed_from}
+use Rattle.recording.specs.Cards.{room_for}
+use Rattle.recording.specs.Playing.{Ends, ends_of, Said, bits, none, Step, said_by, run_step, slots_step, record_step, Played, played, after, on_step, play_on, play_from, play_all, put_digits, Handed, handed, handed_from}
 use Rattle.recording.specs.Putting.{Written, wrote, unwritten, ends_after, Put, put, put_said, put_from, answers_most}
 use Rattle.recording.specs.Next.{Lies, found_lies}
 use Rattle.recording.specs.Digits.{put_length, put_append}
@@ -20,9 +21,9 @@ use Rattle.recording.specs.Joining.{JoinedTo}
 use Rattle.recording.specs.JoinPlay.{after_after, Onward, joined_plays}
 use Rattle.recording.specs.declared.Record.{Record}
 use Rattle.recording.specs.declared.Record.TheVariants as record_of
+use Rattle.recording.specs.declared.Played.{Played as PlayedTo}
 use Rattle.recording.specs.declared.Found.{Found}
 use Rattle.recording.specs.declared.Found.TheVariants as found
-use Rattle.recording.specs.declared.Ending.{Ending}
 
 -- ---- how many answers a record has
 
@@ -78,15 +79,16 @@ abbrev number_written : Written → ℕ
 number_written (wrote n) = n
 number_written (unwritten r) = r
 
--- where no record is found, playing stops
-stops : (go : ℕ → Attached → Played) (s : List ℕ) (at : ℕ) (l : Attached) (f : Found) → ((r : Record) (next : ℕ) → f ≡ found.Record r next → ⊥) → play_on go s at l f ≡ played [] (ends_of (stopped_by f)) at l
-stops go s at l found.End absent = refl
-stops go s at l found.Part absent = refl
-stops go s at l (found.Record r next) absent = absurd (absent r next refl)
-stops go s at l (found.Refused f) absent = refl
+-- a record that a match found
+pub found_record : (f : Result Found Fault) (x : Found) (r q : Record) (n m : ℕ) → f ≡ Ok x → x ≡ found.Record r n → q ≡ r → m ≡ n → f ≡ Ok (found.Record q m)
+found_record f x r q n m e d a b = e ∙ (λ j. Ok (d j)) ∙ (λ j. Ok (found.Record (sym a j) (sym b j)))
+
+-- what the player hands back, with the text and the buffers
+abbrev pub handed_by : List ℕ → List ℕ → List ℕ → PlayedTo → Handed
+handed_by out ms ss u = handed (ends_of u.ending) u.at u.answers out (attached u.table.n u.table.chips ms ss)
 
 -- where the loop stands: what was answered so far, and how many more records there may be after this one
-pub record Underway (more : Bool) (s out₀ : List ℕ) (l₀ : Attached) (packed host out : List ℕ) (l : Attached) (at place : ℕ) : Type 0 where
+pub record Underway (more : Bool) (s out₀ : List ℕ) (l₀ : Attached) (out : List ℕ) (l : Attached) (at place : ℕ) : Type 0 where
   pub said : List Bool
   pub turns : ℕ
   pub left : after said (play_from (suc turns) more s at l) ≡ play_all more s l₀
@@ -97,17 +99,15 @@ pub record Underway (more : Bool) (s out₀ : List ℕ) (l₀ : Attached) (packe
   pub few : place ≤ 8 * at
   pub room : length out₀ ≡ 8 * length s
   pub long : length out ≡ length out₀
-  pub pack : length packed ≡ 8192
-  pub held : length host ≡ 8192
   pub places : length l.lent.chips ≡ 16
   pub images : length l.lent.images ≡ length l₀.lent.images
   pub pads : length l.lent.pads ≡ length l₀.lent.pads
 
 -- it stands so at the beginning
-pub underway_start : (more : Bool) (s out : List ℕ) (l : Attached) (packed host : List ℕ) → length out ≡ 8 * length s → length packed ≡ 8192 → length host ≡ 8192 → length l.lent.chips ≡ 16
-    → Underway more s out l packed host out l 0 0
+pub underway_start : (more : Bool) (s out : List ℕ) (l : Attached) → length out ≡ 8 * length s → length l.lent.chips ≡ 16
+    → Underway more s out l out l 0 0
 unfolding play_all
-underway_start more s out l packed host r p h c = record {
+underway_start more s out l r c = record {
   said = [];
   turns = length s;
   left = refl;
@@ -118,19 +118,17 @@ underway_start more s out l packed host r p h c = record {
   few = omega arith;
   room = r;
   long = refl;
-  pack = p;
-  held = h;
   places = c;
   images = refl;
   pads = refl;
 }
 
-module _ (more : Bool) (s out₀ : List ℕ) (l₀ : Attached) (packed host out : List ℕ) (l : Attached) (at place : ℕ) (g : Underway more s out₀ l₀ packed host out l at place)
-    (room : ℕ) (q : room ≡ room_for l.count) (f : Found) (d : f ≡ found_at s at room true more) where
+module _ (more : Bool) (s out₀ : List ℕ) (l₀ : Attached) (out : List ℕ) (l : Attached) (at place : ℕ) (g : Underway more s out₀ l₀ out l at place)
+    (room : ℕ) (q : room ≡ room_for l.count) (f : Result Found Fault) (d : f ≡ found_at s at room true more) where
   -- what is found says how playing goes on
   by_found : after g.said (play_on (λ n m. play_from g.turns more s n m) s at l f) ≡ play_all more s l₀
   unfolding play_from
-  by_found = ap (λ (x : Found). after g.said (play_on (λ n m. play_from g.turns more s n m) s at l x)) (d ∙ ap (λ (j : ℕ). found_at s at j true more) q) ∙ g.left
+  by_found = ap (λ (x : Result Found Fault). after g.said (play_on (λ n m. play_from g.turns more s n m) s at l x)) (d ∙ ap (λ (j : ℕ). found_at s at j true more) q) ∙ g.left
 
   -- playing ends here, with the text as it is
   ends_here : (e : Ends) (text : List ℕ) (k : Attached) → text ≡ out → after g.said (played [] e at k) ≡ play_all more s l₀ → handed e at place text k ≡ handed_from out₀ (play_all more s l₀)
@@ -139,12 +137,13 @@ module _ (more : Bool) (s out₀ : List ℕ) (l₀ : Attached) (packed host out 
       (λ j. handed e at ((g.number ∙ ap length n) j) ((t ∙ g.text ∙ ap (λ (bs : List Bool). put_digits bs 0 out₀) n) j) k) ∙ ap (handed_from out₀) h
 
   -- no record can be taken
-  pub underway_stopped : (x : Ending) → ((r : Record) (next : ℕ) → f ≡ found.Record r next → ⊥) → x ≡ stopped_by f → handed (ends_of x) at place out l ≡ handed_from out₀ (play_all more s l₀)
-  underway_stopped x absent e =
-      ends_here (ends_of x) out l refl
-      (ap (λ (y : Ending). after g.said (played [] (ends_of y) at l)) e ∙ sym (ap (after g.said) (stops (λ n m. play_from g.turns more s n m) s at l f absent)) ∙ by_found)
+  pub underway_stopped : (p : Result Found Fault) (e : Ends) → f ≡ p → ((go : ℕ → Attached → Played) → play_on go s at l p ≡ played [] e at l)
+      → handed e at place out l ≡ handed_from out₀ (play_all more s l₀)
+  underway_stopped p e k h =
+      let go = λ (n : ℕ) (m : Attached). play_from g.turns more s n m in
+      ends_here e out l refl (ap (after g.said) (sym (h go) ∙ ap (play_on go s at l) (sym k)) ∙ by_found)
 
-  module _ (taken : Record) (next : ℕ) (k : f ≡ found.Record taken next) where
+  module _ (taken : Record) (next : ℕ) (k : f ≡ Ok (found.Record taken next)) where
     -- the record lies in the recording
     pub underway_lies : Lies s at taken next
     underway_lies = found_lies s at room true more taken next (sym d ∙ k)
@@ -184,7 +183,7 @@ module _ (more : Bool) (s out₀ : List ℕ) (l₀ : Attached) (packed host out 
           let t : suc (g.turns - 1) ≡ g.turns = omega arith in
           ap (after g.said) (sym goes.goes)
           ∙ ap (λ (x : ℕ). after g.said (let y = record_step s taken l in on_step (λ n m. play_from x more s n m) at next y.said y.line)) t
-          ∙ ap (λ (x : Found). after g.said (play_on (λ n m. play_from g.turns more s n m) s at l x)) (sym k)
+          ∙ ap (λ (x : Result Found Fault). after g.said (play_on (λ n m. play_from g.turns more s n m) s at l x)) (sym k)
           ∙ by_found
 
       module _ (w : Written) (text : List ℕ) (m : Attached) where
@@ -204,11 +203,11 @@ module _ (more : Bool) (s out₀ : List ℕ) (l₀ : Attached) (packed host out 
         underway_refused n e u y p =
             ap (λ (x : Ends). handed x at place text m) y ∙ refused_by n (record_step bytes r l).said (record_step bytes r l).line u p by_joined
 
-        module _ (pack : List ℕ) (n : ℕ) (size : length pack ≡ length packed) (long : length bytes ≡ length host) (images : length m.lent.images ≡ length l.lent.images)
+        module _ (n : ℕ) (images : length m.lent.images ≡ length l.lent.images)
             (pads : length m.lent.pads ≡ length l.lent.pads) where
           -- answered, by what its events say
           next-by : (x : Said) (y : Attached) → w ≡ wrote n → put w text m ≡ put_said place out x y → length (bits_said x) ≤ answers_most r → length y.lent.chips ≡ length l.lent.chips
-              → after g.said (on_step later at end x y) ≡ play_all more s l₀ → Underway more s out₀ l₀ pack bytes text m end (place + n)
+              → after g.said (on_step later at end x y) ≡ play_all more s l₀ → Underway more s out₀ l₀ text m end (place + n)
           next-by (none i) y u e c k p =
               let c : wrote n ≡ unwritten i = sym u ∙ ap (λ (z : Put). z.written) e in
               let z : ◌≡◌ {A = ℕ} 0 1 = cc in
@@ -238,13 +237,11 @@ module _ (more : Bool) (s out₀ : List ℕ) (l₀ : Attached) (packed host out 
                 few = omega arith;
                 room = g.room;
                 long = ap length t ∙ put_length bs place out ∙ g.long;
-                pack = size ∙ g.pack;
-                held = long ∙ g.held;
                 places = ap (λ (z : Put). length z.line.lent.chips) e ∙ k ∙ g.places;
                 images = images ∙ g.images;
                 pads = pads ∙ g.pads;
               }
 
           -- its answers are put, and playing goes on after it
-          pub underway_next : w ≡ wrote n → put w text m ≡ put_from place out (record_step bytes r l) → Underway more s out₀ l₀ pack bytes text m end (place + n)
+          pub underway_next : w ≡ wrote n → put w text m ≡ put_from place out (record_step bytes r l) → Underway more s out₀ l₀ text m end (place + n)
           underway_next u p = next-by (record_step bytes r l).said (record_step bytes r l).line u p (said_few bytes r l) (step_places bytes r l (let a = g.places in omega arith)) by_joined

@@ -11,6 +11,7 @@ use Rattle.line.specs.Slots.{host_bits, run_on}
 use Rattle.line.specs.Tables.{blank_table}
 use Rattle.line.specs.declared.Event.{Event}
 use Rattle.line.specs.declared.Table.{Table}
+use Rattle.recording.specs.declared.Fault.{Fault}
 use Rattle.recording.specs.Reading.{number_of_fault, found_at}
 use Rattle.recording.specs.Cards.{room_for, cards_of}
 use Rattle.recording.specs.declared.Record.{Record}
@@ -28,10 +29,10 @@ pub data Ends : Type 0 where
   part : Ends
   refusal : ℕ → Ends
 
-abbrev pub ends_of : Ending → Ends
-ends_of ending.End = ended
-ends_of ending.Part = part
-ends_of (ending.Refused f) = refusal (number_of_fault f)
+abbrev pub ends_of : Result Ending Fault → Ends
+ends_of (Ok ending.End) = ended
+ends_of (Ok ending.Part) = part
+ends_of (Err f) = refusal (number_of_fault f)
 
 -- what a record's events answer: their bits, or the number of a refusal
 pub data Said : Type 0 where
@@ -89,11 +90,11 @@ on_step go at next (bits bs) l = after bs (go next l)
 on_step go at next (none r) l = played [] (refusal r) at l
 
 -- by what stands at the offset
-abbrev pub play_on : (ℕ → Attached → Played) → List ℕ → ℕ → Attached → Found → Played
-play_on go s at l found.End = played [] ended at l
-play_on go s at l found.Part = played [] part at l
-play_on go s at l (found.Record r next) = let d = record_step s r l in on_step go at next d.said d.line
-play_on go s at l (found.Refused f) = played [] (refusal (number_of_fault f)) at l
+abbrev pub play_on : (ℕ → Attached → Played) → List ℕ → ℕ → Attached → Result Found Fault → Played
+play_on go s at l (Ok found.End) = played [] ended at l
+play_on go s at l (Ok found.Part) = played [] part at l
+play_on go s at l (Ok (found.Record r next)) = let d = record_step s r l in on_step go at next d.said d.line
+play_on go s at l (Err f) = played [] (refusal (number_of_fault f)) at l
 
 -- the records from an offset on, at most so many, on a line
 unfoldable pub play_from : ℕ → Bool → List ℕ → ℕ → Attached → Played

@@ -1,23 +1,22 @@
 -- Form: what the code hands back of a record's events, with their answers put into a text.
-use Rattle.std.specs.Prelude.{ℕ, ◌+◌, ◌≤◌, List, ◌≡◌, length}
+use Rattle.std.specs.Prelude.{ℕ, ◌+◌, ◌≤◌, List, ◌≡◌, length, Result, Ok, Err}
 use Rattle.line.specs.Attached.{Attached}
 use Rattle.line.specs.Event.{Answered, bit, refused, number_of}
 use Rattle.line.specs.Slots.{bytes_asked, Slotted}
 use Rattle.line.specs.Slots as slots
+use Rattle.line.specs.declared.Refusal.{Refusal}
 use Rattle.recording.specs.Playing.{Ends, part, refusal, Said, bits, none, Step, put_digits}
 use Rattle.recording.specs.declared.Record.{Record}
 use Rattle.recording.specs.declared.Record.TheVariants as record_of
-use Rattle.recording.specs.declared.playing.RecordAnswer.{RecordAnswer}
-use Rattle.recording.specs.declared.playing.RecordAnswer.TheVariants as answer
 
 -- how many answers were written, or the number of a refusal
 pub data Written : Type 0 where
   wrote : ℕ → Written
   unwritten : ℕ → Written
 
-abbrev pub written_by : RecordAnswer → Written
-written_by (answer.Answered n) = wrote n
-written_by (answer.Refused r) = unwritten (number_of r)
+abbrev pub written_by : Result ℕ Refusal → Written
+written_by (Ok n) = wrote n
+written_by (Err r) = unwritten (number_of r)
 
 -- of an event, of a run of slots, and what playing ends by after it
 abbrev pub written_in : Answered → Written

@@ -1,5 +1,5 @@
 -- Laws: what stands at an offset, by how many bytes are there from it on.
-use Rattle.std.specs.Prelude.{ℕ, ◌+◌, ◌-◌, ◌<◌, ◌≤◌, Bool, List, ◌≡◌, refl, ltb, leb, length}
+use Rattle.std.specs.Prelude.{ℕ, ◌+◌, ◌-◌, ◌<◌, ◌≤◌, Bool, List, ◌≡◌, refl, ltb, leb, length, Ok}
 use Rattle.std.proofs.Common.{arith, ◌∙◌, ltb-true, ltb-false, leb-true, leb-false, lt-ltb, le-ltb, le-leb}
 use Rattle.std.proofs.Math.Bool.{true, false}
 use Rattle.std.proofs.Math.Path.{ap}
@@ -96,11 +96,11 @@ module _ (s : List ℕ) (at : ℕ) where
         ∙ ap (λ (x : Head). pick (is_event (kind_at s at)) (event_record s (size_at s at) (kind_at s at) (at + 4) (next_at s at)) (card_record over (entry_of s room x))) e
 
   -- fewer than four bytes, where more may come
-  pub found_awaited : (room : ℕ) (over : Bool) → length s < at + 4 → found_at s at room over true ≡ found.Part
+  pub found_awaited : (room : ℕ) (over : Bool) → length s < at + 4 → found_at s at room over true ≡ Ok found.Part
   unfolding at_end cut_off pick
   found_awaited room over l = go there
     where
-      go : There s at → found_at s at room over true ≡ found.Part
+      go : There s at → found_at s at room over true ≡ Ok found.Part
       go (nothing h) = found_end room over true h
       go (few h g) = found_short room over true h g
       go (head h g) = absurd (omega arith)

@@ -1,5 +1,5 @@
 -- Laws: what holds of everything that can stand at an offset holds of what stands there.
-use Rattle.std.specs.Prelude.{ℕ, ◌+◌, ◌-◌, ◌<◌, ◌≤◌, Bool, List, ◌≡◌, length, take, drop, Option, Result}
+use Rattle.std.specs.Prelude.{ℕ, ◌+◌, ◌-◌, ◌<◌, ◌≤◌, Bool, List, ◌≡◌, length, take, drop, Option, Result, Ok, Err}
 use Rattle.std.proofs.Common.{arith, ◌∙◌}
 use Rattle.std.proofs.Math.Bool.{true, false}
 use borrow.Author.Tests.{eqb-true, ltb-true}
@@ -33,21 +33,21 @@ pub record IsWhole (s : List ℕ) (at : ℕ) (event : Bool) : Type 0 where
   pub sort : is_event (kind_at s at) ≡ event
 
 -- the chip, the run of slots and the other event that stand there
-abbrev pub chip_at : List ℕ → ℕ → Found
-chip_at s at = found.Record (record_of.Chip (number_at s (at + 4) 8) (kind_at s at)) (next_at s at)
+abbrev pub chip_at : List ℕ → ℕ → Result Found Fault
+chip_at s at = Ok (found.Record (record_of.Chip (number_at s (at + 4) 8) (kind_at s at)) (next_at s at))
 
-abbrev pub slots_at : List ℕ → ℕ → Found
-slots_at s at = found.Record (record_of.Slots (number_at s (at + 4) 2) (at + 4 + 2) (next_at s at)) (next_at s at)
+abbrev pub slots_at : List ℕ → ℕ → Result Found Fault
+slots_at s at = Ok (found.Record (record_of.Slots (number_at s (at + 4) 2) (at + 4 + 2) (next_at s at)) (next_at s at))
 
-abbrev pub other_at : List ℕ → ℕ → Found
-other_at s at = found.Record (record_of.Event (event_in s (at + 4) (kind_at s at))) (next_at s at)
+abbrev pub other_at : List ℕ → ℕ → Result Found Fault
+other_at s at = Ok (found.Record (record_of.Event (event_in s (at + 4) (kind_at s at))) (next_at s at))
 
 -- and the bytes of the run
 abbrev pub run_at : List ℕ → ℕ → List ℕ
 run_at s at = take (next_at s at - (at + 4 + 2)) (drop (at + 4 + 2) s)
 
-module _ (P : Found → Type 0) (s : List ℕ) (at room : ℕ) (over more : Bool) where
-  module _ (of_end : more ≡ false → P found.End) (of_part : Awaited s at → P found.Part) (of_refusal : (f : Fault) → P (found.Refused f))
+module _ (P : Result Found Fault → Type 0) (s : List ℕ) (at room : ℕ) (over more : Bool) where
+  module _ (of_end : more ≡ false → P (Ok found.End)) (of_part : Awaited s at → P (Ok found.Part)) (of_refusal : (f : Fault) → P (Err f))
       (of_chip : IsWhole s at false → known_kind (kind_at s at) ≡ true → size_at s at ≡ entry_length → 0 < room → P (chip_at s at))
       (of_slots : IsWhole s at true → kind_at s at ≡ 16 → size_at s at ≡ 4 + bytes_asked (number_at s (at + 4) 2)
       → unused_clear (number_at s (at + 4) 2) (run_at s at) ≡ true → P (slots_at s at))

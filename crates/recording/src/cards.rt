@@ -1,8 +1,9 @@
 // The chips that a recording starts with.
 ghost use Rattle.std.specs.Prelude.{◌≡◌};
-ghost use Rattle.recording.specs.Cards.{room_for, stopped_by, table_by, cards_of};
+ghost use Rattle.recording.specs.Cards.{room_for, cards_read, cards_of};
+ghost use Rattle.recording.specs.declared.CardsEnding.TheVariants.{Stopped};
 
-use crate::{CardsEnding, CardsRead, Ending, Found, Record, reading};
+use crate::{CardsEnding, CardsRead, Ending, Fault, Found, Record, reading};
 use line::Table;
 
 // The places of the line that a recording sets up.
@@ -12,33 +13,17 @@ pub const PLACES: usize = 16;
 pub fn room_for(n: usize) -> usize
     ensures { result ≡ room_for n }
 {
-    if n < PLACES {
-        return PLACES - n;
-    }
-    0
+    PLACES.saturating_sub(n)
 }
 
-// How reading or playing ends where no record can be taken.
-pub fn stopped_by(found: Found) -> Ending
-    ensures { result ≡ stopped_by found }
+// Reading a card that stops at an offset, where no record can be taken.
+fn stopped(ending: Result<Ending, Fault>, at: usize, table: Table) -> CardsRead
+    ensures { result ≡ cards_read (Stopped ending) at table }
 {
-    match found {
-        Found::End => Ending::End,
-        Found::Part => Ending::Part,
-        Found::Record(_, _) => Ending::Part,
-        Found::Refused(f) => Ending::Refused(f),
-    }
-}
-
-// The table where no record can be taken: none where one is refused.
-fn table_by(found: Found, t: Table) -> Table
-    ensures { result ≡ table_by found t }
-{
-    match found {
-        Found::End => t,
-        Found::Part => t,
-        Found::Record(_, _) => t,
-        Found::Refused(_) => line::tables::blank(0),
+    CardsRead {
+        ending: CardsEnding::Stopped(ending),
+        at,
+        table,
     }
 }
 
@@ -51,24 +36,23 @@ pub fn read_cards(t: Table, s: &[u8], more: bool) -> CardsRead
     loop {
         let events = CardsRead {
             ending: CardsEnding::Events,
-            at: at,
-            table: table,
+            at,
+            table,
         };
         if reading::starts_event(s, at) {
             return events;
         }
-        let found = reading::record_at(s, at, room_for(table.n), false, more);
-        let Found::Record(taken, next) = found else {
-            return CardsRead {
-                ending: CardsEnding::Stopped(stopped_by(found)),
-                at: at,
-                table: table_by(found, table),
-            };
-        };
-        let Record::Chip { code, kind } = taken else {
-            return events;
-        };
-        table = line::tables::with_chip(table, chip::set_up(code, kind));
-        at = next;
+        match reading::record_at(s, at, room_for(table.n), false, more) {
+            Ok(Found::Record(taken, next)) => {
+                let Record::Chip { code, kind } = taken else {
+                    return events;
+                };
+                table = line::tables::with_chip(table, chip::set_up(code, kind));
+                at = next;
+            }
+            Ok(Found::End) => return stopped(Ok(Ending::End), at, table),
+            Ok(Found::Part) => return stopped(Ok(Ending::Part), at, table),
+            Err(fault) => return stopped(Err(fault), at, line::tables::blank(0)),
+        }
     }
 }

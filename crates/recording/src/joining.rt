@@ -4,7 +4,7 @@ ghost use Rattle.line.specs.Slots.{host_bits};
 ghost use Rattle.recording.specs.Joining.{GatheredTo, JoinedTo};
 ghost use Rattle.recording.specs.Putting.{RecordFits};
 
-use crate::{Found, Record, reading};
+use crate::{Found, RUN_BYTES, Record, reading};
 use line::SLOTS_MOST;
 
 // Runs that were gathered: how many slots they have, and the offset after their records.
@@ -23,15 +23,12 @@ pub struct Joined {
 }
 
 // The host bits of a run put after those of so many slots.
-fn add_bits(host: &mut [u8], slots: usize, bits: &[u8], count: usize)
-    requires { (count ≤ 8 * length bits.now) × (slots + count ≤ 65535) × (length host.old ≡ 8192) }
+fn add_bits(host: &mut [u8; RUN_BYTES], slots: usize, bits: &[u8], count: usize)
+    requires { (count ≤ 8 * length bits.now) × (slots + count ≤ 65535) }
     ensures { host_bits (slots + count) host.new ≡ host_bits slots host.old ++ host_bits count bits.now }
 {
-    let mut i: usize = 0;
-    while i < count {
-        let b = line::slot_bit(bits, i);
-        line::put_slot_bit(host, slots + i, b);
-        i += 1;
+    for i in 0..count {
+        line::put_slot_bit(host, slots + i, line::slot_bit(bits, i));
     }
 }
 
@@ -43,19 +40,17 @@ fn gather_runs(
     room: usize,
     more: bool,
     slots: usize,
-    host: &mut [u8],
+    host: &mut [u8; RUN_BYTES],
 ) -> Gathered
-    requires { (at ≤ length s.now) × (slots ≤ 65535) × (length host.old ≡ 8192) }
+    requires { (at ≤ length s.now) × (slots ≤ 65535) }
     ensures { GatheredTo more s.now room at slots host.old result.slots result.next host.new }
 {
     let mut all = slots;
     let mut next = at;
     loop {
-        let found = reading::record_at(s, next, room, true, more);
-        let Found::Record(taken, after) = found else {
-            break;
-        };
-        let Record::Slots { count, from, to } = taken else {
+        let Ok(Found::Record(Record::Slots { count, from, to }, after)) = reading::record_at(
+            s, next, room, true, more,
+        ) else {
             break;
         };
         let n = count as usize;
@@ -66,10 +61,7 @@ fn gather_runs(
         all += n;
         next = after;
     }
-    Gathered {
-        slots: all,
-        next: next,
-    }
+    Gathered { slots: all, next }
 }
 
 // What is put on the line for the record before an offset: a run of slots with those that follow it, and any other record by
@@ -80,25 +72,25 @@ pub fn with_next_runs(
     next: usize,
     room: usize,
     more: bool,
-    host: &mut [u8],
+    host: &mut [u8; RUN_BYTES],
 ) -> Joined
-    requires { (RecordFits s.now taken) × (next ≤ length s.now) × (length host.old ≡ 8192) }
+    requires { (RecordFits s.now taken) × (next ≤ length s.now) }
     ensures { JoinedTo more s.now room taken next host.new result.record result.next }
 {
     let Record::Slots { count, from, to } = taken else {
         return Joined {
             record: taken,
-            next: next,
+            next,
         };
     };
     if count == 0 {
         return Joined {
             record: Record::Slots {
-                count: count,
+                count,
                 from: 0,
                 to: 0,
             },
-            next: next,
+            next,
         };
     }
     add_bits(host, 0, &s[from..to], count as usize);

@@ -7,12 +7,16 @@ mod playing;
 mod reading;
 
 ghost use Rattle.std.specs.Prelude.{◌≡◌};
+ghost use Rattle.recording.specs.declared.Fault.TheVariants.{OnCard, OnLine};
 ghost use Rattle.recording.specs.Reading.{number_of_fault};
 
 pub use cards::read_cards;
 use line::{Event, Refusal, Table};
 pub use playing::play;
 pub use reading::record_at;
+
+// How many bytes the bits of the longest run ask, packed.
+const RUN_BYTES: usize = 8192;
 
 // Why a recording is refused.
 #[derive(Clone, Copy)]
@@ -25,6 +29,22 @@ pub enum Fault {
     UnusedBits,
     // a refusal of the line, or 5 for a text of the wrong size
     OnLine(Refusal),
+}
+
+impl From<card::Fault> for Fault {
+    ghost from_gives = { λ f e. e ≡ OnCard f };
+
+    fn from(f: card::Fault) -> Fault {
+        Fault::OnCard(f)
+    }
+}
+
+impl From<Refusal> for Fault {
+    ghost from_gives = { λ r e. e ≡ OnLine r };
+
+    fn from(r: Refusal) -> Fault {
+        Fault::OnLine(r)
+    }
 }
 
 // A record that can be taken.
@@ -47,18 +67,15 @@ pub enum Found {
     Part,
     // a record, and the offset of the next
     Record(Record, usize),
-    Refused(Fault),
 }
 
-// How reading or playing ends.
+// How reading or playing ends that meets no record that is refused, or that holds an event that is.
 #[derive(Clone, Copy)]
 pub enum Ending {
     // at the end of the recording
     End,
     // before a record of which more may come
     Part,
-    // before a record that is refused, or that holds an event that is
-    Refused(Fault),
 }
 
 // How reading a card ends.
@@ -66,7 +83,7 @@ pub enum Ending {
 pub enum CardsEnding {
     // before a record of one of kinds 16 to 19
     Events,
-    Stopped(Ending),
+    Stopped(Result<Ending, Fault>),
 }
 
 // How reading a card ended, at what offset, and the chips so far.
@@ -80,13 +97,14 @@ pub struct CardsRead {
 // How playing ended, at what offset, how many answers were written, and the table that is left.
 #[derive(Clone, Copy)]
 pub struct Played {
-    pub ending: Ending,
+    pub ending: Result<Ending, Fault>,
     pub at: usize,
     pub answers: usize,
     pub table: Table,
 }
 
 // The number of a refusal.
+// Stays a function beside `From`: the theorem `recording_number_of` of the crate `coincide` is of it.
 pub fn number_of(f: Fault) -> u8
     ensures { result ≡ number_of_fault f }
 {

@@ -6,28 +6,14 @@ ghost use Rattle.line.specs.Event.{answered};
 ghost use Rattle.recording.specs.Playing.{digit, ends_of, event_step, slots_step, record_step, play_all, handed, handed_from, play_of, put_digits};
 ghost use Rattle.recording.specs.Putting.{put, put_from, written_by, written_in, written_run, ends_after, RecordFits, answers_most};
 
-use crate::{Ending, Fault, Found, Played, Record, cards, joining, reading};
+use crate::{Ending, Fault, Found, Played, RUN_BYTES, Record, cards, joining, reading};
 use line::{Event, Refusal, Table};
 
-// What a record's events answer: how many answers were written, or a refusal.
-#[derive(Clone, Copy)]
-pub enum RecordAnswer {
-    Answered(usize),
-    Refused(Refusal),
-}
-
-// What a record's events answer, and the table that they leave.
+// What a record's events answer, how many answers were written or a refusal, and the table that they leave.
 #[derive(Clone, Copy)]
 pub struct RecordPut {
-    pub answer: RecordAnswer,
+    pub answer: Result<usize, Refusal>,
     pub table: Table,
-}
-
-// Room for the bits of the longest run, packed.
-fn run_room() -> [u8; 8192]
-    ensures { 8192 ≡ length result }
-{
-    [0; 8192]
 }
 
 // The character of an answer.
@@ -42,41 +28,8 @@ fn put_digits(answers: &[u8], n: usize, out: &mut [u8], place: usize)
     requires { (n ≤ 8 * length answers.now) × (place + n ≤ length out.old) }
     ensures { out.new ≡ put_digits (host_bits n answers.now) place out.old }
 {
-    let mut i: usize = 0;
-    while i < n {
-        let b = line::slot_bit(answers, i);
-        base::put_at(out, place + i, digit_of(b));
-        i += 1;
-    }
-}
-
-// The refusal in the answer of an event; a bit has none, and counts as one answer.
-fn refused_event(answer: Result<bool, Refusal>) -> RecordAnswer
-    ensures { written_by result ≡ written_in (answered answer) }
-{
-    match answer {
-        Ok(_) => RecordAnswer::Answered(1),
-        Err(r) => RecordAnswer::Refused(r),
-    }
-}
-
-// The refusal in the answer of a run of slots; slots that were put have none, and count as answers.
-fn refused_run(answer: Result<usize, Refusal>) -> RecordAnswer
-    ensures { written_by result ≡ written_run (slotted answer) }
-{
-    match answer {
-        Ok(n) => RecordAnswer::Answered(n),
-        Err(r) => RecordAnswer::Refused(r),
-    }
-}
-
-// The refusal in the answer of a record.
-fn refused_record(answer: RecordAnswer) -> Ending
-    ensures { ends_of result ≡ ends_after (written_by answer) }
-{
-    match answer {
-        RecordAnswer::Answered(_) => Ending::Part,
-        RecordAnswer::Refused(r) => Ending::Refused(Fault::OnLine(r)),
+    for i in 0..n {
+        base::put_at(out, place + i, digit_of(line::slot_bit(answers, i)));
     }
 }
 
@@ -93,18 +46,19 @@ fn put_event(
         ≡ put_from place out.old (event_step e (attached t.n t.chips ms.old ss.old)) }
 {
     let happened = line::take_event(t, e, ms, ss);
-    let answer = happened.answer;
     let table = happened.table;
-    let Ok(b) = answer else {
-        return RecordPut {
-            answer: refused_event(answer),
-            table: table,
-        };
-    };
-    base::put_at(out, place, digit_of(b));
-    RecordPut {
-        answer: RecordAnswer::Answered(1),
-        table: table,
+    match happened.answer {
+        Ok(b) => {
+            base::put_at(out, place, digit_of(b));
+            RecordPut {
+                answer: Ok(1),
+                table,
+            }
+        }
+        Err(r) => RecordPut {
+            answer: Err(r),
+            table,
+        },
     }
 }
 
@@ -113,36 +67,37 @@ fn put_slots(
     t: Table,
     bits: &[u8],
     count: u16,
-    packed: &mut [u8],
+    packed: &mut [u8; RUN_BYTES],
     out: &mut [u8],
     place: usize,
     ms: &mut [u8],
     ss: &mut [u8],
 ) -> RecordPut
-    requires { (length bits.now ≡ bytes_asked count) × (length packed.old ≡ 8192) × (place + count ≤ length out.old) }
+    requires { (length bits.now ≡ bytes_asked count) × (place + count ≤ length out.old) }
     ensures { put (written_by result.answer) out.new (attached result.table.n result.table.chips ms.new ss.new)
         ≡ put_from place out.old (slots_step count bits.now (attached t.n t.chips ms.old ss.old)) }
 {
     if count == 0 {
         return RecordPut {
-            answer: RecordAnswer::Answered(0),
+            answer: Ok(0),
             table: t,
         };
     }
     let bytes = bits.len();
     let ran = line::take_slots(t, bits, count as usize, &mut packed[..bytes], ms, ss);
-    let answer = ran.answer;
     let table = ran.table;
-    let Ok(n) = answer else {
-        return RecordPut {
-            answer: refused_run(answer),
-            table: table,
-        };
-    };
-    put_digits(packed, n, out, place);
-    RecordPut {
-        answer: RecordAnswer::Answered(n),
-        table: table,
+    match ran.answer {
+        Ok(n) => {
+            put_digits(packed, n, out, place);
+            RecordPut {
+                answer: Ok(n),
+                table,
+            }
+        }
+        Err(r) => RecordPut {
+            answer: Err(r),
+            table,
+        },
     }
 }
 
@@ -151,19 +106,19 @@ fn put_record(
     t: Table,
     taken: Record,
     s: &[u8],
-    packed: &mut [u8],
+    packed: &mut [u8; RUN_BYTES],
     out: &mut [u8],
     place: usize,
     ms: &mut [u8],
     ss: &mut [u8],
 ) -> RecordPut
-    requires { (RecordFits s.now taken) × (length packed.old ≡ 8192) × (place + answers_most taken ≤ length out.old) }
+    requires { (RecordFits s.now taken) × (place + answers_most taken ≤ length out.old) }
     ensures { put (written_by result.answer) out.new (attached result.table.n result.table.chips ms.new ss.new)
         ≡ put_from place out.old (record_step s.now taken (attached t.n t.chips ms.old ss.old)) }
 {
     match taken {
-        Record::Chip { code: _, kind: _ } => RecordPut {
-            answer: RecordAnswer::Answered(0),
+        Record::Chip { .. } => RecordPut {
+            answer: Ok(0),
             table: t,
         },
         Record::Slots { count, from, to } => {
@@ -173,44 +128,48 @@ fn put_record(
     }
 }
 
+// Playing that ends at an offset, with so many answers written.
+fn played(ending: Result<Ending, Fault>, at: usize, answers: usize, table: Table) -> Played
+    ensures { result ≡ record { ending = ending; at = at; answers = answers; table = table } }
+{
+    Played {
+        ending,
+        at,
+        answers,
+        table,
+    }
+}
+
 // All records of what is there, on a text with room for their answers.
 fn play_all(t: Table, s: &[u8], more: bool, out: &mut [u8], ms: &mut [u8], ss: &mut [u8]) -> Played
     requires { length out.old ≡ 8 * length s.now }
     ensures { handed (ends_of result.ending) result.at result.answers out.new (attached result.table.n result.table.chips ms.new ss.new)
         ≡ handed_from out.old (play_all more s.now (attached t.n t.chips ms.old ss.old)) }
 {
-    let mut packed = run_room();
-    let mut host = run_room();
+    let mut packed = [0; RUN_BYTES];
+    let mut host = [0; RUN_BYTES];
     let mut table = t;
     let mut at: usize = 0;
     let mut place: usize = 0;
     loop {
         let room = cards::room_for(table.n);
-        let found = reading::record_at(s, at, room, true, more);
-        let Found::Record(taken, next) = found else {
-            return Played {
-                ending: cards::stopped_by(found),
-                at: at,
-                answers: place,
-                table: table,
-            };
-        };
-        let joined = joining::with_next_runs(taken, s, next, room, more, &mut host);
-        let record = joined.record;
-        let after = joined.next;
-        let put = put_record(table, record, &host, &mut packed, out, place, ms, ss);
-        let answer = put.answer;
-        table = put.table;
-        let RecordAnswer::Answered(n) = answer else {
-            return Played {
-                ending: refused_record(answer),
-                at: at,
-                answers: place,
-                table: table,
-            };
-        };
-        place += n;
-        at = after;
+        match reading::record_at(s, at, room, true, more) {
+            Ok(Found::Record(taken, next)) => {
+                let joined = joining::with_next_runs(taken, s, next, room, more, &mut host);
+                let put = put_record(table, joined.record, &host, &mut packed, out, place, ms, ss);
+                table = put.table;
+                match put.answer {
+                    Ok(n) => {
+                        place += n;
+                        at = joined.next;
+                    }
+                    Err(r) => return played(Err(Fault::from(r)), at, place, table),
+                }
+            }
+            Ok(Found::End) => return played(Ok(Ending::End), at, place, table),
+            Ok(Found::Part) => return played(Ok(Ending::Part), at, place, table),
+            Err(fault) => return played(Err(fault), at, place, table),
+        }
     }
 }
 
@@ -222,15 +181,8 @@ pub fn play(t: Table, s: &[u8], more: bool, out: &mut [u8], ms: &mut [u8], ss: &
         ≡ play_of more s.now out.old (attached t.n t.chips ms.old ss.old) }
 {
     let places = out.len();
-    if places % 8 == 0 {
-        if places / 8 == s.len() {
-            return play_all(t, s, more, out, ms, ss);
-        }
+    if places % 8 == 0 && places / 8 == s.len() {
+        return play_all(t, s, more, out, ms, ss);
     }
-    Played {
-        ending: Ending::Refused(Fault::OnLine(Refusal::WrongSize)),
-        at: 0,
-        answers: 0,
-        table: t,
-    }
+    played(Err(Fault::OnLine(Refusal::WrongSize)), 0, 0, t)
 }

@@ -13,7 +13,7 @@ use records::Head;
 fn is_event(kind: u16) -> bool
     ensures { result ≡ is_event kind }
 {
-    base::are_both(16 <= kind, kind <= 19)
+    matches!(kind, 16..=19)
 }
 
 // The length that a record of these kinds has, where its body starts.
@@ -32,16 +32,14 @@ fn length_asked(s: &[u8], body: usize, kind: u16) -> usize
 }
 
 // A record that is not all there, and may still be right or not.
-fn cut_off(right: bool, more: bool) -> Found
+fn cut_off(right: bool, more: bool) -> Result<Found, Fault>
     ensures { result ≡ cut_off right more }
 {
-    if right {
-        if more {
-            return Found::Part;
-        }
-        return Found::Refused(Fault::OnCard(card::Fault::WrongLength));
+    if right && more {
+        Ok(Found::Part)
+    } else {
+        Err(Fault::OnCard(card::Fault::WrongLength))
     }
-    Found::Refused(Fault::OnCard(card::Fault::WrongLength))
 }
 
 // A record of one of kinds 16 to 19 that is not all there may still be right.
@@ -51,15 +49,11 @@ fn may_be_right(s: &[u8], at: usize, size: u16, kind: u16) -> bool
 {
     let left = s.len() - at;
     let asked = length_asked(s, at + 4, kind);
-    let uncounted = base::are_both(kind == 16, left < 6);
-    if uncounted {
-        return true;
-    }
-    size as usize == asked
+    (kind == 16 && left < 6) || usize::from(size) == asked
 }
 
 // A record that is there up to its kind, and not whole.
-fn cut_record(s: &[u8], at: usize, more: bool, size: u16, kind: u16) -> Found
+fn cut_record(s: &[u8], at: usize, more: bool, size: u16, kind: u16) -> Result<Found, Fault>
     requires { at + 4 ≤ length s.now }
     ensures { result ≡ cut_record s.now at more size kind }
 {
@@ -70,31 +64,26 @@ fn cut_record(s: &[u8], at: usize, more: bool, size: u16, kind: u16) -> Found
     if card::is_known(kind) {
         return cut_off(size == ENTRY_LENGTH, more);
     }
-    Found::Refused(Fault::OnCard(card::Fault::UnknownKind))
+    Err(Fault::OnCard(card::Fault::UnknownKind))
 }
 
 // A chip of the card, where a record of one of kinds 16 to 19 came before or not.
-fn chip_record(over: bool, code: u64, kind: u8, next: usize) -> Found
+fn chip_record(over: bool, code: u64, kind: u8, next: usize) -> Result<Found, Fault>
     ensures { result ≡ chip_record over code kind next }
 {
     if over {
-        return Found::Refused(Fault::CardAfterEvent);
+        return Err(Fault::CardAfterEvent);
     }
-    let taken = Record::Chip {
-        code: code,
-        kind: kind,
-    };
-    Found::Record(taken, next)
+    Ok(Found::Record(Record::Chip { code, kind }, next))
 }
 
 // A whole record of the card, by what the card makes of it.
-fn card_record(over: bool, entry: Result<Option<Entry>, card::Fault>) -> Found
+fn card_record(over: bool, entry: Result<Option<Entry>, card::Fault>) -> Result<Found, Fault>
     ensures { result ≡ card_record over entry }
 {
-    match entry {
-        Ok(None) => Found::End,
-        Ok(Some(e)) => chip_record(over, e.code, e.kind, e.next),
-        Err(f) => Found::Refused(Fault::OnCard(f)),
+    match entry? {
+        None => Ok(Found::End),
+        Some(e) => chip_record(over, e.code, e.kind, e.next),
     }
 }
 
@@ -122,7 +111,7 @@ fn unused_clear(bytes: &[u8], count: u16) -> bool
 }
 
 // A run of slots of the length that its count asks.
-fn slots_record(s: &[u8], body: usize, next: usize) -> Found
+fn slots_record(s: &[u8], body: usize, next: usize) -> Result<Found, Fault>
     requires { (body + (2 + bytes_asked (number_at s.now body 2)) ≡ next) × (next ≤ length s.now) }
     ensures { result ≡ slots_record s.now body next }
 {
@@ -130,13 +119,13 @@ fn slots_record(s: &[u8], body: usize, next: usize) -> Found
     let from = body + 2;
     if unused_clear(&s[from..next], count) {
         let taken = Record::Slots {
-            count: count,
-            from: from,
+            count,
+            from,
             to: next,
         };
-        return Found::Record(taken, next);
+        return Ok(Found::Record(taken, next));
     }
-    Found::Refused(Fault::UnusedBits)
+    Err(Fault::UnusedBits)
 }
 
 // The event of a record of kinds 17 to 19.
@@ -156,7 +145,7 @@ fn event_in(s: &[u8], body: usize, kind: u16) -> Event
 }
 
 // A whole record of one of kinds 16 to 19.
-fn event_record(s: &[u8], size: u16, kind: u16, body: usize, next: usize) -> Found
+fn event_record(s: &[u8], size: u16, kind: u16, body: usize, next: usize) -> Result<Found, Fault>
     requires { (body + size ≡ next + 2) × (next ≤ length s.now) }
     ensures { result ≡ event_record s.now size kind body next }
 {
@@ -166,9 +155,9 @@ fn event_record(s: &[u8], size: u16, kind: u16, body: usize, next: usize) -> Fou
             return slots_record(s, body, next);
         }
         let event = event_in(s, body, kind);
-        return Found::Record(Record::Event(event), next);
+        return Ok(Found::Record(Record::Event(event), next));
     }
-    Found::Refused(Fault::OnCard(card::Fault::WrongLength))
+    Err(Fault::OnCard(card::Fault::WrongLength))
 }
 
 // A whole record.
@@ -181,34 +170,29 @@ fn whole_record(
     kind: u16,
     body: usize,
     next: usize,
-) -> Found
+) -> Result<Found, Fault>
     requires { (body + size ≡ next + 2) × (next ≤ length s.now) }
     ensures { result ≡ whole_record s.now at room over size kind body next }
 {
     if is_event(kind) {
         return event_record(s, size, kind, body, next);
     }
-    let entry = card::entry_at(s, at, room);
-    card_record(over, entry)
+    card_record(over, card::entry_at(s, at, room))
 }
 
 // The end of what is there.
-fn at_end(more: bool) -> Found
+fn at_end(more: bool) -> Result<Found, Fault>
     ensures { result ≡ at_end more }
 {
-    if more {
-        return Found::Part;
-    }
-    Found::End
+    Ok(if more { Found::Part } else { Found::End })
 }
 
 // What stands at an offset, where room more chips may come, a record of one of kinds 16 to 19 came before or not, and more of
 // the recording may come or not.
-pub fn record_at(s: &[u8], at: usize, room: usize, over: bool, more: bool) -> Found
+pub fn record_at(s: &[u8], at: usize, room: usize, over: bool, more: bool) -> Result<Found, Fault>
     ensures { result ≡ found_at s.now at room over more }
 {
-    let head = records::head_at(s, at);
-    match head {
+    match records::head_at(s, at) {
         Head::End => at_end(more),
         Head::Short => cut_off(true, more),
         Head::Cut { length, kind } => cut_record(s, at, more, length, kind),
@@ -225,16 +209,8 @@ pub fn record_at(s: &[u8], at: usize, room: usize, over: bool, more: bool) -> Fo
 pub fn starts_event(s: &[u8], at: usize) -> bool
     ensures { result ≡ starts_event s.now at }
 {
-    let head = records::head_at(s, at);
-    match head {
-        Head::End => false,
-        Head::Short => false,
-        Head::Cut { length: _, kind } => is_event(kind),
-        Head::Whole {
-            length: _,
-            kind,
-            body: _,
-            next: _,
-        } => is_event(kind),
+    match records::head_at(s, at) {
+        Head::End | Head::Short => false,
+        Head::Cut { kind, .. } | Head::Whole { kind, .. } => is_event(kind),
     }
 }

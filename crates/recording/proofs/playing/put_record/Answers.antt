@@ -16,7 +16,7 @@ pub slice_bounds-put_slots-end : goal.slice_bounds-put_slots-end
 slice_bounds-put_slots-end c = let a = c.args in let f = subst (RecordFits a.s.now) c.in-Slots.is c.requires.0 in f.1
 
 pub put_slots-requires : goal.put_slots-requires
-put_slots-requires c = let a = c.args in let f = subst (RecordFits a.s.now) c.in-Slots.is c.requires.0 in let g = c.in-Slots in let m = ap answers_most g.is in let o = c.requires.2 in (run-bytes a.s.now g.count g.from g.to f, c.requires.1, omega arith)
+put_slots-requires c = let a = c.args in let f = subst (RecordFits a.s.now) c.in-Slots.is c.requires.0 in let g = c.in-Slots in let m = ap answers_most g.is in let o = c.requires.1 in (run-bytes a.s.now g.count g.from g.to f, omega arith)
 
 pub returns-in-Chip : goal.returns-in-Chip
 returns-in-Chip c = let a = c.args in record_put a.s.now (attached a.t.n a.t.chips a.ms.now a.ss.now) a.place a.out.now a.taken _ _ c.in-Chip.is refl

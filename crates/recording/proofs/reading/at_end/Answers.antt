@@ -6,6 +6,6 @@ pub returns-then-more : goal.returns-then-more
 unfolding at_end
 returns-then-more c = search cases
 
-pub returns : goal.returns
+pub returns-else-more : goal.returns-else-more
 unfolding at_end
-returns c = search cases
+returns-else-more c = search cases

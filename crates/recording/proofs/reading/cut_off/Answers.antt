@@ -6,10 +6,6 @@ pub returns-then-more : goal.returns-then-more
 unfolding cut_off
 returns-then-more c = search cases
 
-pub returns-then-right : goal.returns-then-right
+pub returns-else-right : goal.returns-else-right
 unfolding cut_off
-returns-then-right c = search cases
-
-pub returns : goal.returns
-unfolding cut_off
-returns c = search cases
+returns-else-right c = search cases

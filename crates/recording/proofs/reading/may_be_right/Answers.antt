@@ -1,11 +1,12 @@
-use Rattle.recording.specs.Reading.{may_be_right}
+use Rattle.base.specs.Bits.{both}
 use Rattle.base.specs.Rules.{cases}
+use Rattle.recording.specs.Reading.{may_be_right}
 use Rattle.recording.proofs.reading.may_be_right.Goals as goal
 
-pub returns-then-uncounted : goal.returns-then-uncounted
-unfolding may_be_right
-returns-then-uncounted c = search (cases, ← c.are_both-uncounted.ensures, ← c.length_asked-asked.ensures)
+pub returns-then-left-lt6 : goal.returns-then-left-lt6
+unfolding may_be_right both
+returns-then-left-lt6 c = search (cases, ← c.length_asked-asked.ensures)
 
-pub returns : goal.returns
-unfolding may_be_right
-returns c = search (cases, ← c.are_both-uncounted.ensures, ← c.length_asked-asked.ensures)
+pub returns-else-left-lt6 : goal.returns-else-left-lt6
+unfolding may_be_right both
+returns-else-left-lt6 c = search (cases, ← c.length_asked-asked.ensures)

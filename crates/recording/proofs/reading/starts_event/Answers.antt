@@ -5,16 +5,8 @@ use Rattle.recording.proofs.reading.starts_event.Goals as goal
 
 pub returns-in-End : goal.returns-in-End
 unfolding starts_event
-returns-in-End c = search (cases, event_at, ← c.head_at-head.ensures)
-
-pub returns-in-Short : goal.returns-in-Short
-unfolding starts_event
-returns-in-Short c = search (cases, event_at, ← c.head_at-head.ensures)
+returns-in-End c = search (cases, event_at, ← c.head_at.ensures)
 
 pub returns-in-Cut : goal.returns-in-Cut
 unfolding starts_event
-returns-in-Cut c = search (cases, event_at, c.is_event.ensures, ← c.head_at-head.ensures)
-
-pub returns-in-Whole : goal.returns-in-Whole
-unfolding starts_event
-returns-in-Whole c = search (cases, event_at, c.is_event-in-Whole.ensures, ← c.head_at-head.ensures)
+returns-in-Cut c = search (cases, event_at, c.is_event.ensures, ← c.head_at.ensures)

@@ -8,4 +8,4 @@ returns-then-is_event c = search (cases, c.event_record.ensures, ← c.is_event.
 
 pub returns : goal.returns
 unfolding whole_record
-returns c = search (cases, c.card_record.ensures, ← c.entry_at-entry.ensures, ← c.is_event.ensures)
+returns c = search (cases, c.card_record.ensures, ← c.entry_at.ensures, ← c.is_event.ensures)
