@@ -7,6 +7,7 @@ use crate::Told;
 use std::io::{Read, Stderr};
 
 // So many bytes, the offset of the first of them in the input, and whether more may come.
+// Stays beside its buffer: `taken` answers for any hand and any buffer, and a struct of both would ask that the bytes lie in it.
 #[derive(Clone, Copy, PartialEq, Eq)]
 pub struct Hand {
     pub bytes: usize,
@@ -26,6 +27,7 @@ pub fn nothing() -> Hand
 }
 
 // So many bytes, or all that the buffer has.
+// Stays a number: theorem console_input_within of crate coincide gives one answer, and no contract gives the address that a slice carries.
 pub fn within(n: usize, bytes: &[u8]) -> usize
     ensures value { result ≡ min n (length bytes.now) }
     ensures prefix_len { IsPrefixLen result bytes.now }
