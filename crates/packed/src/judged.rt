@@ -9,6 +9,7 @@ use ds2413::Switch;
 use scratchpad::Registers;
 
 // Kind, RC, E/S, latches and outside levels lie in their ranges.
+// Stays with `&`, here and below: by `&&` an event on 16 chips took 3 in 100 more instructions, 1752 for 1695.
 #[tactic(auto, using(base::specs::Rules::cases), unfolding(crate::specs::Judged::fields_stand, base::specs::Bits::both))]
 fn fields_stand(record: &[u8; RECORD_SIZE]) -> bool
     ensures { result ≡ fields_stand record.now }
@@ -36,6 +37,7 @@ fn are_zero(low: u8, high: u8) -> bool
 }
 
 // The bytes after the step are 0.
+// Stays pair by pair: so does the definition `rest_is_zero`, by which `bytes_judged` is proved.
 #[tactic(auto, using(base::specs::Rules::cases), unfolding(crate::specs::Judged::rest_is_zero, base::specs::Bits::both))]
 fn rest_is_zero(record: &[u8; RECORD_SIZE]) -> bool
     ensures { result ≡ rest_is_zero record.now }

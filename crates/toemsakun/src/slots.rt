@@ -90,6 +90,7 @@ pub fn slot(table: &mut [u8], g: Range, host: bool, ms: &mut [u8], ss: &mut [u8]
 }
 
 // The range without the chips at its front that wait.
+// Stays a `while`: no plainer as a `for`, since an end of the range moves and no index is counted. So in `back`.
 pub fn front(table: &[u8], g: Range) -> Range
     requires { Table16 table.now × Outside g table.now }
     ensures { Outside result table.now }
