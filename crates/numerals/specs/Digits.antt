@@ -1,11 +1,10 @@
 -- Laws: digits read one after another, each number kept within a word.
 use Prim.Native.Char.{code as letter}
 use Rattle.std.specs.Prelude.{ℕ, ◌+◌, ◌-◌, ◌*◌, ◌<◌, ◌≤◌, min, Bool, true, false, List, [], ◌∷◌, ◌≡◌, refl, ltb, leb, length, get_or, drop, Option, Some, None}
-use Rattle.std.proofs.Common.{arith, add-one, ◌∙◌, ap, sym, drop_of_length-le, drop-cons, leb-true, lt-ltb, le-ltb, ltb-true, ltb-false}
+use Rattle.std.proofs.Common.{arith, add-one, ◌∙◌, ap, sym, drop_of_length-le, drop-cons, lt-ltb, le-ltb, ltb-true, ltb-false}
 use Rattle.std.specs.Char.{is_ascii_digit}
 use Rattle.base.specs.BytesLaw.{and_both}
 use Rattle.base.specs.Pick.{pick, pick_true, pick_false, pick_of, pick_if}
-use Rattle.base.specs.Both.{both_holds}
 use Rattle.numerals.specs.Numerals.{is_digit, digits_on, most}
 use Rattle.numerals.specs.Numerals.{kept, counted_by}
 
@@ -54,10 +53,6 @@ cut_on n (c ∷ cs) =
 pub digit_test : (c : ℕ) → is_ascii_digit c ≡ is_digit c
 unfolding is_digit
 digit_test c = and_both (leb (letter "0") c) (leb c (letter "9"))
-
-pub digit_from : (c : ℕ) → is_digit c ≡ true → letter "0" ≤ c
-unfolding is_digit
-digit_from c t = leb-true (letter "0") c (both_holds _ _ t).0
 
 module _ (text : List ℕ) (n i : ℕ) where
   pub next_digit : (r : ℕ) → i < length text → is_digit (get_or text i 0) ≡ true → r ≡ kept (10 * n + (get_or text i 0 - letter "0"))

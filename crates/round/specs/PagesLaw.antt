@@ -12,10 +12,3 @@ line_put page text l e =
     let d = digits_length page in
     let n : 0 + length (digits_of page) ≡ 64 = omega arith in
     e ∙ sets-eq (digits_of page) (replicate 65 0x0A) 0 (omega arith) ∙ ap (λ (k : ℕ). digits_of page ++ drop k (replicate 65 0x0A)) n
-
--- a page is 32 bytes of those that are there
-pub page_length : (pages : List ℕ) (at : ℕ) → at + 32 ≤ length pages → length (take (at + 32 - at) (drop at pages)) ≡ 32
-page_length pages at h =
-    let d = length-drop at pages in
-    let e : at + 32 - at ≡ 32 = omega arith in
-    ap (λ (k : ℕ). length (take k (drop at pages))) e ∙ length-take-le 32 (drop at pages) (omega arith)
