@@ -43,26 +43,21 @@ fn byte_past(s: &[u8], at: usize, k: usize) -> u8
 pub fn pair(low: u8, high: u8) -> u16
     ensures { result ≡ number_at (low ∷ high ∷ []) 0 2 }
 {
-    (low as u16) + 256 * (high as u16)
+    u16::from_le_bytes([low, high])
 }
 
 // The number of eight bytes.
 pub fn code(b0: u8, b1: u8, b2: u8, b3: u8, b4: u8, b5: u8, b6: u8, b7: u8) -> u64
     ensures { result ≡ number_at (b0 ∷ b1 ∷ b2 ∷ b3 ∷ b4 ∷ b5 ∷ b6 ∷ b7 ∷ []) 0 8 }
 {
-    let top = (b6 as u64) + 256 * (b7 as u64);
-    let upper = (b4 as u64) + 256 * ((b5 as u64) + 256 * top);
-    let lower = (b2 as u64) + 256 * ((b3 as u64) + 256 * upper);
-    (b0 as u64) + 256 * ((b1 as u64) + 256 * lower)
+    u64::from_le_bytes([b0, b1, b2, b3, b4, b5, b6, b7])
 }
 
 // The number of the two bytes from an offset on.
 pub fn pair_at(s: &[u8], at: usize) -> u16
     ensures { result ≡ number_at s.now at 2 }
 {
-    let low = byte_past(s, at, 0);
-    let high = byte_past(s, at, 1);
-    pair(low, high)
+    pair(byte_past(s, at, 0), byte_past(s, at, 1))
 }
 
 // The number of the eight bytes from an offset on.
@@ -94,17 +89,14 @@ pub fn head_at(s: &[u8], at: usize) -> Head
     }
     let length = pair_at(s, at);
     let kind = pair_at(s, at + 2);
-    let size = (length as usize) + 2;
+    let size = usize::from(length) + 2;
     if size <= left {
         return Head::Whole {
-            length: length,
-            kind: kind,
+            length,
+            kind,
             body: at + 4,
             next: at + size,
         };
     }
-    Head::Cut {
-        length: length,
-        kind: kind,
-    }
+    Head::Cut { length, kind }
 }
