@@ -36,6 +36,7 @@ pub enum Fault {
 }
 
 // The number of a refusal.
+// Stays a function: `setpoints_number_of` of coincide is its theorem.
 pub fn number_of(fault: Fault) -> u8
     ensures { result ≡ number_of_fault fault }
 {

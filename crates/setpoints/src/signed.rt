@@ -3,6 +3,7 @@ ghost use Rattle.std.specs.Prelude.{◌≡◌};
 ghost use Rattle.setpoints.specs.Signed.{signed};
 
 // The signed number that a byte stands for.
+// Stays beside `signed_pair`: readback has a theorem of each, `signed_byte_is` and `signed_pair_is`, and `cast_signed` is no method of a trait.
 #[tactic(auto, using(crate::specs::Words::byte_word))]
 pub fn signed_byte(b: u8) -> i64
     ensures { result ≡ signed 1 b }

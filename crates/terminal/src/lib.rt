@@ -33,6 +33,7 @@ pub fn say_number(out: Stdout, n: u64) {
 }
 
 // Writes `refused R at P`.
+// Stays in parts, as the line of a code does: each part is tried even where one before it was not written, and a `write!` would leave the rest.
 pub fn say_refused(out: Stdout, number: u8, at: u64) {
     say(out, b"refused ");
     say_number(out, number as u64);
@@ -102,6 +103,7 @@ pub fn write_codes(out: Stdout, list: &[u64], n: usize) {
 }
 
 // Room for the images of 16 chips, all FFh.
+// Stays beside `pad_room`: coincide has a theorem of each, `terminal_image_room` and `terminal_pad_room`.
 pub fn image_room() -> [u8; IMAGES_MOST]
     ensures value { result ≡ replicate images_most 0xFF }
     ensures images_most_value { images_most ≡ length result }
