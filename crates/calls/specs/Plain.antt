@@ -123,12 +123,12 @@ plain = record {
 }
 
 -- the answer that an event comes to, and those of a search and of a run
-answer-for : (p : Plan) (n : ℕ) (cs : List Chip) (ms ss : List ℕ) → (a : Result Bool Refusal) × (answered a ≡ (done_of p n cs ms ss).answer)
-answer-for (plan.Refused r) n cs ms ss = (Err r, refl)
-answer-for (plan.Slot b) n cs ms ss = (Ok _, refl)
-answer-for plan.Reset n cs ms ss = (Ok _, refl)
-answer-for plan.PowerOn n cs ms ss = (Ok true, refl)
-answer-for (plan.Outside i x) n cs ms ss = (Ok true, refl)
+answer-for : (p : Result Plan Refusal) (n : ℕ) (cs : List Chip) (ms ss : List ℕ) → (a : Result Bool Refusal) × (answered a ≡ (done_of p n cs ms ss).answer)
+answer-for (Err r) n cs ms ss = (Err r, refl)
+answer-for (Ok (plan.Slot b)) n cs ms ss = (Ok _, refl)
+answer-for (Ok plan.Reset) n cs ms ss = (Ok _, refl)
+answer-for (Ok plan.PowerOn) n cs ms ss = (Ok true, refl)
+answer-for (Ok (plan.Outside i x)) n cs ms ss = (Ok true, refl)
 
 complete_for : (b : Bool) → (a : SearchAnswer) × (searched a ≡ complete_or4 b)
 unfolding pick

@@ -1,7 +1,8 @@
 -- A copy in full. Document 01, 55h: "the copy is carried out: each offset from T mod 32 to E passes the rule of a byte again into memory,
 -- every byte judged by the memory before the copy; AA = 1; the chip sends 0, 1, 0, 1 until reset." And nothing else changes. That a slot
 -- which carries out no copy leaves the memory is `no_copy`, in the crate `recovery`.
-use Rattle.std.specs.Prelude.{ℕ, zero, suc, ◌+◌, ◌-◌, ◌*◌, ◌/◌, ◌%◌, ◌<◌, ◌≤◌, Bool, true, false, List, [], ◌∷◌, ◌≡◌, refl, length}
+use Rattle.std.specs.Prelude.{ℕ, zero, suc, ◌+◌, ◌-◌, ◌*◌, ◌/◌, ◌%◌, ◌<◌, ◌≤◌, Bool, true, false, List, [], ◌∷◌, ◌≡◌, refl, length, Result, Ok, Err}
+use Rattle.line.specs.declared.Refusal.{Refusal}
 use native.Mathlib.Omega.{arith}
 use Rattle.std.proofs.Common.{eq-or-lt_of_le, le_of_suc-le-suc, not-suc-le-zero, true≢false, ⊎_elim, ◌∙◌, sym, get_or-set_same, get_or-set_other, ltb-true}
 use Rattle.std.proofs.Math.Path.{ap, subst}
@@ -19,7 +20,7 @@ use Rattle.chip.specs.Kinds.{image_size}
 use Rattle.chip.specs.With.{with_level, with_registers}
 use Rattle.chip.specs.Chip.{Whole, whole, whole_after, takes_of}
 use Rattle.chip.specs.declared.Level.TheVariants.{Memory}
-use Rattle.line.specs.Line.{value_of, act_of, after_by}
+use Rattle.line.specs.Line.{value_of, act_of, after_plan}
 use Rattle.line.specs.Sizes.{copied_length}
 use Rattle.line.specs.Event.{plan_on}
 use Rattle.line.specs.declared.Plan.{Plan}
@@ -33,12 +34,12 @@ use Rattle.recovery.specs.CarriedOut.{carries_out}
 use Rattle.commands.specs.Asked.{Asked, level_carried, map_is, copy_asked}
 
 -- an event carries out a copy in chip i: it is a slot, and its value on the bus is the last bit that the copy waited for
-abbrev pub Copies : Plan → ℕ → List Whole → Type 0
-Copies (plan.Refused r) i L = ⊥
-Copies (plan.Slot b) i L = carries_out (value_of b L) (at i L) ≡ true
-Copies plan.Reset i L = ⊥
-Copies plan.PowerOn i L = ⊥
-Copies (plan.Outside j l) i L = ⊥
+abbrev pub Copies : Result Plan Refusal → ℕ → List Whole → Type 0
+Copies (Err r) i L = ⊥
+Copies (Ok (plan.Slot b)) i L = carries_out (value_of b L) (at i L) ≡ true
+Copies (Ok plan.Reset) i L = ⊥
+Copies (Ok plan.PowerOn) i L = ⊥
+Copies (Ok (plan.Outside j l)) i L = ⊥
 
 -- "The rule of a byte: for a held address the memory byte; for one that only falls, the AND of both; otherwise the byte sent.": what
 -- the byte sent to the address a comes to, judged by the memory m
@@ -149,14 +150,14 @@ module _ (w : Whole) where
       })
 
 -- by what the event comes to
-plan_in_full : (i : ℕ) (p : Plan) (L : List Whole) → i < length L → Good (at i L) → (at i L).chip.kind ≡ 1 → Copies p i L → CopiedInFull (at i L) (at i (after_by p L))
-plan_in_full i (plan.Refused r) L h g k c = absurd c
-plan_in_full i (plan.Slot b) L h g k c =
+plan_in_full : (i : ℕ) (p : Result Plan Refusal) (L : List Whole) → i < length L → Good (at i L) → (at i L).chip.kind ≡ 1 → Copies p i L → CopiedInFull (at i L) (at i (after_plan p L))
+plan_in_full i (Err r) L h g k c = absurd c
+plan_in_full i (Ok (plan.Slot b)) L h g k c =
     let v = value_of b L in
     subst (CopiedInFull (at i L)) (sym (at_map (act_of (Take v)) i L h)) (slot_in_full (at i L) v g k c)
-plan_in_full i plan.Reset L h g k c = absurd c
-plan_in_full i plan.PowerOn L h g k c = absurd c
-plan_in_full i (plan.Outside j l) L h g k c = absurd c
+plan_in_full i (Ok plan.Reset) L h g k c = absurd c
+plan_in_full i (Ok plan.PowerOn) L h g k c = absurd c
+plan_in_full i (Ok (plan.Outside j l)) L h g k c = absurd c
 
 -- THEOREM: a copy in full: every event that carries out a copy in the DS28EC20 at place i of any line, in any state that is in range
 pub copy_in_full : (i : ℕ) (e : Event) (L : List Whole) → i < length L → Good (at i L) → (at i L).chip.kind ≡ 1

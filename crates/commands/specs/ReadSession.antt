@@ -1,5 +1,5 @@
 -- A session that matches a chip's code, sends it a command and reads: of a line whose codes all differ, from any state of it.
-use Rattle.std.specs.Prelude.{ℕ, zero, suc, Bool, true, false, List, [], ◌∷◌, ◌++◌, map, ◌≡◌, refl, length, replicate}
+use Rattle.std.specs.Prelude.{ℕ, zero, suc, Bool, true, false, List, [], ◌∷◌, ◌++◌, map, ◌≡◌, refl, length, replicate, Result}
 use Rattle.std.proofs.Common.{append_assoc, ◌∙◌, ap, sym}
 use Rattle.std.proofs.lemmas.List.{map-append}
 use Rattle.base.specs.Both.{both_true}
@@ -9,6 +9,7 @@ use Rattle.line.specs.Event.{Answered, bit}
 use Rattle.line.specs.Events.{slot_event, reset_event}
 use Rattle.line.specs.declared.Event.{Event}
 use Rattle.line.specs.declared.Plan.{Plan}
+use Rattle.line.specs.declared.Refusal.{Refusal}
 use Rattle.histories.specs.Histories.{at, answer_of, after_of, run, answers, came}
 use Rattle.histories.specs.Sent.{slots}
 use Rattle.recovery.specs.Sessions.{opening, Addressed, slotted, match_session}
@@ -138,7 +139,7 @@ module _ (i : ℕ) (L : List Whole) (s : Installed i L) (command : List Bool) (u
         ∙ ap (λ (l : List Answered). l ++ answers ones line) (session_answers i L s code refl command u goes)
         ∙ ap (λ (l : List Answered). bit false ∷ (map bit (opening code ++ command) ++ l))
         (alone_answers code [] ones u i line free own among
-        ∙ ap (λ (ps : List Plan). own_answers ps u) (came_slots (replicate n true) line)
+        ∙ ap (λ (ps : List (Result Plan Refusal)). own_answers ps u) (came_slots (replicate n true) line)
         ∙ read_answers n u
         ∙ ap (map bit) read_is)
         ∙ ap (λ (l : List Answered). bit false ∷ l) (sym (map-append bit (opening code ++ command) (then_ones n sent)))
@@ -150,6 +151,6 @@ module _ (i : ℕ) (L : List Whole) (s : Installed i L) (command : List Bool) (u
         ap (λ (es : List Event). but_level (at i (run es L))) in_two
         ∙ ap (λ (K : List Whole). but_level (at i K)) (run_append (match_session code command) ones L)
         ∙ ap but_level (among_at (alone code [] ones u i line free own among))
-        ∙ ap (λ (ps : List Plan). but_level (own_run ps u)) (came_slots (replicate n true) line)
+        ∙ ap (λ (ps : List (Result Plan Refusal)). but_level (own_run ps u)) (came_slots (replicate n true) line)
         ∙ ap but_level (read_run n u)
         ∙ streams.stays (read_bits n u)

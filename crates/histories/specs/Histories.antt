@@ -1,9 +1,10 @@
 -- Histories: events on a line of whole chips, one after the other, refused ones counted in.
-use Rattle.std.specs.Prelude.{ℕ, List, [], ◌∷◌, map, get_or}
+use Rattle.std.specs.Prelude.{ℕ, List, [], ◌∷◌, map, get_or, Result}
+use Rattle.line.specs.declared.Refusal.{Refusal}
 use Rattle.chip.specs.Chip.{Whole, whole}
-use Rattle.line.specs.Line.{after_by}
+use Rattle.line.specs.Line.{after_plan}
 use Rattle.chip.specs.With.{no_chip}
-use Rattle.line.specs.Event.{Answered, plan_on, answer_by}
+use Rattle.line.specs.Event.{Answered, plan_on, answer_plan}
 use Rattle.line.specs.declared.Event.{Event}
 use Rattle.line.specs.declared.Plan.{Plan}
 use Rattle.search.specs.Host.{Wire}
@@ -39,10 +40,10 @@ stores_of L = map stored_in L
 
 -- what an event answers on a line that stands well, and the line that it leaves; a refused event leaves it as it was
 unfoldable pub answer_of : Event → List Whole → Answered
-answer_of e L = answer_by (plan_on e L) L
+answer_of e L = answer_plan (plan_on e L) L
 
 unfoldable pub after_of : Event → List Whole → List Whole
-after_of e L = after_by (plan_on e L) L
+after_of e L = after_plan (plan_on e L) L
 
 -- the line after a history, and the answers of its events
 abbrev pub run : List Event → List Whole → List Whole
@@ -54,7 +55,7 @@ answers [] L = []
 answers (e ∷ es) L = answer_of e L ∷ answers es (after_of e L)
 
 -- what each event of a history comes to
-abbrev pub came : List Event → List Whole → List Plan
+abbrev pub came : List Event → List Whole → List (Result Plan Refusal)
 came [] L = []
 came (e ∷ es) L = plan_on e L ∷ came es (after_of e L)
 

@@ -1,11 +1,12 @@
 -- What every history keeps: a relation between a chip before and after that each act and each change of outside levels keeps holds
 -- between every chip before a history and after it. So the codes, the kinds and the number of the chips are kept.
-use Rattle.std.specs.Prelude.{ℕ, zero, suc, ◌≤◌, true, false, List, [], ◌∷◌, map, ◌≡◌, refl, length}
+use Rattle.std.specs.Prelude.{ℕ, zero, suc, ◌≤◌, true, false, List, [], ◌∷◌, map, ◌≡◌, refl, length, Result}
+use Rattle.line.specs.declared.Refusal.{Refusal}
 use Rattle.std.proofs.Common.{◌∙◌, ap}
 use Rattle.base.specs.Bits.{bit_of}
 use Rattle.chip.specs.Kinds.{takes_outside}
 use Rattle.chip.specs.Chip.{Whole, outside_of}
-use Rattle.line.specs.Line.{value_of, act_of, outside_at, after_by}
+use Rattle.line.specs.Line.{value_of, act_of, outside_at, after_plan}
 use Rattle.line.specs.Layout.{chips_of}
 use Rattle.line.specs.Refusals.{Comes, slot, reset, power_on, outside, refused, comes}
 use Rattle.chip.specs.declared.Chip.{Chip}
@@ -63,7 +64,7 @@ module _ (R : Whole → Whole → Type 0) (same : (w : Whole) → R w w) (onto :
   each_level (suc i) l (w ∷ L) e h = more (same w) (each_level i l L e h)
 
   -- one event
-  comes_kept : (L : List Whole) {q : Plan} → Comes (chips_of L) q → Each R L (after_by q L)
+  comes_kept : (L : List Whole) {q : Result Plan Refusal} → Comes (chips_of L) q → Each R L (after_plan q L)
   comes_kept L (slot b) = each_act (Take (value_of b L)) L
   comes_kept L reset = each_act Reset L
   comes_kept L power_on = each_act PowerOn L

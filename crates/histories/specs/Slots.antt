@@ -8,9 +8,9 @@ use Rattle.base.specs.Bits.{both}
 use Rattle.base.specs.Both.{true_both, both_true'}
 use Rattle.chip.specs.Chip.{Whole}
 use Rattle.chip.specs.declared.Chip.{Chip}
-use Rattle.line.specs.Event.{bit, asked_by, plan_event, plan_on, outside_fits, answer_by, table_in_range, sizes_fit}
+use Rattle.line.specs.Event.{bit, asked_by, plan_event, plan_on, outside_fits, table_in_range, sizes_fit, answer_plan}
 use Rattle.line.specs.Events.{slot_event}
-use Rattle.line.specs.Line.{value_of, after_by}
+use Rattle.line.specs.Line.{value_of, after_by, after_plan}
 use Rattle.line.specs.Slots.{bytes_from, host_bits, run_on as ranOn, run_fits, put, refused, RunOutcome, run_outcome, run_verdict, run_by, slots_of}
 use Rattle.line.specs.RunTables.{run_well, put_all}
 use Rattle.line.specs.declared.Event.{Event}
@@ -35,18 +35,18 @@ abbrev pub events_of_run : ℕ → List ℕ → List Event
 events_of_run n bits = slots (host_bits n bits)
 
 -- a slot comes to itself
-pub planned_slot : (b : Bool) (L : List Whole) → plan_on (slot_event b) L ≡ plan.Slot b
+pub planned_slot : (b : Bool) (L : List Whole) → plan_on (slot_event b) L ≡ Ok (plan.Slot b)
 unfolding plan_event outside_fits asked_by pick
 planned_slot true L = refl
 planned_slot false L = refl
 
 after_slot : (b : Bool) (L : List Whole) → after_of (slot_event b) L ≡ after_by (plan.Slot b) L
 unfolding after_of
-after_slot b L = ap (λ (p : Plan). after_by p L) (planned_slot b L)
+after_slot b L = ap (λ (p : Result Plan Refusal). after_plan p L) (planned_slot b L)
 
 answer_slot : (b : Bool) (L : List Whole) → answer_of (slot_event b) L ≡ bit (value_of b L)
 unfolding answer_of
-answer_slot b L = ap (λ (p : Plan). answer_by p L) (planned_slot b L)
+answer_slot b L = ap (λ (p : Result Plan Refusal). answer_plan p L) (planned_slot b L)
 
 -- slot events on a line leave what the run leaves, and answer its bits
 slots_leave : (bs : List Bool) (L : List Whole) → run (slots bs) L ≡ (ranOn bs L).line

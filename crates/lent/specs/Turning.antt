@@ -4,16 +4,15 @@ use Rattle.std.proofs.Common.{arith, add-one, ◌∙◌, ap, sym}
 use Rattle.std.proofs.Math.Path.{refl}
 use Rattle.chip.specs.declared.Chip.{Chip}
 use Rattle.chip.specs.With.{no_chip}
-use Rattle.line.specs.Event.{answered, refused, number_of, Outcome, outcome, verdict_of, event_of}
+use Rattle.line.specs.Event.{bit, Outcome, outcome, verdict_of, event_of}
 use Rattle.line.specs.Layout.{lent}
-use Rattle.line.specs.Carrier.{over, first_spot, first_survey, survey_chip, surveyed, verdict_by, plan_seen, bus_over, turned, turn_of, acts, answer_for}
-use Rattle.line.specs.Carried.{Surveyed, over_line, plan_is, stands_is, walked, refused_walked}
-use Rattle.line.proofs.Walked.{plan_walked}
+use Rattle.line.specs.Carrier.{over, first_spot, first_survey, survey_chip, surveyed, verdict_by, plan_seen, bus_over, turned, turn_of, acts}
+use Rattle.line.specs.Carried.{Surveyed, over_line, stands_is, walked, walked_by}
+use Rattle.line.proofs.Walked.{event_planned as planned}
 use Rattle.line.specs.declared.Event.{Event}
 use Rattle.line.specs.declared.Refusal.{Refusal}
 use Rattle.line.specs.declared.Survey.{Survey}
 use Rattle.line.specs.declared.Plan.{Plan}
-use Rattle.line.specs.declared.Plan.TheVariants as plan
 use Rattle.line.specs.declared.Spot.{Spot}
 
 -- a turn, and the end
@@ -39,24 +38,19 @@ acts_none d v i p cs ms ss = refl
 abbrev pub plan_done : Plan → List Chip → List ℕ → List ℕ → Outcome
 plan_done p cs ms ss = walked (length cs) (length cs) cs ms ss p
 
-pub plan-done : (p : Plan) (cs ds : List Chip) (ms ss xs ys : List ℕ) (v : Bool) (a : Result Bool Refusal) → v ≡ (bus_over p (length cs) cs ms ss).value
-    → lent ds xs ys ≡ acts p v (length cs) 0 first_spot cs ms ss → a ≡ answer_for p v → length ds ≡ length cs → outcome (answered a) (length ds) (lent ds xs ys) ≡ plan_done p cs ms ss
-plan-done p cs ds ms ss xs ys v a f k m l =
-    (λ j. outcome (answered (m j)) (l j) (k j))
-    ∙ ap (λ (b : Bool). outcome (answered (answer_for p b)) (length cs) (acts p b (length cs) 0 first_spot cs ms ss)) f
+pub plan-done : (p : Plan) (cs ds : List Chip) (ms ss xs ys : List ℕ) (v : Bool) → v ≡ (bus_over p (length cs) cs ms ss).value
+    → lent ds xs ys ≡ acts p v (length cs) 0 first_spot cs ms ss → length ds ≡ length cs → outcome (bit v) (length ds) (lent ds xs ys) ≡ plan_done p cs ms ss
+plan-done p cs ds ms ss xs ys v f k l =
+    (λ j. outcome (bit v) (l j) (k j))
+    ∙ ap (λ (b : Bool). outcome (bit b) (length cs) (acts p b (length cs) 0 first_spot cs ms ss)) f
 
 module _ (cs : List Chip) (ms ss : List ℕ) where
   surveyed_all : (chip : ℕ) (l : Survey) → l ≡ surveyed chip (length cs) cs → Surveyed chip (length cs) cs l
   surveyed_all chip l e few = (omega arith, e ∙ over_line (survey_chip chip) (length cs) cs first_survey (omega arith))
 
-  pub refused_is : (r : Refusal) → plan_done (plan.Refused r) cs ms ss ≡ outcome (refused (number_of r)) (length cs) (lent cs ms ss)
-  refused_is r = refused_walked (length cs) (length cs) cs ms ss r
-
   pub slice_stands : (chip : ℕ) (l : Survey) → l ≡ surveyed chip (length cs) cs → verdict_by l (length cs) (length ms) (length ss) ≡ verdict_of (length cs) cs ms ss
   slice_stands chip l e = stands_is chip (length cs) cs ms ss l (surveyed_all chip l e)
 
-  pub event_planned : (e : Event) (l : Survey) (p : Plan) → l ≡ surveyed e.chip (length cs) cs → p ≡ plan_seen l (length cs) e (length ms) (length ss)
-      → plan_done p cs ms ss ≡ event_of (length cs) cs e ms ss
-  event_planned e l p f g =
-      ap (λ (x : Plan). plan_done x cs ms ss) (g ∙ plan_is (length cs) cs e ms ss l (surveyed_all e.chip l f))
-      ∙ plan_walked (length cs) (length cs) cs ms ss (λ few. (omega arith, refl)) e
+  pub event_planned : (e : Event) (l : Survey) (p : Result Plan Refusal) → l ≡ surveyed e.chip (length cs) cs → p ≡ plan_seen l (length cs) e (length ms) (length ss)
+      → walked_by (length cs) (length cs) cs ms ss p ≡ event_of (length cs) cs e ms ss
+  event_planned e l p f g = planned (length cs) (length cs) cs ms ss (λ few. (omega arith, refl)) e l p (surveyed_all e.chip l f) g

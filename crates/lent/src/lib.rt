@@ -5,7 +5,7 @@ mod gathered;
 pub mod record;
 
 ghost use Rattle.std.specs.Prelude.{◌≡◌, length};
-ghost use Rattle.line.specs.Event.{answered, outcome, event_of};
+ghost use Rattle.line.specs.Event.{bit, answered, outcome, event_of};
 ghost use Rattle.line.specs.Layout.{lent};
 ghost use Rattle.line.specs.Carrier.{first_spot, surveyed, bus_over, acts};
 ghost use Rattle.lent.specs.Turning.{plan_done};
@@ -64,13 +64,13 @@ fn all_turn(table: &mut [Chip], plan: Plan, value: bool, ms: &mut [u8], ss: &mut
     }
 }
 
-// What a plan comes to on the table.
-fn do_plan(table: &mut [Chip], plan: Plan, ms: &mut [u8], ss: &mut [u8]) -> Result<bool, Refusal>
-    ensures { outcome (answered result) (length table.new) (lent table.new ms.new ss.new) ≡ plan_done plan table.old ms.old ss.old }
+// A plan is carried out on the table, which gives the bus bit.
+fn carry_out(table: &mut [Chip], plan: Plan, ms: &mut [u8], ss: &mut [u8]) -> bool
+    ensures { outcome (bit result) (length table.new) (lent table.new ms.new ss.new) ≡ plan_done plan table.old ms.old ss.old }
 {
     let value = line_value(table, plan, ms, ss);
     all_turn(table, plan, value, ms, ss);
-    line::carrier::answer_of(plan, value)
+    value
 }
 
 // One event on a lent table: its refusals in their order (`line::take_event`), each with nothing changed; else the bus bit.
@@ -84,6 +84,6 @@ pub fn take_event(
         ≡ event_of (length table.old) table.old e ms.old ss.old }
 {
     let survey = survey_table(table, e.chip);
-    let plan = line::carrier::plan_of(survey, table.len(), e, ms.len(), ss.len());
-    do_plan(table, plan, ms, ss)
+    let plan = line::carrier::plan_of(survey, table.len(), e, ms.len(), ss.len())?;
+    Ok(carry_out(table, plan, ms, ss))
 }

@@ -12,7 +12,7 @@ use Rattle.chip.specs.Chip.{Whole}
 use Rattle.chip.specs.Range.{in_range}
 use Rattle.chip.specs.Kinds.{image_size, pad_size}
 use Rattle.chip.specs.declared.Chip.{Chip}
-use Rattle.line.specs.Line.{value_of, act_of, outside_at, after_by}
+use Rattle.line.specs.Line.{value_of, act_of, outside_at, after_by, after_plan}
 use Rattle.line.specs.Layout.{images_size, pads_size, split, chips_of, images_of, pads_of, lent, line_of, lent_from}
 use Rattle.line.specs.Event.{all_in_range, table_in_range, sizes_fit, verdict_of, plan_by, plan_of, done_of, event_of}
 use Rattle.line.specs.Attached.{Attached, attached, leaves_of, Stands, line_from, with_line}
@@ -46,7 +46,7 @@ outside_all (suc i) l (w ∷ L) k (g, h) = (g, outside_all i l L k h)
 slot_good : (b : Bool) (L : List Whole) → AllGood L → AllGood (after_by (plan.Slot b) L)
 slot_good b L g = map_good (Take (value_of b L)) L g
 
-pub comes_good : {cs : List Chip} {q : Plan} → Comes cs q → (L : List Whole) → AllGood L → AllGood (after_by q L)
+pub comes_good : {cs : List Chip} {q : Result Plan Refusal} → Comes cs q → (L : List Whole) → AllGood L → AllGood (after_plan q L)
 comes_good (slot b) L g = slot_good b L g
 comes_good reset L g = map_good Reset L g
 comes_good power_on L g = map_good PowerOn L g
@@ -153,14 +153,11 @@ module _ (n : ℕ) (cs : List Chip) (ms ss : List ℕ) (places : 16 ≤ length c
   after_places p f = with-places n cs (after_by p (line_of n cs ms ss)) (length_after p (line_of n cs ms ss) ∙ f.0) f.1
 
   -- so does any plan, a refused one too
-  done_places : (p : Plan) → (length (line_of n cs ms ss) ≡ n) × (n ≤ length cs) → length (done_of p n cs ms ss).lent.chips ≡ length cs
-  done_places (plan.Refused r) f = refl
-  done_places (plan.Slot b) f = after_places (plan.Slot b) f
-  done_places plan.Reset f = after_places plan.Reset f
-  done_places plan.PowerOn f = after_places plan.PowerOn f
-  done_places (plan.Outside i x) f = after_places (plan.Outside i x) f
+  done_places : (p : Result Plan Refusal) → (length (line_of n cs ms ss) ≡ n) × (n ≤ length cs) → length (done_of p n cs ms ss).lent.chips ≡ length cs
+  done_places (Ok p) f = after_places p f
+  done_places (Err r) f = refl
 
-  planned_places : (v : Result (Unit {0}) Refusal) (p : Plan) → v ≡ verdict_of n cs ms ss → length (done_of (plan_by v p) n cs ms ss).lent.chips ≡ length cs
+  planned_places : (v : Result (Unit {0}) Refusal) (p : Result Plan Refusal) → v ≡ verdict_of n cs ms ss → length (done_of (plan_by v p) n cs ms ss).lent.chips ≡ length cs
   planned_places (Ok tt) p e = done_places p (line_full e)
   planned_places (Err r) p e = refl
 

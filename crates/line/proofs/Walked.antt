@@ -7,13 +7,13 @@ use Rattle.chip.specs.Chip.{Whole}
 use Rattle.chip.specs.declared.Chip.{Chip}
 use Rattle.line.specs.Line.{value_of, act_of, bus_of, after_by}
 use Rattle.line.specs.Layout.{capped, chips_of, images_of, pads_of, Lent, lent, line_of, lent_from}
-use Rattle.line.specs.Event.{bit, answered, verdict_of, Fits, outcome, plan_in, plan_by, plan_of, done_of, event_of}
+use Rattle.line.specs.Event.{bit, refused, number_of, verdict_of, Fits, outcome, plan_in, plan_by, plan_of, did, done_of, event_of}
 use Rattle.line.specs.Fitted.{map_fitted, length_chips}
 use Rattle.line.specs.Prefix.{capped_is}
 use Rattle.line.specs.Refusals.{judged_fit}
-use Rattle.line.specs.Carrier.{first_spot, plan_seen, bus_over, acts, answer_for}
+use Rattle.line.specs.Carrier.{first_spot, plan_seen, bus_over, acts}
 use Rattle.line.specs.Carried as carried
-use Rattle.line.specs.Carried.{Surveyed, walked, refused_walked, plan_is, done_map, done_outside, bus_one}
+use Rattle.line.specs.Carried.{Surveyed, walked, walked_by, plan_is, done_map, done_outside, bus_one}
 use Rattle.line.specs.RunTables.{Carrying, carrying_fits, carrying_line, carrying_places}
 use Rattle.line.specs.declared.Act.TheVariants as act
 use Rattle.line.specs.declared.Event.{Event}
@@ -39,8 +39,7 @@ module _ (n k : ℕ) (cs : List Chip) (ms ss : List ℕ) where
     pub slot_walked : (b : Bool) → (valued (plan.Slot b) ≡ value_of b L) × (acts (plan.Slot b) (valued (plan.Slot b)) k 0 first_spot cs ms ss ≡ lent_from n cs (after_by (plan.Slot b) L))
     slot_walked b = (valued_is (plan.Slot b), both_are (plan.Slot b) _ (done_map (act_of (act.Take (bus_of (plan.Slot b) L))) 0 L) _ refl)
 
-    fine_walked : (d : Plan) → walked n k cs ms ss d ≡ done_of d n cs ms ss
-    fine_walked (plan.Refused r) = refused_walked n k cs ms ss r
+    fine_walked : (d : Plan) → walked n k cs ms ss d ≡ did d n cs ms ss
     fine_walked (plan.Slot b) = λ j. outcome (bit ((slot_walked b).0 j)) n ((slot_walked b).1 j)
     fine_walked plan.Reset = λ j. outcome (bit (valued_is plan.Reset j)) n (both_are plan.Reset _ (done_map (act_of act.Reset) 0 L) _ refl j)
     fine_walked plan.PowerOn = λ j. outcome (bit ((valued_is plan.PowerOn ∙ bus_one L) j)) n (both_are plan.PowerOn _ (done_map (act_of act.PowerOn) 0 L) _ refl j)
@@ -48,24 +47,21 @@ module _ (n k : ℕ) (cs : List Chip) (ms ss : List ℕ) where
         λ j. outcome (bit ((valued_is (plan.Outside i x) ∙ bus_one L) j)) n (both_are (plan.Outside i x) _ (done_outside i i x 0 (bus_of (plan.Outside i x) L) L (zero-add i)) _ refl j)
 
   module _ (h : n ≤ 16 → (n ≤ length cs) × (k ≡ n)) where
-    judged_walked : (d : Plan) (q : Result (Unit {0}) Refusal) → q ≡ verdict_of n cs ms ss → walked n k cs ms ss (plan_by q d) ≡ done_of (plan_by q d) n cs ms ss
-    judged_walked d (Err r) e = refused_walked n k cs ms ss r
-    judged_walked d (Ok tt) e =
+    judged_walked : (d : Result Plan Refusal) (q : Result (Unit {0}) Refusal) → q ≡ verdict_of n cs ms ss → walked_by n k cs ms ss (plan_by q d) ≡ done_of (plan_by q d) n cs ms ss
+    judged_walked d (Err r) e = refl
+    judged_walked (Err r) (Ok tt) e = refl
+    judged_walked (Ok d) (Ok tt) e =
         let ok = judged_fit n cs ms ss e in
         fine_walked (h ok.few).0 ok (h ok.few).1 d
 
-    pub plan_walked : (e : Event) → walked n k cs ms ss (plan_of n cs e ms ss) ≡ event_of n cs e ms ss
+    pub plan_walked : (e : Event) → walked_by n k cs ms ss (plan_of n cs e ms ss) ≡ event_of n cs e ms ss
     unfolding plan_of event_of
     plan_walked e = judged_walked (plan_in (take n cs) e) (verdict_of n cs ms ss) refl
 
-    -- the event, from what the walks leave
-    pub event_walked : (e : Event) (l : Survey) (d : Plan) (v : Bool) (a : Result Bool Refusal) (m : ℕ) (g : Lent) → Surveyed e.chip n cs l → d ≡ plan_seen l n e (length ms) (length ss)
-        → v ≡ (bus_over d k cs ms ss).value → g ≡ acts d v k 0 first_spot cs ms ss → a ≡ answer_for d v → m ≡ n → outcome (answered a) m g ≡ event_of n cs e ms ss
-    event_walked e l d v a m g hl hd hv hg ha hm =
-        (λ j. outcome (answered (ha j)) (hm j) (hg j))
-        ∙ ap (λ (b : Bool). outcome (answered (answer_for d b)) n (acts d b k 0 first_spot cs ms ss)) hv
-        ∙ ap (λ (x : Plan). walked n k cs ms ss x) (hd ∙ plan_is n cs e ms ss l hl)
-        ∙ plan_walked e
+    -- the event, by a survey
+    pub event_planned : (e : Event) (l : Survey) (p : Result Plan Refusal) → Surveyed e.chip n cs l → p ≡ plan_seen l n e (length ms) (length ss)
+        → walked_by n k cs ms ss p ≡ event_of n cs e ms ss
+    event_planned e l p s h = ap (walked_by n k cs ms ss) (h ∙ plan_is n cs e ms ss l s) ∙ plan_walked e
 
 -- a slot of a run, by the walks of the code
 module _ (n : ℕ) (cs₀ : List Chip) (L : List Whole) (m : ℕ) (cs : List Chip) (ms ss : List ℕ) (g : Carrying n cs₀ L m cs ms ss) where

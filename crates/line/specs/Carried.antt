@@ -19,7 +19,7 @@ use Rattle.chip.specs.declared.Chip.{Chip}
 use Rattle.line.specs.Line.{bus_from, act_of, outside_at, puts_of, host_of, bus_of}
 use Rattle.line.specs.Layout.{capped, images_asked, pads_asked, images_size, pads_size, images_most, pads_most, split, chips_of, images_of, pads_of, Lent, lent, line_of, lent_from}
 use Rattle.chip.specs.With.{no_chip}
-use Rattle.line.specs.Event.{refused, number_of, answered, all_in_range, table_in_range, sizes_fit, judge, table_tests, verdict_of, Fits, Outcome, outcome, plan_event, plan_in, plan_by, plan_of, done_of}
+use Rattle.line.specs.Event.{refused, number_of, answered, all_in_range, table_in_range, sizes_fit, judge, table_tests, verdict_of, Fits, Outcome, outcome, plan_event, plan_in, plan_by, plan_of, done_of, bit}
 use Rattle.line.specs.Sizes.{act_sized}
 use Rattle.line.specs.Bridge.{act-at, bit-at, regroup}
 use Rattle.line.specs.Prefix.{capped_is}
@@ -201,7 +201,6 @@ module _ (c : Chip) (i image pad : ℕ) (A B S T : List ℕ) (p : length A ≡ i
   cut = whole c (take (image_size c.kind) B) (take (pad_size c.kind) T)
 
   puts_is : (d : Plan) → puts_at d c (spot i image pad) (A ++ B) (S ++ T) ≡ puts_of d cut
-  puts_is (plan.Refused r) = refl
   puts_is (plan.Slot b) = bit-at c image pad A B S T p q h k
   puts_is plan.Reset = refl
   puts_is plan.PowerOn = refl
@@ -231,14 +230,12 @@ module _ (d : Plan) where
 
 -- what one chip of a line does, at its place
 abbrev pub done_by : Plan → Bool → ℕ → Whole → Whole
-done_by (plan.Refused r) v i w = w
 done_by (plan.Slot b) v i w = act_of (act.Take v) w
 done_by plan.Reset v i w = act_of act.Reset w
 done_by plan.PowerOn v i w = act_of act.PowerOn w
 done_by (plan.Outside place l) v i w = whole (pick (eqb i place) (outside_chip l w.chip) w.chip) w.memory w.pad
 
 done_sized : (d : Plan) (v : Bool) (i : ℕ) (w : Whole) → (length (done_by d v i w).memory ≡ length w.memory) × (length (done_by d v i w).pad ≡ length w.pad)
-done_sized (plan.Refused r) v i w = (refl, refl)
 done_sized (plan.Slot b) v i w = act_sized (act.Take v) w
 done_sized plan.Reset v i w = act_sized act.Reset w
 done_sized plan.PowerOn v i w = act_sized act.PowerOn w
@@ -277,7 +274,6 @@ module _ (c : Chip) (i image pad : ℕ) (A B S T : List ℕ) (p : length A ≡ i
       does_at d v c (spot i image pad) (A ++ B) (S ++ T) ≡ whole x.chip (A ++ (x.memory ++ drop (image_size c.kind) B)) (S ++ (x.pad ++ drop (pad_size c.kind) T))
 
   does_is : (d : Plan) (v : Bool) → Does d v
-  does_is (plan.Refused r) v = λ j. whole c (split_back (image_size c.kind) A B j) (split_back (pad_size c.kind) S T j)
   does_is (plan.Slot b) v = act-at (act_of (act.Take v)) c image pad A B S T p q h k
   does_is plan.Reset v = act-at (act_of act.Reset) c image pad A B S T p q h k
   does_is plan.PowerOn v = act-at (act_of act.PowerOn) c image pad A B S T p q h k
@@ -316,14 +312,6 @@ module _ (d : Plan) (v : Bool) where
       (next_near i image pad c.kind near) (omega arith)
       ∙ (simp append_assoc)
 
--- nothing is done, however far the walk goes
-acts_refused : (r : Refusal) (v : Bool) (k i : ℕ) (p : Spot) (cs : List Chip) (ms ss : List ℕ) → acts (plan.Refused r) v k i p cs ms ss ≡ lent cs ms ss
-unfolding acts turn_of
-acts_refused r v zero i p cs ms ss = refl
-acts_refused r v (suc k) i p cs ms ss =
-    ap (λ (ds : List Chip). acts (plan.Refused r) v k (i + 1) (spot_after (get_or cs i no_chip).kind p) ds ms ss) (set-get_or cs i no_chip)
-    ∙ acts_refused r v k (i + 1) (spot_after (get_or cs i no_chip).kind p) cs ms ss
-
 -- who puts 1 on the bus leaves it
 pub bus_one : (L : List Whole) → bus_from (λ (w : Whole). true) true L ≡ true
 unfolding both pick
@@ -336,10 +324,12 @@ module _ (n k : ℕ) (cs : List Chip) (ms ss : List ℕ) where
   valued d = (bus_over d k cs ms ss).value
 
   abbrev pub walked : Plan → Outcome
-  walked d = outcome (answered (answer_for d (valued d))) n (acts d (valued d) k 0 first_spot cs ms ss)
+  walked d = outcome (bit (valued d)) n (acts d (valued d) k 0 first_spot cs ms ss)
 
-  pub refused_walked : (r : Refusal) → walked (plan.Refused r) ≡ done_of (plan.Refused r) n cs ms ss
-  refused_walked r = ap (λ (g : Lent). outcome (refused (number_of r)) n g) (acts_refused r _ k 0 first_spot cs ms ss)
+  -- refused, nothing is walked
+  abbrev pub walked_by : Result Plan Refusal → Outcome
+  walked_by (Ok d) = walked d
+  walked_by (Err r) = outcome (refused (number_of r)) n (lent cs ms ss)
 
   module _ (l : n ≤ length cs) (ok : Fits n cs ms ss) (few : k ≡ n) where
     abbrev pub L : List Whole
@@ -367,12 +357,9 @@ module _ (n k : ℕ) (cs : List Chip) (ms ss : List ℕ) where
     both_are d M h v e = acted_is d (valued d) ∙ ap (λ (b : Bool). lent_from n cs (all_done (done_by d b) 0 L)) (valued_is d) ∙ ap (λ (K : List Whole). lent_from n cs K) h
 
 -- a plan by which nothing happens, and one by which something does
-pub refused_done : (p : Plan) (v : Bool) (n : ℕ) (cs : List Chip) (ms ss : List ℕ) → happens_by p ≡ false → outcome (answered (answer_for p v)) n (lent cs ms ss) ≡ done_of p n cs ms ss
-refused_done (plan.Refused r) v n cs ms ss e = refl
-refused_done (plan.Slot b) v n cs ms ss e = absurd (true≢false e)
-refused_done plan.Reset v n cs ms ss e = absurd (true≢false e)
-refused_done plan.PowerOn v n cs ms ss e = absurd (true≢false e)
-refused_done (plan.Outside i l) v n cs ms ss e = absurd (true≢false e)
+pub refused_done : (p : Result Plan Refusal) (v : Bool) (n : ℕ) (cs : List Chip) (ms ss : List ℕ) → happens_by p ≡ false → outcome (answered (answer_for p v)) n (lent cs ms ss) ≡ done_of p n cs ms ss
+refused_done (Ok p) v n cs ms ss e = absurd (true≢false e)
+refused_done (Err r) v n cs ms ss e = refl
 
 pub happens_few : (n : ℕ) (cs : List Chip) (e : Event) (ms ss : List ℕ) → happens_by (plan_of n cs e ms ss) ≡ true → n ≤ 16
 unfolding plan_of

@@ -67,7 +67,7 @@ unfoldable pub run_verdict_by : Survey → ℕ → ℕ → ℕ → ℕ → ℕ �
 run_verdict_by s n images pads slots bits answers = verdict_with s n images pads (run_fits slots bits answers)
 
 -- what an event comes to on it
-unfoldable pub plan_seen : Survey → ℕ → Event → ℕ → ℕ → Plan
+unfoldable pub plan_seen : Survey → ℕ → Event → ℕ → ℕ → Result Plan Refusal
 plan_seen s n e images pads = plan_by (verdict_by s n images pads) (plan_event e n s.kind)
 
 abbrev pub surveyed : ℕ → ℕ → List Chip → Survey
@@ -78,7 +78,6 @@ abbrev pub first_bus : Plan → Bus
 first_bus p = record { value = host_of p; spot = first_spot }
 
 abbrev pub puts_at : Plan → Chip → Spot → List ℕ → List ℕ → Bool
-puts_at (plan.Refused r) c p ms ss = true
 puts_at (plan.Slot b) c p ms ss = bit_at c p.image p.pad ms ss
 puts_at plan.Reset c p ms ss = false
 puts_at plan.PowerOn c p ms ss = true
@@ -96,7 +95,6 @@ bus_over d n cs ms ss = over (λ (c : Chip) (s : Bus). bus_with d c s ms ss) n 0
 
 -- what one chip does, with what it leaves of the buffers
 abbrev pub does_at : Plan → Bool → Chip → Spot → List ℕ → List ℕ → Whole
-does_at (plan.Refused r) v c p ms ss = whole c ms ss
 does_at (plan.Slot b) v c p ms ss = act_at (act_of (act.Take v)) c p.image p.pad ms ss
 does_at plan.Reset v c p ms ss = act_at (act_of act.Reset) c p.image p.pad ms ss
 does_at plan.PowerOn v c p ms ss = act_at (act_of act.PowerOn) c p.image p.pad ms ss
@@ -125,20 +123,14 @@ acts d v (suc k) i p cs ms ss =
     acts d v k (i + 1) x.spot (set cs i x.chip) x.images x.pads
 
 -- whether anything happens
-abbrev pub happens_by : Plan → Bool
-happens_by (plan.Refused r) = false
-happens_by (plan.Slot b) = true
-happens_by plan.Reset = true
-happens_by plan.PowerOn = true
-happens_by (plan.Outside i l) = true
+abbrev pub happens_by : Result Plan Refusal → Bool
+happens_by (Ok p) = true
+happens_by (Err r) = false
 
 -- what is answered
-abbrev pub answer_for : Plan → Bool → Result Bool Refusal
-answer_for (plan.Refused r) v = Err r
-answer_for (plan.Slot b) v = Ok v
-answer_for plan.Reset v = Ok v
-answer_for plan.PowerOn v = Ok v
-answer_for (plan.Outside i l) v = Ok v
+abbrev pub answer_for : Result Plan Refusal → Bool → Result Bool Refusal
+answer_for (Ok p) v = Ok v
+answer_for (Err r) v = Err r
 
 -- what a match of the code found, taken to what it matched
 pub puts-at : (c : Chip) (s : Spot) (ms ss : List ℕ) (q p : Plan) (r : Bool) → q ≡ p → r ≡ puts_at p c s ms ss → r ≡ puts_at q c s ms ss
@@ -147,11 +139,11 @@ puts-at c s ms ss q p r = along (λ (k : Plan). puts_at k c s ms ss) q p r
 pub does-at : (v : Bool) (c : Chip) (s : Spot) (ms ss : List ℕ) (q p : Plan) (r : Whole) → q ≡ p → r ≡ does_at p v c s ms ss → r ≡ does_at q v c s ms ss
 does-at v c s ms ss q p r = along (λ (k : Plan). does_at k v c s ms ss) q p r
 
-pub plan_at : (d : Plan) (q p : Result (Unit {0}) Refusal) (r : Plan) → q ≡ p → r ≡ plan_by p d → r ≡ plan_by q d
+pub plan_at : (d : Result Plan Refusal) (q p : Result (Unit {0}) Refusal) (r : Result Plan Refusal) → q ≡ p → r ≡ plan_by p d → r ≡ plan_by q d
 plan_at d q p r = along (λ (k : Result (Unit {0}) Refusal). plan_by k d) q p r
 
-pub answer_at : (v : Bool) (q p : Plan) (r : Result Bool Refusal) → q ≡ p → r ≡ answer_for p v → r ≡ answer_for q v
-answer_at v q p r = along (λ (k : Plan). answer_for k v) q p r
+pub answer_at : (v : Bool) (q p : Result Plan Refusal) (r : Result Bool Refusal) → q ≡ p → r ≡ answer_for p v → r ≡ answer_for q v
+answer_at v q p r = along (λ (k : Result Plan Refusal). answer_for k v) q p r
 
 pub turn_is : (d : Plan) (v : Bool) (c : Chip) (p : Spot) (ms ss : List ℕ) (a : Chip) (x y : List ℕ) (s : Spot) → whole a x y ≡ does_at d v c p ms ss → s ≡ spot_after c.kind p
     → turned a s x y ≡ turn_of d v c p ms ss

@@ -98,44 +98,44 @@ asked_by e =
     (plan.Outside e.chip e.outside)))
 
 -- a plan, where nothing refuses it
-abbrev pub plan_by : Result (Unit {0}) Refusal → Plan → Plan
+abbrev pub plan_by : Result (Unit {0}) Refusal → Result Plan Refusal → Result Plan Refusal
 plan_by (Ok tt) p = p
-plan_by (Err r) p = plan.Refused r
+plan_by (Err r) p = Err r
 
 -- what an event comes to on n chips that stand well, where the one that it names has a kind
-unfoldable pub plan_event : Event → ℕ → ℕ → Plan
-plan_event e n kind = plan_by (judge (event_tests e n kind)) (asked_by e)
+unfoldable pub plan_event : Event → ℕ → ℕ → Result Plan Refusal
+plan_event e n kind = plan_by (judge (event_tests e n kind)) (Ok (asked_by e))
 
 -- the same on a list of chips
-abbrev pub plan_in : List Chip → Event → Plan
+abbrev pub plan_in : List Chip → Event → Result Plan Refusal
 plan_in cs e = plan_event e (length cs) (get_or cs e.chip no_chip).kind
 
 -- what an event comes to on a table and its buffers
-unfoldable pub plan_of : ℕ → List Chip → Event → List ℕ → List ℕ → Plan
+unfoldable pub plan_of : ℕ → List Chip → Event → List ℕ → List ℕ → Result Plan Refusal
 plan_of n cs e ms ss = plan_by (verdict_of n cs ms ss) (plan_in (take n cs) e)
 
 -- what an event comes to on a line of whole chips
-abbrev pub plan_on : Event → List Whole → Plan
+abbrev pub plan_on : Event → List Whole → Result Plan Refusal
 plan_on e L = plan_in (chips_of L) e
 
 -- what is answered; "Events 3 and 4 answer 1."
 abbrev pub answer_by : Plan → List Whole → Answered
-answer_by (plan.Refused r) L = refused (number_of r)
 answer_by (plan.Slot b) L = bit (bus_of (plan.Slot b) L)
 answer_by plan.Reset L = bit (bus_of plan.Reset L)
 answer_by plan.PowerOn L = bit true
 answer_by (plan.Outside i l) L = bit true
 
+abbrev pub answer_plan : Result Plan Refusal → List Whole → Answered
+answer_plan (Ok p) L = answer_by p L
+answer_plan (Err r) L = refused (number_of r)
+
 -- what a plan comes to on a table; refused, nothing changes
 abbrev pub did : Plan → ℕ → List Chip → List ℕ → List ℕ → Outcome
 did p n cs ms ss = let L = line_of n cs ms ss in outcome (answer_by p L) n (lent_from n cs (after_by p L))
 
-abbrev pub done_of : Plan → ℕ → List Chip → List ℕ → List ℕ → Outcome
-done_of (plan.Refused r) n cs ms ss = outcome (refused (number_of r)) n (lent cs ms ss)
-done_of (plan.Slot b) n cs ms ss = did (plan.Slot b) n cs ms ss
-done_of plan.Reset n cs ms ss = did plan.Reset n cs ms ss
-done_of plan.PowerOn n cs ms ss = did plan.PowerOn n cs ms ss
-done_of (plan.Outside i l) n cs ms ss = did (plan.Outside i l) n cs ms ss
+abbrev pub done_of : Result Plan Refusal → ℕ → List Chip → List ℕ → List ℕ → Outcome
+done_of (Ok p) n cs ms ss = did p n cs ms ss
+done_of (Err r) n cs ms ss = outcome (refused (number_of r)) n (lent cs ms ss)
 
 -- "Event: 8, 5, 6, 7.", each with nothing changed
 unfoldable pub event_of : ℕ → List Chip → Event → List ℕ → List ℕ → Outcome

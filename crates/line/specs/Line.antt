@@ -1,5 +1,6 @@
 -- Document 01, "The line and what happens on it": events on a list of whole chips.
-use Rattle.std.specs.Prelude.{ℕ, zero, suc, Bool, true, false, List, [], ◌∷◌, map}
+use Rattle.std.specs.Prelude.{ℕ, zero, suc, Bool, true, false, List, [], ◌∷◌, map, Result, Ok, Err}
+use Rattle.line.specs.declared.Refusal.{Refusal}
 use Rattle.base.specs.Bits.{both}
 use Rattle.chip.specs.Chip.{Whole, takes_of, sends_of, reset_of, power_on_of, outside_of}
 use Rattle.line.specs.declared.Act.{Act}
@@ -35,7 +36,6 @@ outside_at (suc i) l (w ∷ L) = w ∷ outside_at i l L
 
 -- what one chip puts on the bus: in a slot what it sends, 0 at a reset that it takes
 abbrev pub puts_of : Plan → Whole → Bool
-puts_of (plan.Refused r) w = true
 puts_of (plan.Slot b) w = sends_of w
 puts_of plan.Reset w = false
 puts_of plan.PowerOn w = true
@@ -43,7 +43,6 @@ puts_of (plan.Outside i l) w = true
 
 -- what the host puts on it
 abbrev pub host_of : Plan → Bool
-host_of (plan.Refused r) = true
 host_of (plan.Slot b) = b
 host_of plan.Reset = true
 host_of plan.PowerOn = true
@@ -55,8 +54,12 @@ bus_of p L = bus_from (puts_of p) (host_of p) L
 
 -- the line after; "A receiving chip takes the slot's value, not the host's bit."
 abbrev pub after_by : Plan → List Whole → List Whole
-after_by (plan.Refused r) L = L
 after_by (plan.Slot b) L = map (act_of (Take (value_of b L))) L
 after_by plan.Reset L = map (act_of Reset) L
 after_by plan.PowerOn L = map (act_of PowerOn) L
 after_by (plan.Outside i l) L = outside_at i l L
+
+-- refused, nothing changes
+abbrev pub after_plan : Result Plan Refusal → List Whole → List Whole
+after_plan (Ok p) L = after_by p L
+after_plan (Err r) L = L

@@ -1,5 +1,6 @@
 -- Laws: an event on a table goes by the places of its line alone, and leaves the places past them; and how many places are used.
-use Rattle.std.specs.Prelude.{ℕ, zero, suc, ◌<◌, ◌≤◌, Bool, true, false, ◌≡◌, refl, eqb, ltb, leb, length, take, drop, Err}
+use Rattle.std.specs.Prelude.{ℕ, zero, suc, ◌<◌, ◌≤◌, Bool, true, false, ◌≡◌, refl, eqb, ltb, leb, length, take, drop, Err, Result, Ok}
+use Rattle.line.specs.declared.Refusal.{Refusal}
 use Rattle.std.proofs.Common.{arith, ◌∙◌, sym, length-append, length-drop, length-take-le, ltb-true, ltb-false}
 use mathlib.Core.List.{List, [], ◌∷◌, ◌++◌, append_assoc}
 use Rattle.std.proofs.Math.Path.{ap}
@@ -9,7 +10,7 @@ use Rattle.base.specs.Pick.{pick, pick_false}
 use Rattle.base.specs.Bits.{both}
 use Rattle.chip.specs.Chip.{Whole}
 use Rattle.chip.specs.declared.Chip.{Chip}
-use Rattle.line.specs.Line.{outside_at, after_by}
+use Rattle.line.specs.Line.{outside_at, after_by, after_plan}
 use Rattle.line.specs.Layout.{capped, images_size, pads_size, images_asked, pads_asked, split, chips_of, images_of, pads_of, Lent, lent, line_of, lent_from}
 use Rattle.line.specs.Event.{all_in_range, table_in_range, sizes_fit, judge, table_tests, verdict_of, Outcome, outcome, plan_in, plan_by, plan_of, answer_by, did, done_of, event_of}
 use Rattle.line.specs.declared.Event.{Event}
@@ -58,17 +59,14 @@ module _ (n : ℕ) (cs Z : List Chip) (l : n ≤ length cs) where
       ap (λ (k : List Chip). let L = split k ms ss in outcome (answer_by p L) n (lent_from n (cs ++ Z) (after_by p L))) line_rest
       ∙ ap (λ (g : Lent). outcome (answer_by p (line_of n cs ms ss)) n g) (lent_rest (after_by p (line_of n cs ms ss)))
 
-  done_rest : (p : Plan) (ms ss : List ℕ) → done_of p n (cs ++ Z) ms ss ≡ with_rest Z (done_of p n cs ms ss)
-  done_rest (plan.Refused r) ms ss = refl
-  done_rest (plan.Slot b) ms ss = did_rest (plan.Slot b) ms ss
-  done_rest plan.Reset ms ss = did_rest plan.Reset ms ss
-  done_rest plan.PowerOn ms ss = did_rest plan.PowerOn ms ss
-  done_rest (plan.Outside i x) ms ss = did_rest (plan.Outside i x) ms ss
+  done_rest : (p : Result Plan Refusal) (ms ss : List ℕ) → done_of p n (cs ++ Z) ms ss ≡ with_rest Z (done_of p n cs ms ss)
+  done_rest (Ok p) ms ss = did_rest p ms ss
+  done_rest (Err r) ms ss = refl
 
   -- an event on a table with more places than those of cs
   pub event_rest : (e : Event) (ms ss : List ℕ) → event_of n (cs ++ Z) e ms ss ≡ with_rest Z (event_of n cs e ms ss)
   unfolding event_of
-  event_rest e ms ss = ap (λ (p : Plan). done_of p n (cs ++ Z) ms ss) (plan_rest e ms ss) ∙ done_rest (plan_of n cs e ms ss) ms ss
+  event_rest e ms ss = ap (λ (p : Result Plan Refusal). done_of p n (cs ++ Z) ms ss) (plan_rest e ms ss) ∙ done_rest (plan_of n cs e ms ss) ms ss
 
 -- a table of over 16 chips is refused by 8, whatever is lent with it
 pub many_verdict : (n : ℕ) (cs : List Chip) (ms ss : List ℕ) → 16 < n → verdict_of n cs ms ss ≡ Err OutOfRange
@@ -107,11 +105,14 @@ length_outside zero l (w ∷ L) = refl
 length_outside (suc i) l (w ∷ L) = ap suc (length_outside i l L)
 
 pub length_after : (p : Plan) (L : List Whole) → length (after_by p L) ≡ length L
-length_after (plan.Refused r) L = refl
 length_after (plan.Slot b) L = length-map L _
 length_after plan.Reset L = length-map L _
 length_after plan.PowerOn L = length-map L _
 length_after (plan.Outside i l) L = length_outside i l L
+
+pub length_plan : (p : Result Plan Refusal) (L : List Whole) → length (after_plan p L) ≡ length L
+length_plan (Ok p) L = length_after p L
+length_plan (Err r) L = refl
 
 -- every event keeps the number of chips and of places
 module _ (n : ℕ) (cs : List Chip) (ms ss : List ℕ) (l : n ≤ length cs) where
@@ -123,12 +124,9 @@ module _ (n : ℕ) (cs : List Chip) (ms ss : List ℕ) (l : n ≤ length cs) whe
             simp (length-append, length-map, length-drop) (omega arith);
       }
 
-  done_holds : (p : Plan) → Holds n (length cs) (done_of p n cs ms ss)
-  done_holds (plan.Refused r) = record { chips = refl; places = refl }
-  done_holds (plan.Slot b) = did_holds (plan.Slot b)
-  done_holds plan.Reset = did_holds plan.Reset
-  done_holds plan.PowerOn = did_holds plan.PowerOn
-  done_holds (plan.Outside i x) = did_holds (plan.Outside i x)
+  done_holds : (p : Result Plan Refusal) → Holds n (length cs) (done_of p n cs ms ss)
+  done_holds (Ok p) = did_holds p
+  done_holds (Err r) = record { chips = refl; places = refl }
 
 pub event_holds : (n : ℕ) (cs : List Chip) (e : Event) (ms ss : List ℕ) → n ≤ length cs → Holds n (length cs) (event_of n cs e ms ss)
 unfolding event_of

@@ -106,24 +106,24 @@ pub fit_small : (e : Event) (n kind : ℕ) → outside_fits e n kind ≡ true �
 fit_small e n kind h p = (outside_fit e n kind h p).1.1
 
 -- what an event can come to: what it asks, with outside levels that fit; or a refusal, whatever it asks and whichever refusal
-pub data Comes (cs : List Chip) : Plan → Type 0 where
-  slot : (b : Bool) → Comes cs (plan.Slot b)
-  reset : Comes cs plan.Reset
-  power_on : Comes cs plan.PowerOn
-  outside : (i l : ℕ) → i < length cs → takes_outside (get_or cs i no_chip).kind ≡ true → l ≤ 3 → Comes cs (plan.Outside i l)
-  refused : (r : Refusal) → Comes cs (plan.Refused r)
+pub data Comes (cs : List Chip) : Result Plan Refusal → Type 0 where
+  slot : (b : Bool) → Comes cs (Ok (plan.Slot b))
+  reset : Comes cs (Ok plan.Reset)
+  power_on : Comes cs (Ok plan.PowerOn)
+  outside : (i l : ℕ) → i < length cs → takes_outside (get_or cs i no_chip).kind ≡ true → l ≤ 3 → Comes cs (Ok (plan.Outside i l))
+  refused : (r : Refusal) → Comes cs (Err r)
 
 module _ (cs : List Chip) (e : Event) where
   abbrev kind : ℕ
   kind = (get_or cs e.chip no_chip).kind
 
   -- where nothing refuses it
-  asked_comes : leb e.number 4 ≡ true → outside_fits e (length cs) kind ≡ true → Comes cs (asked_by e)
+  asked_comes : leb e.number 4 ≡ true → outside_fits e (length cs) kind ≡ true → Comes cs (Ok (asked_by e))
   unfolding asked_by
   asked_comes h k =
-      pick_if (Comes cs) _ _ _ (λ a. slot _)
-      (λ a. pick_if (Comes cs) _ _ _ (λ b. reset)
-      (λ b. pick_if (Comes cs) _ _ _ (λ c. power_on)
+      pick_if (λ (p : Plan). Comes cs (Ok p)) _ _ _ (λ a. slot _)
+      (λ a. pick_if (λ (p : Plan). Comes cs (Ok p)) _ _ _ (λ b. reset)
+      (λ b. pick_if (λ (p : Plan). Comes cs (Ok p)) _ _ _ (λ c. power_on)
       (λ c. let f = outside_fit e (length cs) kind k (four (leb-true e.number 4 h) (ltb-false e.number 2 a) (eqb-false e.number 2 b) (eqb-false e.number 3 c)) in
       outside e.chip e.outside f.0 f.1.0 f.1.1)))
     where
@@ -131,7 +131,7 @@ module _ (cs : List Chip) (e : Event) where
       four p q r s = omega arith
 
   -- by what its tests come to
-  judged_comes : (v : Result (Unit {0}) Refusal) → v ≡ judge (event_tests e (length cs) kind) → Comes cs (plan_by v (asked_by e))
+  judged_comes : (v : Result (Unit {0}) Refusal) → v ≡ judge (event_tests e (length cs) kind) → Comes cs (plan_by v (Ok (asked_by e)))
   judged_comes (Err r) h = refused r
   judged_comes (Ok tt) h =
       let a = held (leb e.number 4) _ NoSuchEvent h in

@@ -174,50 +174,38 @@ fn asked_of(e: Event, n: usize, kind: u8) -> Plan
 }
 
 // What an event comes to on a table of n chips that stands well, where the chip that it names has a kind: 6, then 7.
-pub fn plan_event(e: Event, n: usize, kind: u8) -> Plan
+pub fn plan_event(e: Event, n: usize, kind: u8) -> Result<Plan, Refusal>
     ensures { result ≡ plan_event e n kind }
 {
-    if e.number <= 4 {
-        if outside_fits(e, n, kind) {
-            return asked_of(e, n, kind);
-        }
-        return Plan::Refused(Refusal::NoSuchOutside);
+    if e.number > 4 {
+        return Err(Refusal::NoSuchEvent);
     }
-    Plan::Refused(Refusal::NoSuchEvent)
+    if !outside_fits(e, n, kind) {
+        return Err(Refusal::NoSuchOutside);
+    }
+    Ok(asked_of(e, n, kind))
 }
 
 // What an event comes to on a table that is judged so.
-pub fn plan_by(judged: Result<(), Refusal>, e: Event, n: usize, kind: u8) -> Plan
+pub fn plan_by(judged: Result<(), Refusal>, e: Event, n: usize, kind: u8) -> Result<Plan, Refusal>
     ensures { result ≡ plan_by judged (plan_event e n kind) }
 {
-    match judged {
-        Ok(()) => plan_event(e, n, kind),
-        Err(r) => Plan::Refused(r),
-    }
+    judged?;
+    plan_event(e, n, kind)
 }
 
 // What an event comes to on a table of n chips that was surveyed.
-pub fn plan_of(s: Survey, n: usize, e: Event, images: usize, pads: usize) -> Plan
+pub fn plan_of(s: Survey, n: usize, e: Event, images: usize, pads: usize) -> Result<Plan, Refusal>
     ensures { result ≡ plan_seen s n e images pads }
 {
-    let judged = verdict_by(s, n, images, pads);
-    plan_by(judged, e, n, s.kind)
+    plan_by(verdict_by(s, n, images, pads), e, n, s.kind)
 }
 
 // Whether anything happens.
-pub fn happens(plan: Plan) -> bool
+pub fn happens(plan: Result<Plan, Refusal>) -> bool
     ensures { result ≡ happens_by plan }
 {
-    match plan {
-        Plan::Refused(_) => false,
-        Plan::Slot(_) => true,
-        Plan::Reset => true,
-        Plan::PowerOn => true,
-        Plan::Outside {
-            chip: _,
-            outside: _,
-        } => true,
-    }
+    plan.is_ok()
 }
 
 // What the host puts on the bus.
@@ -225,14 +213,8 @@ pub fn host_bit(plan: Plan) -> bool
     ensures { result ≡ host_of plan }
 {
     match plan {
-        Plan::Refused(_) => true,
         Plan::Slot(b) => b,
-        Plan::Reset => true,
-        Plan::PowerOn => true,
-        Plan::Outside {
-            chip: _,
-            outside: _,
-        } => true,
+        _ => true,
     }
 }
 
@@ -253,14 +235,9 @@ pub fn puts_at(c: Chip, p: Spot, plan: Plan, ms: &[u8], ss: &[u8]) -> bool
     ensures { result ≡ puts_at plan c p ms.now ss.now }
 {
     match plan {
-        Plan::Refused(_) => true,
         Plan::Slot(_) => loops::bit_at(c, p.image, p.pad, ms, ss),
         Plan::Reset => false,
-        Plan::PowerOn => true,
-        Plan::Outside {
-            chip: _,
-            outside: _,
-        } => true,
+        Plan::PowerOn | Plan::Outside { .. } => true,
     }
 }
 
@@ -293,7 +270,6 @@ pub fn does_at(c: Chip, p: Spot, plan: Plan, value: bool, ms: &mut [u8], ss: &mu
     ensures { whole result ms.new ss.new ≡ does_at plan value c p ms.old ss.old }
 {
     match plan {
-        Plan::Refused(_) => c,
         Plan::Slot(_) => loops::act_at(c, Act::Take(value), p.image, p.pad, ms, ss),
         Plan::Reset => loops::act_at(c, Act::Reset, p.image, p.pad, ms, ss),
         Plan::PowerOn => loops::act_at(c, Act::PowerOn, p.image, p.pad, ms, ss),
@@ -314,19 +290,11 @@ pub fn turn(c: Chip, p: Spot, plan: Plan, value: bool, ms: &mut [u8], ss: &mut [
 }
 
 // What is answered.
-pub fn answer_of(plan: Plan, value: bool) -> Result<bool, Refusal>
+pub fn answer_of(plan: Result<Plan, Refusal>, value: bool) -> Result<bool, Refusal>
     ensures { result ≡ answer_for plan value }
 {
-    match plan {
-        Plan::Refused(r) => Err(r),
-        Plan::Slot(_) => Ok(value),
-        Plan::Reset => Ok(value),
-        Plan::PowerOn => Ok(value),
-        Plan::Outside {
-            chip: _,
-            outside: _,
-        } => Ok(value),
-    }
+    plan?;
+    Ok(value)
 }
 
 // How many slots of a run the next byte has, of those that are left.

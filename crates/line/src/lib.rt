@@ -14,6 +14,7 @@ pub mod tables;
 
 ghost use Rattle.std.specs.Prelude.{◌≡◌, ◌≤◌};
 ghost use Rattle.line.specs.Layout.{lent, capped};
+ghost use Rattle.line.specs.Carried.{walked};
 ghost use Rattle.line.specs.Event.{number_of, answered, outcome, verdict_of, event_of};
 ghost use Rattle.line.specs.Slots.{bytes_asked, slot_bit, with_slot_bit};
 
@@ -87,11 +88,9 @@ pub enum Act {
     PowerOn,
 }
 
-// What an event comes to on a table.
-#[derive(Clone, Copy)]
+// What an event that is not refused comes to on a table.
+#[derive(Clone, Copy, PartialEq, Eq)]
 pub enum Plan {
-    // nothing happens
-    Refused(Refusal),
     // a slot, with the host's bit
     Slot(bool),
     Reset,
@@ -186,18 +185,28 @@ pub fn how_stands(t: Table, ms: &[u8], ss: &[u8]) -> Result<(), Refusal>
     carrier::verdict_by(survey, t.n, ms.len(), ss.len())
 }
 
+// A plan is carried out: the bus bit, and the table that it leaves.
+fn carry_out(t: Table, plan: Plan, ms: &mut [u8], ss: &mut [u8]) -> Happened
+    ensures { outcome (answered result.answer) result.table.n (lent result.table.chips ms.new ss.new) ≡ walked t.n (capped t.n) t.chips ms.old ss.old plan }
+{
+    let value = loops::line_value(t, plan, ms, ss);
+    Happened {
+        answer: Ok(value),
+        table: loops::all_turn(t, plan, value, ms, ss),
+    }
+}
+
 // One event: refusals 8, 5, 6 and 7 in this order, each with nothing changed; else the bus bit.
 pub fn take_event(t: Table, e: Event, ms: &mut [u8], ss: &mut [u8]) -> Happened
     ensures { outcome (answered result.answer) result.table.n (lent result.table.chips ms.new ss.new)
         ≡ event_of t.n t.chips e ms.old ss.old }
 {
     let survey = loops::survey_table(t, e.chip);
-    let plan = carrier::plan_of(survey, t.n, e, ms.len(), ss.len());
-    let value = loops::line_value(t, plan, ms, ss);
-    let table = loops::all_turn(t, plan, value, ms, ss);
-    let answer = carrier::answer_of(plan, value);
-    Happened {
-        answer: answer,
-        table: table,
+    match carrier::plan_of(survey, t.n, e, ms.len(), ss.len()) {
+        Ok(plan) => carry_out(t, plan, ms, ss),
+        Err(r) => Happened {
+            answer: Err(r),
+            table: t,
+        },
     }
 }

@@ -19,12 +19,12 @@ RefusalFor (bits bs) = Unit
 RefusalFor (none n) = (r : Refusal) × (number_of r ≡ n)
 
 -- of an event, by its plan
-plan_refusal : (p : Plan) (n : ℕ) (cs : List Chip) (ms ss : List ℕ) → RefusalFor (said_by (done_of p n cs ms ss).answer)
-plan_refusal (plan.Refused r) n cs ms ss = (r, refl)
-plan_refusal (plan.Slot b) n cs ms ss = tt
-plan_refusal plan.Reset n cs ms ss = tt
-plan_refusal plan.PowerOn n cs ms ss = tt
-plan_refusal (plan.Outside i x) n cs ms ss = tt
+plan_refusal : (p : Result Plan Refusal) (n : ℕ) (cs : List Chip) (ms ss : List ℕ) → RefusalFor (said_by (done_of p n cs ms ss).answer)
+plan_refusal (Err r) n cs ms ss = (r, refl)
+plan_refusal (Ok (plan.Slot b)) n cs ms ss = tt
+plan_refusal (Ok plan.Reset) n cs ms ss = tt
+plan_refusal (Ok plan.PowerOn) n cs ms ss = tt
+plan_refusal (Ok (plan.Outside i x)) n cs ms ss = tt
 
 event_refusal : (e : Event) (l : Attached) → RefusalFor (said_by (says_of e l))
 unfolding says_of event_of

@@ -1,5 +1,6 @@
 -- A chip that is addressed by its code behaves as if it were alone on the line.
-use Rattle.std.specs.Prelude.{ℕ, zero, suc, ◌^◌, ◌<◌, Bool, true, false, List, [], ◌∷◌, map, ◌≡◌, refl, length, get_or}
+use Rattle.std.specs.Prelude.{ℕ, zero, suc, ◌^◌, ◌<◌, Bool, true, false, List, [], ◌∷◌, map, ◌≡◌, refl, length, get_or, Result, Ok, Err}
+use Rattle.line.specs.declared.Refusal.{Refusal}
 use Rattle.std.proofs.Common.{arith, not-suc-le-zero, ◌∙◌, ap, sym}
 use Rattle.std.proofs.lemmas.List.{length-map}
 use Rattle.base.specs.Pick.{pick_true}
@@ -9,12 +10,12 @@ use Rattle.chip.specs.Chip.{Whole, takes_of, sends_of, reset_of, power_on_chip, 
 use Rattle.chip.specs.Level.{sends-in}
 use Rattle.chip.specs.declared.Chip.{Chip}
 use Rattle.chip.specs.declared.Level.TheVariants.{Waiting}
-use Rattle.line.specs.Line.{value_of, absent, act_of, outside_at, after_by}
+use Rattle.line.specs.Line.{value_of, absent, act_of, outside_at, after_plan}
 use Rattle.line.specs.Layout.{chips_of}
 use Rattle.line.specs.Prefix.{length_outside}
 use Rattle.line.specs.Refusals.{presence, Comes, slot, reset, power_on, outside, refused, comes}
 use Rattle.chip.specs.With.{no_chip}
-use Rattle.line.specs.Event.{Answered, bit, refused as says, number_of, plan_event, plan_on, answer_by}
+use Rattle.line.specs.Event.{Answered, bit, refused as says, number_of, plan_event, plan_on, answer_plan}
 use Rattle.line.specs.declared.Event.{Event}
 use Rattle.line.specs.declared.Plan.{Plan}
 use Rattle.line.specs.declared.Plan.TheVariants as plan
@@ -57,15 +58,15 @@ abbrev pub own_value : Whole → Bool → Bool
 own_value w v = both (sends_of w) v
 
 -- the chip alone
-abbrev pub own_after : Plan → Whole → Whole
-own_after (plan.Slot v) w = act_of (Take (own_value w v)) w
-own_after plan.Reset w = act_of Reset w
-own_after plan.PowerOn w = act_of PowerOn w
-own_after (plan.Outside i l) w = w
-own_after (plan.Refused r) w = w
+abbrev pub own_after : Result Plan Refusal → Whole → Whole
+own_after (Ok (plan.Slot v)) w = act_of (Take (own_value w v)) w
+own_after (Ok plan.Reset) w = act_of Reset w
+own_after (Ok plan.PowerOn) w = act_of PowerOn w
+own_after (Ok (plan.Outside i l)) w = w
+own_after (Err r) w = w
 
 -- the chip alone, over a history
-abbrev pub own_run : List Plan → Whole → Whole
+abbrev pub own_run : List (Result Plan Refusal) → Whole → Whole
 own_run [] w = w
 own_run (p ∷ ps) w = own_run ps (own_after p w)
 
@@ -170,21 +171,21 @@ own_still code bs cs w u q o s =
     record { has_code = c; of_64_bits = rw q.0 o.of_64_bits; kind = q.1 ∙ o.kind; silent = s c }
 
 -- one event, at the chip itself
-own-after : (code : ℕ) (bs : List Bool) (e : Plan) (w : Whole) → Next bs e → Own code bs w → Own code (to_come code bs e) (own_after e w)
-own-after code [] (plan.Slot v) w a o = own_still code [] [] w _ (act_named (Take (own_value w v)) w) o (λ c n. absurd (n c))
-own-after code (b ∷ bs) (plan.Slot v) w a o =
+own-after : (code : ℕ) (bs : List Bool) (e : Result Plan Refusal) (w : Whole) → Next bs e → Own code bs w → Own code (to_come code bs e) (own_after e w)
+own-after code [] (Ok (plan.Slot v)) w a o = own_still code [] [] w _ (act_named (Take (own_value w v)) w) o (λ c n. absurd (n c))
+own-after code (b ∷ bs) (Ok (plan.Slot v)) w a o =
     let s = o.silent [] in
     let u : own_value w v ≡ b = both_one (sends_of w) v s.sends_one ∙ a in
     rw u (own_still code (b ∷ bs) bs w _ (act_named (Take b) w) o (λ c. s.leaves))
-own-after code bs plan.Reset w a o =
+own-after code bs (Ok plan.Reset) w a o =
     own_still code bs (opening code) w _ (act_named Reset w) o (λ c. opening_silent code (rw o.has_code at o.of_64_bits) w o.of_64_bits)
-own-after code bs plan.PowerOn w a o = own_still code bs [] w _ (act_named PowerOn w) o (λ c n. absurd (n c))
-own-after code bs (plan.Outside j l) w a o = o
-own-after code bs (plan.Refused r) w a o = o
+own-after code bs (Ok plan.PowerOn) w a o = own_still code bs [] w _ (act_named PowerOn w) o (λ c n. absurd (n c))
+own-after code bs (Ok (plan.Outside j l)) w a o = o
+own-after code bs (Err r) w a o = o
 
 -- one event, on the line
-among_after : (code : ℕ) (bs : List Bool) (w : Whole) (i : ℕ) (L : List Whole) {q : Plan} → Comes (chips_of L) q → Next bs q → Own code bs w → Among code bs w i L
-    → Among code (to_come code bs q) (own_after q w) i (after_by q L)
+among_after : (code : ℕ) (bs : List Bool) (w : Whole) (i : ℕ) (L : List Whole) {q : Result Plan Refusal} → Comes (chips_of L) q → Next bs q → Own code bs w → Among code bs w i L
+    → Among code (to_come code bs q) (own_after q w) i (after_plan q L)
 among_after code [] w i L (slot v) a o m =
     rw (among_value v m) (among_map code [] [] (act_of (Take (own_value w v))) (other_slot code (own_value w v)) m)
 among_after code (b ∷ bs) w i L (slot v) a o m =
@@ -198,7 +199,7 @@ among_after code bs w i L (outside j l f g n) a o m = among_outside j l o.kind (
 among_after code bs w i L (refused r) a o m = m
 
 -- what is to come after a history
-abbrev pub to_comes : ℕ → List Bool → List Plan → List Bool
+abbrev pub to_comes : ℕ → List Bool → List (Result Plan Refusal) → List Bool
 to_comes code bs [] = bs
 to_comes code bs (p ∷ ps) = to_comes code (to_come code bs p) ps
 
@@ -223,7 +224,7 @@ kind_at zero (w ∷ L) = refl
 kind_at (suc i) (w ∷ L) = kind_at i L
 
 -- what an event comes to goes by the kinds of a line alone
-abbrev plan_among : Event → List ℕ → Plan
+abbrev plan_among : Event → List ℕ → Result Plan Refusal
 plan_among e ks = plan_event e (length ks) (get_or ks e.chip 0)
 
 plan-among : (e : Event) (L : List Whole) → plan_on e L ≡ plan_among e (kinds_of L)
@@ -238,15 +239,15 @@ came_alike (e ∷ es) A B k =
     λ j. one j ∷ rest j
 
 -- the answers of the chip alone
-abbrev pub own_answer : Plan → Whole → Answered
-own_answer (plan.Slot v) w = bit (own_value w v)
-own_answer plan.Reset w = bit false
-own_answer plan.PowerOn w = bit true
-own_answer (plan.Outside i l) w = bit true
-own_answer (plan.Refused r) w = says (number_of r)
+abbrev pub own_answer : Result Plan Refusal → Whole → Answered
+own_answer (Ok (plan.Slot v)) w = bit (own_value w v)
+own_answer (Ok plan.Reset) w = bit false
+own_answer (Ok plan.PowerOn) w = bit true
+own_answer (Ok (plan.Outside i l)) w = bit true
+own_answer (Err r) w = says (number_of r)
 
 -- and over a history
-abbrev pub own_answers : List Plan → Whole → List Answered
+abbrev pub own_answers : List (Result Plan Refusal) → Whole → List Answered
 own_answers [] w = []
 own_answers (p ∷ ps) w = own_answer p w ∷ own_answers ps (own_after p w)
 
@@ -256,12 +257,12 @@ present i [] h = absurd (not-suc-le-zero h)
 present i (x ∷ L) h = refl
 
 -- one event is answered as by the chip alone
-answer_among : (code : ℕ) (bs : List Bool) (p : Plan) (w : Whole) (i : ℕ) (L : List Whole) → Among code bs w i L → answer_by p L ≡ own_answer p w
-answer_among code bs (plan.Slot v) w i L m = ap bit (among_value v m)
-answer_among code bs plan.Reset w i L m = ap bit (presence L ∙ present i L m.attached)
-answer_among code bs plan.PowerOn w i L m = refl
-answer_among code bs (plan.Outside j l) w i L m = refl
-answer_among code bs (plan.Refused r) w i L m = refl
+answer_among : (code : ℕ) (bs : List Bool) (p : Result Plan Refusal) (w : Whole) (i : ℕ) (L : List Whole) → Among code bs w i L → answer_plan p L ≡ own_answer p w
+answer_among code bs (Ok (plan.Slot v)) w i L m = ap bit (among_value v m)
+answer_among code bs (Ok plan.Reset) w i L m = ap bit (presence L ∙ present i L m.attached)
+answer_among code bs (Ok plan.PowerOn) w i L m = refl
+answer_among code bs (Ok (plan.Outside j l)) w i L m = refl
+answer_among code bs (Err r) w i L m = refl
 
 event_answer : (code : ℕ) (bs : List Bool) (e : Event) (w : Whole) (i : ℕ) (L : List Whole) → Among code bs w i L → answer_of e L ≡ own_answer (plan_on e L) w
 unfolding answer_of

@@ -1,5 +1,5 @@
 -- A session that opens by matching the code of chip i: on the line the chip comes to what it comes to alone.
-use Rattle.std.specs.Prelude.{ℕ, ◌<◌, Bool, true, false, List, [], ◌∷◌, ◌++◌, map, ◌≡◌, refl, length}
+use Rattle.std.specs.Prelude.{ℕ, ◌<◌, Bool, true, false, List, [], ◌∷◌, ◌++◌, map, ◌≡◌, refl, length, Result}
 use Rattle.std.proofs.Common.{◌∙◌, sym, subst}
 use Rattle.std.proofs.Math.Path.{ap}
 use Rattle.base.specs.Pick.{pick}
@@ -13,6 +13,7 @@ use Rattle.line.specs.Event.{Answered, bit, asked_by, plan_event, outside_fits}
 use Rattle.line.specs.Events.{slot_event, reset_event}
 use Rattle.line.specs.declared.Act.TheVariants.{Reset}
 use Rattle.line.specs.declared.Plan.{Plan}
+use Rattle.line.specs.declared.Refusal.{Refusal}
 use Rattle.histories.specs.Histories.{at, answer_of, after_of, run, answers, came}
 use Rattle.histories.specs.Fed.{fed, sends_nothing}
 use Rattle.histories.specs.Sent.{slots}
@@ -92,7 +93,7 @@ module _ (i : ℕ) (L : List Whole) (s : Installed i L) (code : ℕ) (e : (at i 
       subst (λ (M : List Whole). Among code [] u i (run (slots sent) M)) (sym (reset_after L))
       (subst (λ (w : Whole). Among code [] w i (run (slots sent) K)) (fed_alone sent _ goes.silent ∙ goes.comes)
       (subst (λ (bs : List Bool). Among code bs (own_run (slotted sent) (reset_of (at i L))) i (run (slots sent) K)) (comes_slots code (opening code) vs)
-      (subst (λ (ps : List Plan). Among code (to_comes code (opening code) ps) (own_run ps (reset_of (at i L))) i (run (slots sent) K)) (came_slots sent K)
+      (subst (λ (ps : List (Result Plan Refusal)). Among code (to_comes code (opening code) ps) (own_run ps (reset_of (at i L))) i (run (slots sent) K)) (came_slots sent K)
       (alone code (opening code) (slots sent) (reset_of (at i L)) i K (addressed_slots code (opening code) vs K) own among))))
 
   -- THEOREM: and every bit of the session is on the line as the host wrote it
@@ -103,5 +104,5 @@ module _ (i : ℕ) (L : List Whole) (s : Installed i L) (code : ℕ) (e : (at i 
       ∙ ap (λ (K : List Whole). bit false ∷ answers (slots sent) K) (reset_after L)
       ∙ ap (λ (l : List Answered). bit false ∷ l)
       (alone_answers code (opening code) (slots sent) (reset_of (at i L)) i (map (act_of Reset) L) (addressed_slots code (opening code) vs _) own among
-      ∙ ap (λ (ps : List Plan). own_answers ps (reset_of (at i L))) (came_slots sent (map (act_of Reset) L))
+      ∙ ap (λ (ps : List (Result Plan Refusal)). own_answers ps (reset_of (at i L))) (came_slots sent (map (act_of Reset) L))
       ∙ answered_alone sent _ goes.silent)

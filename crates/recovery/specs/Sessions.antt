@@ -1,6 +1,7 @@
 -- Sessions: the opening that matches a code, histories in which every session opens so, and the session that writes a whole page
 -- into a scratchpad.
-use Rattle.std.specs.Prelude.{ℕ, ◌+◌, ◌%◌, ◌<◌, ◌≤◌, Bool, List, [], ◌∷◌, ◌++◌, map, ◌≡◌, length}
+use Rattle.std.specs.Prelude.{ℕ, ◌+◌, ◌%◌, ◌<◌, ◌≤◌, Bool, List, [], ◌∷◌, ◌++◌, map, ◌≡◌, length, Result, Ok, Err}
+use Rattle.line.specs.declared.Refusal.{Refusal}
 use Rattle.std.proofs.Common.{arith}
 use Rattle.line.specs.declared.Event.{Event}
 use Rattle.line.specs.declared.Plan.{Plan}
@@ -14,32 +15,32 @@ abbrev pub opening : ℕ → List Bool
 opening code = bits_from 8 0 0x55 ++ bits_from 64 0 code
 
 -- the bits of an opening that are still to come after an event; none, where slots are free
-abbrev pub to_come : ℕ → List Bool → Plan → List Bool
-to_come code [] (plan.Slot v) = []
-to_come code (b ∷ bs) (plan.Slot v) = bs
-to_come code bs plan.Reset = opening code
-to_come code bs plan.PowerOn = []
-to_come code bs (plan.Outside i l) = bs
-to_come code bs (plan.Refused r) = bs
+abbrev pub to_come : ℕ → List Bool → Result Plan Refusal → List Bool
+to_come code [] (Ok (plan.Slot v)) = []
+to_come code (b ∷ bs) (Ok (plan.Slot v)) = bs
+to_come code bs (Ok plan.Reset) = opening code
+to_come code bs (Ok plan.PowerOn) = []
+to_come code bs (Ok (plan.Outside i l)) = bs
+to_come code bs (Err r) = bs
 
 -- a slot has the bit that is next to come
-abbrev pub Next : List Bool → Plan → Type 0
-Next [] (plan.Slot v) = Unit
-Next (b ∷ bs) (plan.Slot v) = v ≡ b
-Next bs plan.Reset = Unit
-Next bs plan.PowerOn = Unit
-Next bs (plan.Outside i l) = Unit
-Next bs (plan.Refused r) = Unit
+abbrev pub Next : List Bool → Result Plan Refusal → Type 0
+Next [] (Ok (plan.Slot v)) = Unit
+Next (b ∷ bs) (Ok (plan.Slot v)) = v ≡ b
+Next bs (Ok plan.Reset) = Unit
+Next bs (Ok plan.PowerOn) = Unit
+Next bs (Ok (plan.Outside i l)) = Unit
+Next bs (Err r) = Unit
 
 -- with these bits of an opening to come, every session of a history opens by matching the code, or is cut inside its opening;
 -- power on and outside levels may stand anywhere, and so may what is refused; it goes by what each event comes to
-abbrev pub Addressed : ℕ → List Bool → List Plan → Type 0
+abbrev pub Addressed : ℕ → List Bool → List (Result Plan Refusal) → Type 0
 Addressed code bs [] = Unit
 Addressed code bs (p ∷ ps) = Next bs p × Addressed code (to_come code bs p) ps
 
 -- what slots of these bits come to
-abbrev pub slotted : List Bool → List Plan
-slotted vs = map (λ (v : Bool). plan.Slot v) vs
+abbrev pub slotted : List Bool → List (Result Plan Refusal)
+slotted vs = map (λ (v : Bool). Ok (plan.Slot v)) vs
 
 -- a session that matches a code: a reset, Match ROM of the code, and these bits
 abbrev pub match_session : ℕ → List Bool → List Event

@@ -1,6 +1,6 @@
 -- Demand 1, "Bad input is refused by number": each refusal of an event is "given exactly when" document 01's table says, and
 -- leaves "nothing changed".
-use Rattle.std.specs.Prelude.{ℕ, Bool, true, false, List, [], ◌∷◌, ◌++◌, ◌≡◌, refl, eqb, leb, length, take, drop, get_or, Result}
+use Rattle.std.specs.Prelude.{ℕ, Bool, true, false, List, [], ◌∷◌, ◌++◌, ◌≡◌, refl, eqb, leb, length, take, drop, get_or, Result, Ok, Err}
 use Rattle.line.specs.declared.Refusal.{Refusal}
 use Rattle.std.proofs.Common.{arith, true≢false, ◌∙◌, sym}
 use Rattle.std.proofs.Math.Path.{ap}
@@ -11,7 +11,7 @@ use Rattle.chip.specs.declared.Chip.{Chip}
 use Rattle.chip.specs.Chip.{Whole}
 use Rattle.line.specs.Layout.{line_of, lent}
 use Rattle.chip.specs.With.{no_chip}
-use Rattle.line.specs.Event.{Answered, bit, refused, number_of, table_in_range, sizes_fit, outside_fits, Test, judge, table_tests, event_tests, verdict_of, outcome, asked_by, plan_by, plan_event, plan_in, plan_of, answer_by, done_of, event_of}
+use Rattle.line.specs.Event.{Answered, bit, refused, number_of, table_in_range, sizes_fit, outside_fits, Test, judge, table_tests, event_tests, verdict_of, outcome, asked_by, plan_by, plan_event, plan_in, plan_of, answer_by, done_of, event_of, answer_plan}
 use Rattle.line.specs.declared.Event.{Event}
 use Rattle.line.specs.declared.Plan.{Plan}
 use Rattle.line.specs.declared.Plan.TheVariants as plan
@@ -66,24 +66,21 @@ module _ (n : ℕ) (cs : List Chip) (e : Event) (ms ss : List ℕ) where
   abbrev tests : List Test
   tests = table_tests (table_in_range n cs) (sizes_fit n cs ms ss) ++ event_tests e (length (take n cs)) (get_or (take n cs) e.chip no_chip).kind
 
-  done_answer : (p : Plan) → (done_of p n cs ms ss).answer ≡ answer_by p line
-  done_answer (plan.Refused r) = refl
-  done_answer (plan.Slot b) = refl
-  done_answer plan.Reset = refl
-  done_answer plan.PowerOn = refl
-  done_answer (plan.Outside i l) = refl
+  done_answer : (p : Result Plan Refusal) → (done_of p n cs ms ss).answer ≡ answer_plan p line
+  done_answer (Ok p) = refl
+  done_answer (Err r) = refl
 
-  judge_answer : (ts : List Test) (p : Plan) → answer_by (plan_by (judge ts) p) line ≡ answered_by ts (answer_by p line)
+  judge_answer : (ts : List Test) (p : Result Plan Refusal) → answer_plan (plan_by (judge ts) p) line ≡ answered_by ts (answer_plan p line)
   judge_answer [] p = refl
   judge_answer (t ∷ ts) p =
-      pick_of (λ (q : Result (Unit {0}) Refusal). answer_by (plan_by q p) line) _ _ _ ∙ ap (λ (x : Answered). pick t.holds x (refused (number_of t.refusal))) (judge_answer ts p)
+      pick_of (λ (q : Result (Unit {0}) Refusal). answer_plan (plan_by q p) line) _ _ _ ∙ ap (λ (x : Answered). pick t.holds x (refused (number_of t.refusal))) (judge_answer ts p)
 
   answer_is : (event_of n cs e ms ss).answer ≡ answered_by tests said
   unfolding event_of plan_of verdict_of plan_event
   answer_is =
       done_answer (plan_of n cs e ms ss)
       ∙ judge_answer (table_tests (table_in_range n cs) (sizes_fit n cs ms ss)) (plan_in (take n cs) e)
-      ∙ ap (answered_by (table_tests (table_in_range n cs) (sizes_fit n cs ms ss))) (judge_answer (event_tests e (length (take n cs)) (get_or (take n cs) e.chip no_chip).kind) (asked_by e))
+      ∙ ap (answered_by (table_tests (table_in_range n cs) (sizes_fit n cs ms ss))) (judge_answer (event_tests e (length (take n cs)) (get_or (take n cs) e.chip no_chip).kind) (Ok (asked_by e)))
 
   answers : (s : ℕ) {B : Type 0} → Iff (answered_by tests said ≡ refused s) B → Iff ((event_of n cs e ms ss).answer ≡ refused s) B
   answers s i = ((λ p. i.0 (sym answer_is ∙ p)), (λ p. answer_is ∙ i.1 p))
@@ -130,9 +127,9 @@ module _ (n : ℕ) (cs : List Chip) (e : Event) (ms ss : List ℕ) where
   unfolding event_of
   refused_leaves r = go (plan_of n cs e ms ss)
     where
-      go : (p : Plan) → (done_of p n cs ms ss).answer ≡ refused r → done_of p n cs ms ss ≡ outcome (refused r) n (lent cs ms ss)
-      go (plan.Refused q) h = ap (λ (x : Answered). outcome x n (lent cs ms ss)) h
-      go (plan.Slot b) h = absurd (no_bit _ r h)
-      go plan.Reset h = absurd (no_bit _ r h)
-      go plan.PowerOn h = absurd (no_bit _ r h)
-      go (plan.Outside i l) h = absurd (no_bit _ r h)
+      go : (p : Result Plan Refusal) → (done_of p n cs ms ss).answer ≡ refused r → done_of p n cs ms ss ≡ outcome (refused r) n (lent cs ms ss)
+      go (Err q) h = ap (λ (x : Answered). outcome x n (lent cs ms ss)) h
+      go (Ok (plan.Slot b)) h = absurd (no_bit _ r h)
+      go (Ok plan.Reset) h = absurd (no_bit _ r h)
+      go (Ok plan.PowerOn) h = absurd (no_bit _ r h)
+      go (Ok (plan.Outside i l)) h = absurd (no_bit _ r h)

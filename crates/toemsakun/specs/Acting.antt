@@ -7,8 +7,8 @@ use Rattle.base.specs.Bits.{both}
 use Rattle.chip.specs.declared.Chip.{Chip}
 use Rattle.line.specs.Layout.{lent}
 use Rattle.chip.specs.With.{no_chip}
-use Rattle.line.specs.Event.{answered, outcome}
-use Rattle.line.specs.Carrier.{over, over_more, over_done, first_spot, spot_after, puts_at, bus_with, bus_over, turned, turn_of, acts, acts_more, acts_done, answer_for}
+use Rattle.line.specs.Event.{bit, outcome}
+use Rattle.line.specs.Carrier.{over, over_more, over_done, first_spot, spot_after, puts_at, bus_with, bus_over, turned, turn_of, acts, acts_more, acts_done}
 use Rattle.line.specs.Carried.{walked}
 use Rattle.line.specs.declared.Plan.{Plan}
 use Rattle.line.specs.declared.Spot.{Spot}
@@ -24,10 +24,10 @@ chips_count bs t = let k = bytes_length bs t in omega arith
 abbrev pub sum_with : Bool → Spot → Bus
 sum_with value spot = record { value = value; spot = spot }
 
-pub sum_is : (d : Plan) (c : Chip) (v : Bool) (p : Spot) (ms ss : List ℕ) (bit w : Bool) (q : Spot) → bit ≡ puts_at d c p ms ss → w ≡ both bit v
+pub sum_is : (d : Plan) (c : Chip) (v : Bool) (p : Spot) (ms ss : List ℕ) (sent w : Bool) (q : Spot) → sent ≡ puts_at d c p ms ss → w ≡ both sent v
     → q ≡ spot_after c.kind p → sum_with w q ≡ bus_with d c (sum_with v p) ms ss
 unfolding bus_with
-sum_is d c v p ms ss bit w q e f g = λ j. sum_with ((f ∙ ap (λ (b : Bool). both b v) e) j) (g j)
+sum_is d c v p ms ss sent w q e f g = λ j. sum_with ((f ∙ ap (λ (b : Bool). both b v) e) j) (g j)
 
 -- where a loop over the records that changes none stands after i of them
 module _ {S : Type 0} (f : Chip → S → S) where
@@ -125,11 +125,11 @@ module _ (d : Plan) (v : Bool) (bs₀ ms₀ ss₀ bs ms ss : List ℕ) (n i : �
       sym (acts_done d v n i p (unpacked_table bs) ms ss h) ∙ g.acted ∙ ap (λ (k : ℕ). acts d v k 0 p₀ (unpacked_table bs₀) ms₀ ss₀) g.count₀
 
 -- what the loops leave, in bytes
-pub played : (bs ms ss bs' ms' ss' : List ℕ) (d : Plan) (v : Bool) (a : Result Bool Refusal) → Table16 bs' → v ≡ (bus_over d (length (unpacked_table bs)) (unpacked_table bs) ms ss).value
-    → lent (unpacked_table bs') ms' ss' ≡ acts d v (length (unpacked_table bs)) 0 first_spot (unpacked_table bs) ms ss → a ≡ answer_for d v
-    → event_left (answer_number (answered a)) bs' ms' ss' ≡ packed_outcome (walked (length (unpacked_table bs)) (length (unpacked_table bs)) (unpacked_table bs) ms ss d)
-played bs ms ss bs' ms' ss' d v a t e f g =
+pub played : (bs ms ss bs' ms' ss' : List ℕ) (d : Plan) (v : Bool) → Table16 bs' → v ≡ (bus_over d (length (unpacked_table bs)) (unpacked_table bs) ms ss).value
+    → lent (unpacked_table bs') ms' ss' ≡ acts d v (length (unpacked_table bs)) 0 first_spot (unpacked_table bs) ms ss
+    → event_left (answer_number (bit v)) bs' ms' ss' ≡ packed_outcome (walked (length (unpacked_table bs)) (length (unpacked_table bs)) (unpacked_table bs) ms ss d)
+played bs ms ss bs' ms' ss' d v t e f =
     let n = length (unpacked_table bs) in
-    ap (λ (b : List ℕ). event_left (answer_number (answered a)) b ms' ss') (sym t.packs)
-    ∙ (λ j. packed_outcome (outcome (answered (g j)) n (f j)))
-    ∙ ap (λ (b : Bool). packed_outcome (outcome (answered (answer_for d b)) n (acts d b n 0 first_spot (unpacked_table bs) ms ss))) e
+    ap (λ (b : List ℕ). event_left (answer_number (bit v)) b ms' ss') (sym t.packs)
+    ∙ (λ j. packed_outcome (outcome (bit v) n (f j)))
+    ∙ ap (λ (b : Bool). packed_outcome (outcome (bit b) n (acts d b n 0 first_spot (unpacked_table bs) ms ss))) e

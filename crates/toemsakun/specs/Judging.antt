@@ -1,5 +1,5 @@
 -- Laws: what an event comes to on bytes, as a loop over the records finds it.
-use Rattle.std.specs.Prelude.{ℕ, ◌*◌, ◌/◌, ◌<◌, Bool, ◌≡◌, eqb, leb, length, take, Result}
+use Rattle.std.specs.Prelude.{ℕ, ◌*◌, ◌/◌, ◌<◌, Bool, ◌≡◌, eqb, leb, length, take, Result, Err}
 use Rattle.line.specs.declared.Refusal.{Refusal}
 use native.Mathlib.Omega.{arith}
 use Rattle.std.proofs.Math.Bool.{true, false}
@@ -15,13 +15,12 @@ use Rattle.chip.specs.declared.Chip.{Chip}
 use Rattle.line.specs.Event.{answered, outcome, judge, table_tests, verdict_of, all_in_range, table_in_range, sizes_fit, Outcome, plan_in, plan_by, plan_of, done_of, event_of}
 use Rattle.line.specs.Layout.{lent, images_size, pads_size}
 use Rattle.line.specs.Carrier.{verdict_with, verdict_by, plan_seen, happens_by, answer_for}
-use Rattle.line.specs.Carried.{walked, refused_done, happens_few}
+use Rattle.line.specs.Carried.{walked_by, refused_done, happens_few}
 use Rattle.line.proofs.Walked.{plan_walked}
 use Rattle.line.specs.declared.Refusal.TheVariants.{OutOfRange}
 use Rattle.line.specs.declared.Event.{Event}
 use Rattle.line.specs.declared.Survey.{Survey}
 use Rattle.line.specs.declared.Plan.{Plan}
-use Rattle.line.specs.declared.Plan.TheVariants as plan
 use Rattle.packed.specs.Packed.{record_size, unpacked_from, unpacked_table, is_table}
 use Rattle.packed.specs.Laws.{table_is}
 use Rattle.packed.specs.Places.{Table16}
@@ -29,10 +28,10 @@ use Rattle.toemsakun.specs.Library.{minus, event_left, answer_number, packed_out
 use Rattle.toemsakun.specs.Standing.{stand_as, survey_of, pick_and, chips_are, chips_count, whole_is}
 
 -- what an event comes to on bytes and their buffers
-abbrev pub refused_by8 : Plan
-refused_by8 = plan.Refused OutOfRange
+abbrev pub refused_by8 : Result Plan Refusal
+refused_by8 = Err OutOfRange
 
-unfoldable pub plan_bytes : List ℕ → Event → List ℕ → List ℕ → Plan
+unfoldable pub plan_bytes : List ℕ → Event → List ℕ → List ℕ → Result Plan Refusal
 plan_bytes bs e ms ss = let cs = unpacked_table bs in pick (is_table bs) (plan_of (length cs) cs e ms ss) refused_by8
 
 -- by a survey of chips whose fields lie in their ranges, and where one does not
@@ -50,9 +49,9 @@ module _ (cs : List Chip) (e : Event) (ms ss : List ℕ) where
   seen_outside h = simp (take-length, h, pick_same, pick_false)
 
   seen_is : pick (all_in_range cs) (plan_seen (survey_of e.chip cs) (length cs) e (length ms) (length ss)) refused_by8 ≡ plan_of (length cs) cs e ms ss
-  seen_is = pick_if (λ (p : Plan). p ≡ plan_of (length cs) cs e ms ss) (all_in_range cs) _ _ seen_well seen_outside
+  seen_is = pick_if (λ (p : Result Plan Refusal). p ≡ plan_of (length cs) cs e ms ss) (all_in_range cs) _ _ seen_well seen_outside
 
-pub plan_found : (bs : List ℕ) (e : Event) (ms ss : List ℕ) (n : ℕ) (ok whole : Bool) (l : Survey) (p : Plan) → n ≡ length bs / record_size
+pub plan_found : (bs : List ℕ) (e : Event) (ms ss : List ℕ) (n : ℕ) (ok whole : Bool) (l : Survey) (p : Result Plan Refusal) → n ≡ length bs / record_size
     → both ok (eqb (length bs) (n * record_size)) ≡ stand_as (unpacked_from n bs) bs → whole ≡ both ok (eqb (length bs) (n * record_size))
     → l ≡ survey_of e.chip (unpacked_from n bs) → p ≡ pick whole (plan_seen l n e (length ms) (length ss)) refused_by8 → p ≡ plan_bytes bs e ms ss
 unfolding plan_bytes
@@ -60,7 +59,7 @@ plan_found bs e ms ss n ok whole l p q j w s h =
     let survey : l ≡ survey_of e.chip (unpacked_table bs) = s ∙ ap (survey_of e.chip) (chips_are bs n q) in
     h ∙ (λ k. pick (whole_is bs n q ok whole j w k) (plan_seen (survey k) (chips_count bs n q k) e (length ms) (length ss)) refused_by8)
     ∙ pick_and (is_table bs) (all_in_range (unpacked_table bs)) _ refused_by8
-    ∙ ap (λ (x : Plan). pick (is_table bs) x refused_by8) (seen_is (unpacked_table bs) e ms ss)
+    ∙ ap (λ (x : Result Plan Refusal). pick (is_table bs) x refused_by8) (seen_is (unpacked_table bs) e ms ss)
 
 many_planned : (n : ℕ) (cs : List Chip) (e : Event) (ms ss : List ℕ) → 16 < n → plan_of n cs e ms ss ≡ refused_by8
 unfolding plan_of verdict_of table_in_range
@@ -77,7 +76,7 @@ plan_long bs e ms ss h =
     go false e = sym (pick_false false _ _ refl)
 
 -- an event on bytes, by what it comes to
-module _ (bs : List ℕ) (e : Event) (ms ss : List ℕ) (p : Plan) (h : p ≡ plan_bytes bs e ms ss) where
+module _ (bs : List ℕ) (e : Event) (ms ss : List ℕ) (p : Result Plan Refusal) (h : p ≡ plan_bytes bs e ms ss) where
   abbrev cs : List Chip
   cs = unpacked_table bs
 
@@ -100,10 +99,10 @@ module _ (bs : List ℕ) (e : Event) (ms ss : List ℕ) (p : Plan) (h : p ≡ pl
     pub any_table : Table16 bs
     any_table = record { few = happens_few (length cs) cs e ms ss (ap happens_by (sym (on_table is-table)) ∙ any); packs = table_is bs is-table }
 
-    pub any_done : packed_outcome (walked (length cs) (length cs) cs ms ss p) ≡ event_bytes bs e ms ss
+    pub any_done : packed_outcome (walked_by (length cs) (length cs) cs ms ss p) ≡ event_bytes bs e ms ss
     unfolding event_bytes
     any_done =
-        ap (λ (o : Outcome). packed_outcome o) (ap (λ (x : Plan). walked (length cs) (length cs) cs ms ss x) (on_table is-table) ∙ plan_walked (length cs) (length cs) cs ms ss (λ few. (omega arith, refl)) e)
+        ap (λ (o : Outcome). packed_outcome o) (ap (walked_by (length cs) (length cs) cs ms ss) (on_table is-table) ∙ plan_walked (length cs) (length cs) cs ms ss (λ few. (omega arith, refl)) e)
         ∙ sym (pick_true (is_table bs) _ _ is-table)
 
   pub none_done : (a : Result Bool Refusal) → happens_by p ≡ false → a ≡ answer_for p true → event_left (answer_number (answered a)) bs ms ss ≡ event_bytes bs e ms ss
@@ -115,8 +114,8 @@ module _ (bs : List ℕ) (e : Event) (ms ss : List ℕ) (p : Plan) (h : p ≡ pl
           ap (λ (k : List ℕ). event_left (answer_number (answered a)) k ms ss) (sym (table_is bs t))
           ∙ ap (λ (x : Result Bool Refusal). packed_outcome (outcome (answered x) (length cs) (lent cs ms ss))) f
           ∙ ap (λ (o : Outcome). packed_outcome o) (refused_done p true (length cs) cs ms ss none)
-          ∙ ap (λ (x : Plan). packed_outcome (done_of x (length cs) cs ms ss)) (on_table t)
+          ∙ ap (λ (x : Result Plan Refusal). packed_outcome (done_of x (length cs) cs ms ss)) (on_table t)
           ∙ sym (pick_true (is_table bs) _ _ t)
       go false t =
-          ap (λ (x : Result Bool Refusal). event_left (answer_number (answered x)) bs ms ss) (f ∙ ap (λ (x : Plan). answer_for x true) (off_table t))
+          ap (λ (x : Result Bool Refusal). event_left (answer_number (answered x)) bs ms ss) (f ∙ ap (λ (x : Result Plan Refusal). answer_for x true) (off_table t))
           ∙ sym (pick_false (is_table bs) _ _ t)

@@ -124,20 +124,13 @@ module _ (bs bits answers : List ℕ) (slots : ℕ) (ms ss : List ℕ) where
 
 -- ---- one slot
 
-module _ (bs : List ℕ) (e : Event) (ms ss : List ℕ) (b : Bool) (h : plan.Slot b ≡ plan_bytes bs e ms ss) where
+module _ (bs : List ℕ) (e : Event) (ms ss : List ℕ) (b : Bool) (h : Ok (plan.Slot b) ≡ plan_bytes bs e ms ss) where
   abbrev chips : List Chip
   chips = unpacked_table bs
 
   -- an event that comes to a slot is not refused
-  other : (r : Refusal) → plan.Slot b ≡ plan.Refused r → ⊥
-  other r z = true≢false (ap happens z)
-    where
-      happens : Plan → Bool
-      happens (plan.Refused q) = false
-      happens (plan.Slot c) = true
-      happens plan.Reset = true
-      happens plan.PowerOn = true
-      happens (plan.Outside i l) = true
+  other : (r : Refusal) → Ok (plan.Slot b) ≡ Err r → ⊥
+  other r z = cc
 
   off_table : is_table bs ≡ false → plan_bytes bs e ms ss ≡ refused_by8
   unfolding plan_bytes
@@ -150,7 +143,7 @@ module _ (bs : List ℕ) (e : Event) (ms ss : List ℕ) (b : Bool) (h : plan.Slo
       go true t = t
       go false t = absurd (other OutOfRange (h ∙ off_table t))
 
-  slot_planned : plan.Slot b ≡ plan_of (length chips) chips e ms ss
+  slot_planned : Ok (plan.Slot b) ≡ plan_of (length chips) chips e ms ss
   unfolding plan_bytes
   slot_planned = h ∙ pick_true (is_table bs) _ _ slot_table
 
@@ -172,5 +165,5 @@ module _ (bs : List ℕ) (e : Event) (ms ss : List ℕ) (b : Bool) (h : plan.Slo
       let L = after_by (plan.Slot b) (line_in bs ms ss) in
       (λ j. event_left (answer_number (bit (f j))) (sym t.table.packs j) ms' ss')
       ∙ ap (λ (g : Lent). packed_outcome (outcome (bit (value_of b (line_in bs ms ss))) (length chips) g)) (left_lent bs ms ss bs' ms' ss' t L k)
-      ∙ ap (λ (p : Plan). packed_outcome (done_of p (length chips) chips ms ss)) slot_planned
+      ∙ ap (λ (p : Result Plan Refusal). packed_outcome (done_of p (length chips) chips ms ss)) slot_planned
       ∙ sym (pick_true (is_table bs) _ _ slot_table)

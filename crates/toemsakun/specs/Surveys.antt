@@ -100,7 +100,7 @@ module _ (bs : List ℕ) (chip : ℕ) (s : None ≡ survey_in chip bs) where
 
 -- what an event comes to by it, and a run of slots
 module _ (bs : List ℕ) (e : Event) (ms ss : List ℕ) where
-  pub plan_some : (l : Survey) (p : Plan) → Some l ≡ survey_in e.chip bs → p ≡ plan_seen l l.spot.place e (length ms) (length ss) → p ≡ plan_bytes bs e ms ss
+  pub plan_some : (l : Survey) (p : Result Plan Refusal) → Some l ≡ survey_in e.chip bs → p ≡ plan_seen l l.spot.place e (length ms) (length ss) → p ≡ plan_bytes bs e ms ss
   plan_some l p s h =
       let k = surveyed bs e.chip l s in
       plan_found bs e ms ss (count bs e.chip) true true l p refl k.judged k.whole k.found

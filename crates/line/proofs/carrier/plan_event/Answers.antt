@@ -6,14 +6,14 @@ use Rattle.line.proofs.carrier.plan_event.Goals as goal
 pub asked_of-requires : goal.asked_of-requires
 asked_of-requires c = record { kind_value = search (rules, ← c.outside_fits.ensures); number_bound = search rules }
 
-pub returns-then-outside_fits : goal.returns-then-outside_fits
+pub returns-then-e-gt4 : goal.returns-then-e-gt4
 unfolding plan_event
-returns-then-outside_fits c = search (cases, c.asked_of.ensures, ← c.outside_fits.ensures)
+returns-then-e-gt4 c = search cases
 
-pub returns-then-e-le4 : goal.returns-then-e-le4
+pub returns-then-not-outside_fits : goal.returns-then-not-outside_fits
 unfolding plan_event
-returns-then-e-le4 c = search (cases, ← c.outside_fits.ensures)
+returns-then-not-outside_fits c = search (cases, ← c.outside_fits.ensures)
 
 pub returns : goal.returns
 unfolding plan_event
-returns c = search cases
+returns c = search (cases, c.asked_of.ensures, ← c.outside_fits.ensures)

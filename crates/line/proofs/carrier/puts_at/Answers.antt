@@ -2,17 +2,8 @@ use Rattle.line.specs.Carrier.{puts-at}
 use Rattle.base.specs.Rules.{cases}
 use Rattle.line.proofs.carrier.puts_at.Goals as goal
 
-pub returns-in-Refused : goal.returns-in-Refused
-returns-in-Refused c = search (cases, puts-at)
-
 pub returns-in-Slot : goal.returns-in-Slot
 returns-in-Slot c = search (cases, puts-at, c.bit_at.ensures)
 
 pub returns-in-Reset : goal.returns-in-Reset
 returns-in-Reset c = search (cases, puts-at)
-
-pub returns-in-PowerOn : goal.returns-in-PowerOn
-returns-in-PowerOn c = search (cases, puts-at)
-
-pub returns-in-Outside : goal.returns-in-Outside
-returns-in-Outside c = search (cases, puts-at)
