@@ -53,6 +53,7 @@ pub struct Carded {
 #[derive(Clone, Copy)]
 pub struct Entry {
     pub code: u64,
+    // Stays a number: refusal 2 of `line` speaks of kinds in a table that no enum names.
     pub kind: u8,
     pub next: usize,
 }
@@ -130,6 +131,7 @@ pub fn set_up(s: &[u8], places: usize, t: Table) -> Carded
     let mut chips = t.chips;
     let mut n: usize = 0;
     let mut at: usize = 0;
+    // Stays a loop over offsets: each record says where the next one begins.
     loop {
         match entry_at(s, at, most - n) {
             Ok(Some(entry)) => {

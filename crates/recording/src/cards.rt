@@ -33,6 +33,7 @@ pub fn read_cards(t: Table, s: &[u8], more: bool) -> CardsRead
 {
     let mut table = t;
     let mut at: usize = 0;
+    // Stays a loop over offsets: each record says where the next one begins.
     loop {
         let events = CardsRead {
             ending: CardsEnding::Events,

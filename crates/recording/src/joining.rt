@@ -47,6 +47,7 @@ fn gather_runs(
 {
     let mut all = slots;
     let mut next = at;
+    // Stays a loop over offsets: each record says where the next one begins.
     loop {
         let Ok(Found::Record(Record::Slots { count, from, to }, after)) = reading::record_at(
             s, next, room, true, more,

@@ -79,6 +79,7 @@ pub enum Ending {
 }
 
 // How reading a card ends.
+// Stays an enum of its own: an `Option` of the `Result` would not say that `None` is an event, and so be no plainer.
 #[derive(Clone, Copy)]
 pub enum CardsEnding {
     // before a record of one of kinds 16 to 19

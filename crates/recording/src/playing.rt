@@ -17,6 +17,7 @@ pub struct RecordPut {
 }
 
 // The character of an answer.
+// Stays an `if`, which shows both characters; a sum with `u8::from` is no plainer.
 fn digit_of(b: bool) -> u8
     ensures { result ≡ digit b }
 {
@@ -151,6 +152,7 @@ fn play_all(t: Table, s: &[u8], more: bool, out: &mut [u8], ms: &mut [u8], ss: &
     let mut table = t;
     let mut at: usize = 0;
     let mut place: usize = 0;
+    // Stays a loop over offsets: each record, or run of records, says where the next one begins.
     loop {
         let room = cards::room_for(table.n);
         match reading::record_at(s, at, room, true, more) {

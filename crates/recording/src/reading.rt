@@ -145,6 +145,8 @@ fn event_in(s: &[u8], body: usize, kind: u16) -> Event
 }
 
 // A whole record of one of kinds 16 to 19.
+// Stays: what is asked of a body and of the next record stands at three functions, each of which asks another part of it, so that a
+// struct for a whole record, with all of it as its invariant, would not be plainer.
 fn event_record(s: &[u8], size: u16, kind: u16, body: usize, next: usize) -> Result<Found, Fault>
     requires { (body + size ≡ next + 2) × (next ≤ length s.now) }
     ensures { result ≡ event_record s.now size kind body next }

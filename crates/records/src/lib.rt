@@ -6,6 +6,7 @@ ghost use Rattle.records.specs.Numbers.{number_at};
 ghost use Rattle.records.specs.Records.{head_at};
 
 // What starts at an offset of a run of records.
+// The kinds stay numbers: refusal 2 and the recording's order of faults speak of kinds that no enum names.
 #[derive(Clone, Copy)]
 pub enum Head {
     // nothing: the run ends here
