@@ -1,11 +1,14 @@
--- Laws: the loops that look a code up among the DS28EC20s of a table, and that count the codes which they bear.
-use Rattle.std.specs.Prelude.{ℕ, suc, ◌+◌, ◌*◌, ◌<◌, ◌≤◌, Bool, false, not, ◌≡◌, refl, eqb, leb, length, take, drop, get_or}
+-- Laws: how a code is looked up among the DS28EC20s of a table, and how the codes are counted which they bear.
+use Rattle.std.specs.Prelude.{ℕ, ◌+◌, ◌-◌, ◌*◌, ◌<◌, ◌≤◌, Bool, false, not, ◌||◌, ◌≡◌, refl, eqb, leb, length, take, drop, get_or}
+use Rattle.std.specs.List.{list_any}
 use native.Mathlib.Omega.{arith}
-use Rattle.std.proofs.Common.{add-one, ◌∙◌, drop_of_length-le, drop-cons, get_or-take, length-take-le, le-leb}
+use Rattle.std.proofs.Common.{add-one, ◌∙◌, drop_of_length-le, drop-cons, le-leb}
+use Rattle.std.proofs.lemmas.Bool.{lt-leb}
+use Rattle.std.proofs.lemmas.List.{take_rest}
 use Rattle.std.proofs.Math.Bool.{true}
 use mathlib.Core.List.{List, [], ◌∷◌}
 use Rattle.std.proofs.Math.Path.{ap, sym}
-use Rattle.base.specs.Pick.{pick, pick_true}
+use Rattle.base.specs.Pick.{pick, pick_true, pick_false}
 use Rattle.base.specs.Bits.{both}
 use Rattle.base.specs.Once.{is_in, once_each, distinct_in}
 use Rattle.chip.specs.Kinds.{is_ds28ec20}
@@ -36,68 +39,64 @@ count_first c cs = go (is_ds28ec20 c.kind) (is_in c.code (borne_in cs)) refl
     go true false e = rw e (omega arith)
     go false u e = omega arith
 
-module _ (n : ℕ) (cs : List Chip) where
-  -- the chips of a table from a place on, by the one at that place
-  next_chip : (i : ℕ) → i < n → n ≤ length cs → drop i (take n cs) ≡ get_or cs i no_chip ∷ drop (i + 1) (take n cs)
-  next_chip i h k =
-      let l : i < length (take n cs) = let e = length-take-le n cs k in omega arith in
-      drop-cons (take n cs) i no_chip l
-      ∙ ap (λ (c : Chip). c ∷ drop (suc i) (take n cs)) (get_or-take n cs i no_chip h)
-      ∙ ap (λ (j : ℕ). get_or cs i no_chip ∷ drop j (take n cs)) (sym (add-one i))
+-- a code that chips bear, as a search through them finds it
+pub borne_any : (code : ℕ) (cs : List Chip) → list_any (λ c. bears_code code c.kind c.code) cs ≡ is_in code (borne_in cs)
+unfolding borne_in pick
+borne_any code [] = refl
+borne_any code (c ∷ cs) = go (bears_code code c.kind c.code) (borne_any code cs) ∙ sym (borne_first code c cs)
+  where
+    go : (t : Bool) → list_any (λ (d : Chip). bears_code code d.kind d.code) cs ≡ is_in code (borne_in cs)
+        → (t || list_any (λ (d : Chip). bears_code code d.kind d.code) cs) ≡ pick t true (is_in code (borne_in cs))
+    go true e = refl
+    go false e = e
 
-  -- past the last chip there is none
-  past_chips : (i : ℕ) → n ≤ i → n ≤ length cs → drop i (take n cs) ≡ []
-  past_chips i h k = drop_of_length-le (take n cs) {i = i} (let e = length-take-le n cs k in omega arith)
+-- ---- the loop that counts the codes
+module _ (cs : List Chip) (i m : ℕ) (h : i < length cs) (so : m + distinct_in (borne_in (drop i cs)) ≡ distinct_in (borne_in cs)) where
+  -- the chip at the place that the loop has come to, and those after it
+  abbrev here : Chip
+  here = get_or cs i no_chip
 
-  -- ---- the loop that looks a code up
-  module _ (code i : ℕ) (t : Bool) (h : i < n) (k : n ≤ length cs) (e : t ≡ bears_code code (get_or cs i no_chip).kind (get_or cs i no_chip).code) where
-    found-by : is_in code (borne_in (drop i (take n cs))) ≡ pick t true (is_in code (borne_in (drop (i + 1) (take n cs))))
-    found-by =
-        ap (λ (ds : List Chip). is_in code (borne_in ds)) (next_chip i h k)
-        ∙ borne_first code (get_or cs i no_chip) (drop (i + 1) (take n cs))
-        ∙ ap (λ (b : Bool). pick b true (is_in code (borne_in (drop (i + 1) (take n cs))))) (sym e)
+  abbrev after : List Chip
+  after = drop (i + 1) cs
 
-    pub borne_here : t ≡ true → true ≡ is_in code (borne_in (drop i (take n cs)))
-    unfolding pick
-    borne_here f = sym (found-by ∙ ap (λ (b : Bool). pick b true (is_in code (borne_in (drop (i + 1) (take n cs))))) f)
+  counted-by : (t : Bool) → last_bearer here after ≡ t → m + (pick t 1 0 + distinct_in (borne_in after)) ≡ distinct_in (borne_in cs)
+  counted-by t f =
+      ap (λ (x : Bool). m + (pick x 1 0 + distinct_in (borne_in after))) (sym f)
+      ∙ ap (λ (x : ℕ). m + x) (sym (count_first here after))
+      ∙ ap (λ (es : List Chip). m + distinct_in (borne_in es)) (sym (drop-cons cs i no_chip h ∙ ap (λ (j : ℕ). here ∷ drop j cs) (sym (add-one i))))
+      ∙ so
 
-    pub borne_later : t ≡ false → is_in code (borne_in (drop i (take n cs))) ≡ is_in code (borne_in (drop (i + 1) (take n cs)))
-    unfolding pick
-    borne_later f = found-by ∙ ap (λ (b : Bool). pick b true (is_in code (borne_in (drop (i + 1) (take n cs))))) f
+  -- whether a later chip bears the code too, as it is asked of the chips after the place
+  module _ (b : Bool) (eb : b ≡ is_in here.code (borne_in (take (length cs - (i + 1)) after))) where
+    later-is : (t : Bool) → b ≡ t → is_in here.code (borne_in after) ≡ t
+    later-is t g = sym (eb ∙ ap (λ (ds : List Chip). is_in here.code (borne_in ds)) (take_rest cs (i + 1))) ∙ g
 
-  pub borne_nowhere : (code i : ℕ) → n ≤ i → n ≤ length cs → false ≡ is_in code (borne_in (drop i (take n cs)))
-  unfolding borne_in
-  borne_nowhere code i h k = sym (ap (λ (ds : List Chip). is_in code (borne_in ds)) (past_chips i h k))
+    -- the last that bears its code
+    pub counts_last : is_ds28ec20 here.kind ≡ true → b ≡ false → m + 1 + distinct_in (borne_in after) ≡ distinct_in (borne_in cs)
+    unfolding pick both
+    counts_last f g = let k = counted-by true (λ j. both (f j) (not (later-is false g j))) in omega arith
 
-  -- ---- the loop that counts
-  module _ (i m : ℕ) (h : i < n) (k : n ≤ length cs) (a b t : Bool) (ea : a ≡ is_ds28ec20 (get_or cs i no_chip).kind)
-      (eb : b ≡ is_in (get_or cs i no_chip).code (borne_in (drop (i + 1) (take n cs)))) (et : t ≡ both a (not b))
-      (so : m + distinct_in (borne_in (drop i (take n cs))) ≡ distinct_in (borne_in (take n cs))) where
-    counted-by : m + (pick t 1 0 + distinct_in (borne_in (drop (i + 1) (take n cs)))) ≡ distinct_in (borne_in (take n cs))
-    counted-by =
-        let c = get_or cs i no_chip in
-        let ds = drop (i + 1) (take n cs) in
-        let f : t ≡ last_bearer c ds = et ∙ (λ j. both (ea j) (not (eb j))) in
-        ap (λ (x : Bool). m + (pick x 1 0 + distinct_in (borne_in ds))) f
-        ∙ ap (λ (x : ℕ). m + x) (sym (count_first c ds))
-        ∙ ap (λ (es : List Chip). m + distinct_in (borne_in es)) (sym (next_chip i h k))
-        ∙ so
+    -- one whose code a later chip bears too
+    pub counts_shared : is_ds28ec20 here.kind ≡ true → b ≡ true → m + distinct_in (borne_in after) ≡ distinct_in (borne_in cs)
+    unfolding pick both
+    counts_shared f g = let k = counted-by false (λ j. both (f j) (not (later-is true g j))) in omega arith
 
-    pub counts_one : t ≡ true → m + 1 + distinct_in (borne_in (drop (i + 1) (take n cs))) ≡ distinct_in (borne_in (take n cs))
-    unfolding pick
-    counts_one f = let g = (rw f at counted-by) in omega arith
+  -- a chip of another kind
+  pub counts_other : is_ds28ec20 here.kind ≡ false → m + distinct_in (borne_in after) ≡ distinct_in (borne_in cs)
+  unfolding pick both
+  counts_other f = let k = counted-by false (λ j. both (f j) (not (is_in here.code (borne_in after)))) in omega arith
 
-    pub counts_none : t ≡ false → m + distinct_in (borne_in (drop (i + 1) (take n cs))) ≡ distinct_in (borne_in (take n cs))
-    unfolding pick
-    counts_none f = let g = (rw f at counted-by) in omega arith
+pub counts_all : (cs : List Chip) (i m : ℕ) → length cs ≤ i → m + distinct_in (borne_in (drop i cs)) ≡ distinct_in (borne_in cs) → m ≡ distinct_in (borne_in cs)
+unfolding borne_in once_each
+counts_all cs i m h so =
+    let z : distinct_in (borne_in (drop i cs)) ≡ 0 = ap (λ (ds : List Chip). distinct_in (borne_in ds)) (drop_of_length-le cs {i = i} h) in
+    omega arith
 
-  pub counts_all : (i m : ℕ) → n ≤ i → n ≤ length cs → m + distinct_in (borne_in (drop i (take n cs))) ≡ distinct_in (borne_in (take n cs)) → m ≡ distinct_in (borne_in (take n cs))
-  unfolding borne_in once_each
-  counts_all i m h k so =
-      let z : distinct_in (borne_in (drop i (take n cs))) ≡ 0 = ap (λ (ds : List Chip). distinct_in (borne_in ds)) (past_chips i h k) in
-      omega arith
+-- what a table asks
+pub asked_some : (n m : ℕ) (cs : List Chip) → n ≤ 16 → m ≡ distinct_in (borne_in (take n cs)) → page_size * m ≡ pages_asked n cs
+unfolding pages_asked
+asked_some n m cs h e = ap (λ (x : ℕ). page_size * x) e ∙ sym (pick_true (leb n 16) _ 0 (le-leb n 16 h))
 
-  -- what a table asks
-  pub asked_some : (m : ℕ) → n ≤ 16 → m ≡ distinct_in (borne_in (take n cs)) → page_size * m ≡ pages_asked n cs
-  unfolding pages_asked
-  asked_some m h e = ap (λ (x : ℕ). page_size * x) e ∙ sym (pick_true (leb n 16) _ 0 (le-leb n 16 h))
+pub asked_none : (n : ℕ) (cs : List Chip) → 16 < n → 0 ≡ pages_asked n cs
+unfolding pages_asked
+asked_none n cs h = sym (pick_false (leb n 16) _ 0 (lt-leb n 16 h))

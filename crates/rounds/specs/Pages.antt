@@ -1,7 +1,7 @@
 -- Laws: the loop over the codes that were listed.
-use Rattle.std.specs.Prelude.{ℕ, ◌+◌, ◌*◌, ◌<◌, ◌≤◌, Bool, true, false, ◌≡◌, refl, take, get_or}
+use Rattle.std.specs.Prelude.{ℕ, ◌+◌, ◌*◌, ◌<◌, ◌≤◌, Bool, true, false, ◌≡◌, refl, get_or}
 use native.Mathlib.Omega.{arith}
-use Rattle.std.proofs.Common.{add-one, ◌∙◌, drop-cons, get_or-take, length-take-le}
+use Rattle.std.proofs.Common.{add-one, ◌∙◌, drop-cons}
 use mathlib.Core.List.{List, [], ◌∷◌, ◌++◌}
 use Rattle.std.proofs.Math.Path.{sym, ap}
 use Rattle.std.proofs.Math.ListN.{length, drop, length-append, drop_of_length-le}
@@ -112,11 +112,3 @@ module _ (borne codes : List ℕ) where
         (g.laid ∙ ap (λ (p : Played (List ℕ) Attached). sets pages₀ 0 p.result) e, ap (λ (p : Played (List ℕ) Attached). p.line) e),
         omega arith,
       )
-
--- the first codes of a list: one of them, and past the last
-module _ (list : List ℕ) (n : ℕ) (room : n ≤ length list) where
-  pub among_first : (i : ℕ) → i < n → (i < length (take n list)) × (get_or list i 0 ≡ get_or (take n list) i 0)
-  among_first i h = ((let e = length-take-le n list room in omega arith), sym (get_or-take n list i 0 h))
-
-  pub past_first : (i : ℕ) → n ≤ i → length (take n list) ≤ i
-  past_first i h = let e = length-take-le n list room in omega arith

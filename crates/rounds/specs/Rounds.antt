@@ -12,7 +12,7 @@ use Rattle.line.specs.declared.Refusal.{Refusal}
 use Rattle.line.specs.declared.Refusal.TheVariants.{OutOfRange, WrongSize}
 use Rattle.search.specs.Host.{Host, done, Played, played, more, play, Listed, search_host}
 use Rattle.search.specs.Counts.{play_bind}
-use Rattle.search.specs.Search.{Searched, number_in, complete_or4, wire, Search, outcome, from_played, search_by, search_of}
+use Rattle.search.specs.Search.{Searched, complete, refused, complete_or4, wire, Search, outcome, from_played, search_by, search_of}
 use Rattle.rounds.specs.Borne.{only_borne, pages_asked}
 use Rattle.rounds.specs.Host.{Rounded, rounded, read_pages, then_pages, round_host}
 use Rattle.rounds.specs.Round.{Round, round, round_verdict, from_round, round_by, round_of}
@@ -87,16 +87,16 @@ pub search_well : (list : List ℕ) (l : Attached) (s : Search) → Ok tt ≡ ve
 unfolding search_of
 search_well list l s e k = k ∙ ap (λ (v : Result (Unit {0}) Refusal). search_by v list l) (sym e)
 
--- its list is complete where its number is 0, and only there
-complete_at : (b : Bool) → number_in (complete_or4 b) ≡ 0 → b ≡ true
+-- what it answers says whether its list is complete
+complete_at : (b : Bool) → complete ≡ complete_or4 b → b ≡ true
 unfolding pick
 complete_at true e = refl
-complete_at false e = let z : ⊥ = omega arith in absurd z
+complete_at false e = cc
 
-few_at : (b : Bool) → (number_in (complete_or4 b) ≡ 0 → ⊥) → b ≡ false
+few_at : (b : Bool) (n : ℕ) → refused n ≡ complete_or4 b → b ≡ false
 unfolding pick
-few_at true n = absurd (n refl)
-few_at false n = refl
+few_at true n e = cc
+few_at false n e = refl
 
 module _ (list : List ℕ) (l : Attached) (answer : Searched) (listed : ℕ) (after : List ℕ) (resets slots : ℕ) (l₁ : Attached)
     (e : outcome answer listed after resets slots l₁ ≡ from_played list (play wire (search_host (length list)) l)) where
@@ -124,9 +124,9 @@ module _ (list : List ℕ) (l : Attached) (answer : Searched) (listed : ℕ) (af
   pub slots_few : slots ≤ 3200
   slots_few = let k = ap (λ (s : Search). s.slots) e in let m = (search_spends (length list)).slots wire l in omega arith
 
-  -- the number of what the search answers
-  number_is : (n : ℕ) → n ≡ number_in answer → number_in (complete_or4 p.result.complete) ≡ n
-  number_is n f = sym (f ∙ ap (λ (s : Search). number_in s.answer) e)
+  -- what the search answers
+  answer_is : answer ≡ complete_or4 p.result.complete
+  answer_is = ap (λ (s : Search). s.answer) e
 
   module _ (pages borne : List ℕ) where
     -- the round, by how the search ended
@@ -134,12 +134,12 @@ module _ (list : List ℕ) (l : Attached) (answer : Searched) (listed : ℕ) (af
     went = play_bind wire (search_host (length list)) (then_pages borne) l
 
     -- 4: no page is read
-    pub round_stops : (n : ℕ) → n ≡ number_in answer → (n ≡ 0 → ⊥)
+    pub round_stops : (n : ℕ) → answer ≡ refused n
         → round (outcome answer listed after resets slots l₁) pages ≡ from_round list pages (play wire (round_host (length list) borne) l)
     unfolding play
-    round_stops n f g =
+    round_stops n f =
         let h : play wire (round_host (length list) borne) l ≡ played (rounded p.result []) p.line p.resets p.slots
-        = went ∙ ap (λ (k : Host Rounded). more p.resets p.slots (play wire k p.line)) (pick_false p.result.complete _ _ (few_at p.result.complete (λ z. g (sym (number_is n f) ∙ z))))
+        = went ∙ ap (λ (k : Host Rounded). more p.resets p.slots (play wire k p.line)) (pick_false p.result.complete _ _ (few_at p.result.complete n (sym f ∙ answer_is)))
         ∙ (λ j. played (rounded p.result []) p.line (add-zero p.resets j) (add-zero p.slots j)) in
         ap (λ (s : Search). round s pages) e ∙ ap (from_round list pages) (sym h)
 
@@ -155,13 +155,13 @@ module _ (list : List ℕ) (l : Attached) (answer : Searched) (listed : ℕ) (af
       count_is : count ≡ length (only_borne borne codes)
       count_is = counted ∙ ap (λ (cs : List ℕ). length (only_borne borne cs)) codes_are
 
-      pub round_reads_on : (n : ℕ) → n ≡ number_in answer → n ≡ 0
+      pub round_reads_on : answer ≡ complete
           → round (outcome answer listed after (resets + count) (slots + 352 * count) l₂) pages₂ ≡ from_round list pages (play wire (round_host (length list) borne) l)
       unfolding play
-      round_reads_on n f g =
+      round_reads_on f =
           let s = pages_spend (only_borne borne codes) [] in
           let h : play wire (round_host (length list) borne) l ≡ played (rounded p.result q.result) q.line (p.resets + count) (p.slots + 352 * count)
-          = went ∙ ap (λ (k : Host Rounded). more p.resets p.slots (play wire k p.line)) (pick_true p.result.complete _ _ (complete_at p.result.complete (number_is n f ∙ g)))
+          = went ∙ ap (λ (k : Host Rounded). more p.resets p.slots (play wire k p.line)) (pick_true p.result.complete _ _ (complete_at p.result.complete (sym f ∙ answer_is)))
           ∙ ap (more p.resets p.slots) (play_bind wire (read_pages (only_borne borne codes) []) (λ (bytes : List ℕ). done (rounded p.result bytes)) p.line)
           ∙ (λ j. played (rounded p.result q.result) q.line
           (p.resets + (add-zero q.resets ∙ s.resets wire p.line ∙ sym count_is) j)

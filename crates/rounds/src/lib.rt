@@ -15,7 +15,7 @@ ghost use Rattle.rounds.specs.Round.{round, borne_on, round_verdict, from_round,
 
 pub use borne::pages_asked;
 use line::{Refusal, Table};
-use search::{Found, Resets, SearchAnswer, Slots};
+use search::{Fault, Found, Resets, Slots};
 
 // The bytes of a page.
 pub const PAGE_SIZE: usize = 32;
@@ -30,16 +30,11 @@ pub const PAGES_MOST: usize = 512;
 fn how_stands(t: Table, pages: &[u8], ms: &[u8], ss: &[u8]) -> Result<(), Refusal>
     ensures { result ≡ round_verdict pages.now (attached t.n t.chips ms.now ss.now) }
 {
-    let stands = line::how_stands(t, ms, ss);
-    let asked = borne::pages_asked(t);
-    match stands {
-        Ok(()) => {
-            if pages.len() == asked {
-                return Ok(());
-            }
-            Err(Refusal::WrongSize)
-        }
-        Err(r) => Err(r),
+    line::how_stands(t, ms, ss)?;
+    if pages.len() == borne::pages_asked(t) {
+        Ok(())
+    } else {
+        Err(Refusal::WrongSize)
     }
 }
 
@@ -50,23 +45,26 @@ fn go_round(t: Table, list: &mut [u64], pages: &mut [u8], ms: &mut [u8], ss: &mu
         ≡ from_round list.old pages.old (play wire (round_host (length list.old) (borne_on (attached t.n t.chips ms.old ss.old))) (attached t.n t.chips ms.old ss.old)) }
 {
     let found = search::search_line(t, list, ms, ss);
-    let answer = found.answer;
-    let resets = found.resets;
-    let slots = found.slots;
-    let table = found.table;
-    let number = search::number_of(answer);
-    if number == 0 {
-        let read = host::read_pages(t, table, list, found.listed, pages, ms, ss);
-        let after = read.table;
-        return Found {
-            answer: answer,
-            listed: found.listed,
-            resets: Resets(resets.0 + read.pages),
-            slots: Slots(slots.0 + PAGE_SLOTS * read.pages),
-            table: after,
-        };
+    match found.answer {
+        Ok(()) => {
+            let mut table = found.table;
+            let read = host::read_pages(
+                &t.chips[..t.n],
+                &mut table,
+                &list[..found.listed],
+                pages,
+                ms,
+                ss,
+            );
+            Found {
+                resets: Resets(found.resets.0 + read),
+                slots: Slots(found.slots.0 + PAGE_SLOTS * read),
+                table,
+                ..found
+            }
+        }
+        Err(_) => found,
     }
-    found
 }
 
 // The round over a table, its buffers, a lent list and a lent page buffer: refusals 8 and 5 without an event, then 4, under which no page is
@@ -81,11 +79,10 @@ pub fn make_round(
     ensures { round (outcome (searched result.answer) result.listed list.new result.resets.0 result.slots.0 (attached result.table.n result.table.chips ms.new ss.new)) pages.new
         ≡ round_of list.old pages.old (attached t.n t.chips ms.old ss.old) }
 {
-    let stands = how_stands(t, pages, ms, ss);
-    match stands {
+    match how_stands(t, pages, ms, ss) {
         Ok(()) => go_round(t, list, pages, ms, ss),
         Err(r) => Found {
-            answer: SearchAnswer::Refused(r),
+            answer: Err(Fault::from(r)),
             listed: 0,
             resets: Resets(0),
             slots: Slots(0),

@@ -1,6 +1,6 @@
 -- Document 01, "Search": "The host knows the line by the answers to its events alone: the search's list, counts and the line
 -- it leaves are those of one run of events, each settled by the answers before it". A host is a tree of events and answers.
-use Rattle.std.specs.Prelude.{ℕ, zero, suc, ◌+◌, ◌-◌, ◌%◌, ◌^◌, Bool, true, false, List, [], ◌∷◌, ◌++◌, eqb, ltb, leb}
+use Rattle.std.specs.Prelude.{ℕ, zero, suc, ◌+◌, ◌-◌, ◌%◌, ◌^◌, Bool, true, false, List, [], ◌∷◌, ◌++◌, eqb, ltb}
 use Rattle.base.specs.Pick.{pick}
 use Rattle.base.specs.Bits.{bit_of, both}
 use Rattle.line.specs.Event.{Answered, bit, refused}
@@ -120,10 +120,6 @@ write (suc n) i byte = ask (slot_event (bit_of byte i)) λ x. write n (i + 1) by
 -- the path below a parting, and a 1 there: what the next pass takes where the codes part
 unfoldable pub up_to : ℕ → ℕ → ℕ
 up_to place path = path % 2 ^ place + 2 ^ place
-
--- what the next pass wants by the last parting, one more than its place; 0 where there is none, or no place of a code
-unfoldable pub wanted : ℕ → ℕ → ℕ
-wanted last path = pick (eqb last 0) 0 (pick (leb last 64) (up_to (last - 1) path) 0)
 
 -- the codes listed, and whether there are no more
 pub record Listed : Type 0 where

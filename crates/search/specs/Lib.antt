@@ -1,5 +1,6 @@
 pub mod Host
 pub mod Search
+pub mod Branch
 pub mod Counts
 pub mod Pass
 pub mod Passes

@@ -1,11 +1,12 @@
 -- Laws: the loop of a pass and the loop of a byte play their hosts.
-use Rattle.std.specs.Prelude.{ℕ, suc, ◌+◌, ◌-◌, ◌*◌, ◌%◌, ◌<◌, ◌≤◌, ◌^◌, Bool, true, false, ◌≡◌, refl}
-use Rattle.std.proofs.Common.{arith, one-mul, mod-lt, add-one, shl_exact, pow_mono, pow_pos, sym, ◌∙◌, ap, ne_eqb, le-leb}
+use Rattle.std.specs.Prelude.{ℕ, suc, ◌+◌, ◌-◌, ◌*◌, ◌%◌, ◌<◌, ◌≤◌, ◌^◌, Bool, true, false, None, ◌≡◌}
+use Rattle.std.proofs.Common.{arith, one-mul, mod-lt, add-one, shl_exact, pow_mono, pow_pos, sym, ◌∙◌, ap}
 use Rattle.std.proofs.Math.Nat.{two-pow-succ}
-use Rattle.base.specs.Pick.{pick, pick_true, pick_false}
+use Rattle.base.specs.Pick.{pick}
 use Rattle.base.specs.Bits.{bit_of, both}
 use Rattle.line.specs.Events.{slot_event}
-use Rattle.search.specs.Host.{Played, more, resets_of, slots_of, heard, play, under_way, begun, pass, write, turn, mark, put, up_to, wanted}
+use Rattle.search.specs.Host.{Played, played, End, more, resets_of, slots_of, heard, play, under_way, begun, pass, write, turn, mark, put, up_to}
+use Rattle.search.specs.Branch.{ended}
 use Rattle.search.specs.Counts.{more_more, more_none, one_slot}
 use Rattle.line.specs.Attached.{Attached, says_of, leaves_of}
 use Rattle.search.specs.Search.{wire, played_pass, played_write}
@@ -22,16 +23,15 @@ pub pow_next : (k : ℕ) → 2 ^ (k + 1) ≡ 2 ^ k + 2 ^ k
 pow_next k = ap (λ (n : ℕ). 2 ^ n) (add-one k) ∙ two-pow-succ k
 
 -- where the loop of a pass stands after k places
-pub record Going (want : ℕ) (l₀ l : Attached) (k path last slots : ℕ) (whole : Bool) : Type 0 where
+pub record Going (want : ℕ) (l₀ l : Attached) (k path last slots : ℕ) : Type 0 where
   pub left : more 0 slots (play wire (pass (64 - k) (under_way k want path last)) l) ≡ play wire (pass 64 (begun want)) l₀
   pub place : k ≤ 64
   pub low : path < 2 ^ k
   pub mark_low : last ≤ k
   pub count : slots ≡ 3 * k
-  pub all : whole ≡ true
 
-pub going_start : (want : ℕ) (l : Attached) → Going want l l 0 0 0 0 true
-going_start want l = record { left = sym (more_none (play wire (pass 64 (begun want)) l)); place = omega arith; low = omega arith; mark_low = omega arith; count = omega arith; all = refl }
+pub going_start : (want : ℕ) (l : Attached) → Going want l l 0 0 0 0
+going_start want l = record { left = sym (more_none (play wire (pass 64 (begun want)) l)); place = omega arith; low = omega arith; mark_low = omega arith; count = omega arith }
 
 thrice : {A L : Type 0} (d : Bool) (p : Played A L) → more 0 1 (more 0 1 (more (resets_of (slot_event d)) (slots_of (slot_event d)) p)) ≡ more 0 3 p
 thrice d p = ap (λ q. more 0 1 (more 0 1 q)) (one_slot d p) ∙ ap (more 0 1) (more_more 0 1 0 1 p) ∙ more_more 0 1 0 2 p
@@ -62,43 +62,43 @@ mark_le false true t k last h = omega arith
 mark_le false false true k last h = omega arith
 mark_le false false false k last h = omega arith
 
-pub going_next : (want : ℕ) (l₀ l la lb lw : Attached) (k path last slots : ℕ) (whole a b none t d : Bool) (p m : ℕ)
-    → Going want l₀ l k path last slots whole → k < 64
-    → a ≡ hears true l → la ≡ slot_leaves true l → b ≡ hears true la → lb ≡ slot_leaves true la → none ≡ both a b → none ≡ false
+pub going_next : (want : ℕ) (l₀ l la lb lw : Attached) (k path last slots : ℕ) (a b t d : Bool) (p m : ℕ)
+    → Going want l₀ l k path last slots → k < 64
+    → a ≡ hears true l → la ≡ slot_leaves true l → b ≡ hears true la → lb ≡ slot_leaves true la → both a b ≡ false
     → t ≡ bit_of want k → d ≡ turn a b t → lw ≡ slot_leaves d lb → p ≡ put d k path → m ≡ mark a b t k last
-    → Going want l₀ lw (k + 1) p m (slots + 3) whole
-going_next want l₀ l la lb lw k path last slots whole a b none t d p m g h ea la-is eb lb-is en nt et ed lw-is ep em =
+    → Going want l₀ lw (k + 1) p m (slots + 2 + 1)
+going_next want l₀ l la lb lw k path last slots a b t d p m g h ea la-is eb lb-is nt et ed lw-is ep em =
     let n : 64 - k ≡ suc (64 - (k + 1)) = omega arith in
     let dt : d ≡ turn a b (bit_of want k) = rw (← et) ed in
     let mt : m ≡ mark a b (bit_of want k) k last = rw (← et) em in
     let r = play wire (pass (64 - (k + 1)) (under_way (k + 1) want p m)) lw in
-    let e : play wire (pass (64 - k) (under_way k want path last)) l ≡ more 0 3 r = rw (n, ep, mt) (three (64 - (k + 1)) k want path last l la lb lw a b d ea la-is eb lb-is (sym en ∙ nt) dt lw-is) in
+    let e : play wire (pass (64 - k) (under_way k want path last)) l ≡ more 0 3 r = rw (n, ep, mt) (three (64 - (k + 1)) k want path last l la lb lw a b d ea la-is eb lb-is nt dt lw-is) in
+    let s : slots + 3 ≡ slots + 2 + 1 = omega arith in
     record {
-      left = sym (more_more 0 slots 0 3 r) ∙ ap (more 0 slots) (sym e) ∙ g.left;
+      left = sym (more_more 0 slots 0 3 r ∙ ap (λ (z : ℕ). more 0 z r) s) ∙ ap (more 0 slots) (sym e) ∙ g.left;
       place = omega arith;
       low = rw ep (put_low d k path g.low);
       mark_low = rw em (mark_le a b t k last g.mark_low);
       count = let c = g.count in omega arith;
-      all = g.all;
     }
 
-pub going_up : (want : ℕ) (l₀ l la lb : Attached) (k path last slots : ℕ) (whole a b none : Bool)
-    → Going want l₀ l k path last slots whole → k < 64
-    → a ≡ hears true l → la ≡ slot_leaves true l → b ≡ hears true la → lb ≡ slot_leaves true la → none ≡ both a b → none ≡ true
-    → played_pass lb path last false (slots + 2) ≡ play wire (pass 64 (begun want)) l₀
-going_up want l₀ l la lb k path last slots whole a b none g h ea la-is eb lb-is en nt =
+pub going_up : (want : ℕ) (l₀ l la lb : Attached) (k path last slots : ℕ) (a b : Bool)
+    → Going want l₀ l k path last slots → k < 64
+    → a ≡ hears true l → la ≡ slot_leaves true l → b ≡ hears true la → lb ≡ slot_leaves true la → both a b ≡ true
+    → played (ended None (play wire (pass 64 (begun want)) l₀).result) lb 0 (slots + 2) ≡ play wire (pass 64 (begun want)) l₀
+going_up want l₀ l la lb k path last slots a b g h ea la-is eb lb-is nt =
     let n : 64 - k ≡ suc (64 - (k + 1)) = omega arith in
-    let e : play wire (pass (64 - k) (under_way k want path last)) l ≡ played_pass lb path last false 2 = rw n (two (64 - (k + 1)) k want path last l la lb a b ea la-is eb lb-is (sym en ∙ nt)) in
-    ap (more 0 slots) (sym e) ∙ g.left
+    let e : play wire (pass (64 - k) (under_way k want path last)) l ≡ played_pass lb path last false 2 = rw n (two (64 - (k + 1)) k want path last l la lb a b ea la-is eb lb-is nt) in
+    let f : played_pass lb path last false (slots + 2) ≡ play wire (pass 64 (begun want)) l₀ = ap (more 0 slots) (sym e) ∙ g.left in
+    ap (λ (q : Played End Attached). played_pass lb q.result.path q.result.last false (slots + 2)) (sym f) ∙ f
 
-pub going_end : (want : ℕ) (l₀ l : Attached) (k path last slots : ℕ) (whole : Bool)
-    → Going want l₀ l k path last slots whole → 64 ≤ k → played_pass l path last whole slots ≡ play wire (pass 64 (begun want)) l₀
+pub going_end : (want : ℕ) (l₀ l : Attached) (k path last slots : ℕ)
+    → Going want l₀ l k path last slots → 64 ≤ k → played_pass l path last true slots ≡ play wire (pass 64 (begun want)) l₀
 unfolding play pass
-going_end want l₀ l k path last slots whole g h =
+going_end want l₀ l k path last slots g h =
     let q : k ≡ 64 = let p = g.place in omega arith in
     let z : slots + 0 ≡ slots = omega arith in
-    ap (λ (b : Bool). played_pass l path last b slots) g.all
-    ∙ ap (λ (s : ℕ). played_pass l path last true s) (sym z)
+    ap (λ (s : ℕ). played_pass l path last true s) (sym z)
     ∙ (rw q at g.left)
 
 -- a bit put at its place
@@ -133,23 +133,19 @@ writing_end byte l₀ l i g h =
     (rw q at g.left)
 
 -- what the next pass wants
-pub up_code : (last path : ℕ) → 0 < last → last ≤ 64 → path % (1 * 2 ^ (last - 1) % 18446744073709551616) + 1 * 2 ^ (last - 1) % 18446744073709551616 ≡ up_to (last - 1) path
+pub up_code : (k path : ℕ) → k < 64 → path % (1 * 2 ^ k % 18446744073709551616) + 1 * 2 ^ k % 18446744073709551616 ≡ up_to k path
 unfolding up_to
-up_code last path h l = rw (shl_one (last - 1) (omega arith))
+up_code k path h = rw (shl_one k h)
 
 -- the path below a parting and a 1 there have no bit past the parting
 pub up_lt : (k path : ℕ) → up_to k path < 2 ^ (k + 1)
 unfolding up_to
 up_lt k path = omega (arith, mod-lt path (pow_pos k), pow_next k)
 
-pub up_fits : (last path : ℕ) → 0 < last → last ≤ 64 → path % (1 * 2 ^ (last - 1) % 18446744073709551616) + 1 * 2 ^ (last - 1) % 18446744073709551616 < 18446744073709551616
-up_fits last path h l =
-    let m : 2 ^ (last - 1 + 1) ≤ 2 ^ 64 = pow_mono {i = last - 1 + 1} {j = 64} (omega arith) in
-    rw (up_code last path h l) (omega (arith, up_lt (last - 1) path))
+pub up_fits : (k path : ℕ) → k < 64 → path % (1 * 2 ^ k % 18446744073709551616) + 1 * 2 ^ k % 18446744073709551616 < 18446744073709551616
+up_fits k path h =
+    let m : 2 ^ (k + 1) ≤ 2 ^ 64 = pow_mono {i = k + 1} {j = 64} (omega arith) in
+    rw (up_code k path h) (omega (arith, up_lt k path))
 
-pub wanted_up : (last path : ℕ) → (last ≡ 0 → ⊥) → last ≤ 64 → wanted last path ≡ up_to (last - 1) path
-unfolding wanted
-wanted_up last path h l = pick_false _ _ _ (ne_eqb last 0 h) ∙ pick_true _ _ _ (le-leb last 64 l)
-
-pub pow_some : (last : ℕ) → 0 < last → last ≤ 64 → 0 < 1 * 2 ^ (last - 1) % 18446744073709551616
-pow_some last h l = rw (shl_one (last - 1) (omega arith)) (pow_pos (last - 1))
+pub pow_some : (k : ℕ) → k < 64 → 0 < 1 * 2 ^ k % 18446744073709551616
+pow_some k h = rw (shl_one k h) (pow_pos k)

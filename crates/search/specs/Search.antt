@@ -1,22 +1,25 @@
 -- Document 01, "Search" and "Refusal numbers": the search over a table, its buffers and a lent list, for every input.
 use Rattle.std.specs.Prelude.{ℕ, Bool, List, ◌++◌, length, drop, Result, Ok, Err}
-use Rattle.line.specs.declared.Refusal.{Refusal}
 use Rattle.base.specs.Pick.{pick}
 use Rattle.line.specs.Attached.{Attached, says_of, leaves_of, verdict_at}
 use Rattle.line.specs.Event.{number_of}
+use Rattle.line.specs.declared.Refusal.{Refusal}
 use Rattle.search.specs.Host.{Wire, Played, played, End, end, Listed, play, search_host}
-use Rattle.search.specs.declared.SearchAnswer.{SearchAnswer}
-use Rattle.search.specs.declared.SearchAnswer.TheVariants.{Complete, TooFewPlaces, Refused}
+use Rattle.search.specs.declared.Fault.{Fault}
+use Rattle.search.specs.declared.Fault.TheVariants.{TooFewPlaces, Refused}
 
 -- what a search answers: that the list is complete, or document 01's refusal number
 pub data Searched : Type 0 where
   complete : Searched
   refused : ℕ → Searched
 
-abbrev pub searched : SearchAnswer → Searched
-searched Complete = complete
-searched TooFewPlaces = refused 4
-searched (Refused r) = refused (number_of r)
+abbrev pub fault_number : Fault → ℕ
+fault_number TooFewPlaces = 4
+fault_number (Refused r) = number_of r
+
+abbrev pub searched : Result (Unit {0}) Fault → Searched
+searched (Ok x) = complete
+searched (Err f) = refused (fault_number f)
 
 -- the same as one number: 0 where the list is complete, else the refusal's
 abbrev pub number_in : Searched → ℕ

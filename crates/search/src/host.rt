@@ -2,27 +2,25 @@
 ghost use Rattle.std.specs.Prelude.{◌≡◌, ◌≤◌, ◌<◌, ◌^◌};
 ghost use Rattle.line.specs.Event.{answered};
 ghost use Rattle.line.specs.Events.{slot_event, reset_event};
-ghost use Rattle.search.specs.Host.{play, begun, pass, write, turn, mark, put, wanted, heard};
+ghost use Rattle.search.specs.Host.{played, play, begun, pass, write, turn, mark, put, up_to, heard};
 ghost use Rattle.line.specs.Attached.{attached, says_of, leaves_of};
-ghost use Rattle.search.specs.Search.{wire, played_pass, played_write};
+ghost use Rattle.search.specs.Search.{wire, played_write};
+ghost use Rattle.search.specs.Branch.{marked, marked_on, ended};
 
 use crate::Slots;
 use line::{Event, Refusal, Table};
 
-// What the host hears of an event, and the table that it leaves.
-#[derive(Clone, Copy)]
-pub struct Heard {
-    pub table: Table,
-    pub value: bool,
+// The branch that a pass took to its end: the code, and the last place where the codes parted and 0 was taken.
+#[derive(Clone, Copy, PartialEq, Eq)]
+pub struct Branch {
+    pub code: u64,
+    pub parting: Option<u8>,
 }
 
-// How a pass ended.
-#[derive(Clone, Copy)]
+// How a pass ended: the branch that it took, where a chip answered at every place, and the slots put on the line.
+#[derive(Clone, Copy, PartialEq, Eq)]
 pub struct Pass {
-    pub table: Table,
-    pub path: u64,
-    pub last: u8,
-    pub whole: bool,
+    pub branch: Option<Branch>,
     pub slots: Slots,
 }
 
@@ -30,73 +28,48 @@ pub struct Pass {
 pub fn bit_heard(a: Result<bool, Refusal>) -> bool
     ensures { result ≡ heard (answered a) }
 {
-    match a {
-        Ok(b) => b,
-        Err(_) => true,
-    }
+    a.unwrap_or(true)
 }
 
 // An event put on the line.
-fn put_event(t: Table, e: Event, ms: &mut [u8], ss: &mut [u8]) -> Heard
-    ensures { (result.value ≡ heard (says_of e (attached t.n t.chips ms.old ss.old)))
-        × (attached result.table.n result.table.chips ms.new ss.new ≡ leaves_of e (attached t.n t.chips ms.old ss.old)) }
+fn put_event(t: &mut Table, e: Event, ms: &mut [u8], ss: &mut [u8]) -> bool
+    ensures { (result ≡ heard (says_of e (attached t.old.n t.old.chips ms.old ss.old)))
+        × (attached t.new.n t.new.chips ms.new ss.new ≡ leaves_of e (attached t.old.n t.old.chips ms.old ss.old)) }
 {
-    let h = line::take_event(t, e, ms, ss);
-    let answer = h.answer;
-    let table = h.table;
-    let value = bit_heard(answer);
-    Heard {
-        table: table,
-        value: value,
-    }
+    let happened = line::take_event(*t, e, ms, ss);
+    *t = happened.table;
+    bit_heard(happened.answer)
 }
 
 // A slot.
-pub fn slot(t: Table, b: bool, ms: &mut [u8], ss: &mut [u8]) -> Heard
-    ensures { (result.value ≡ heard (says_of (slot_event b) (attached t.n t.chips ms.old ss.old)))
-        × (attached result.table.n result.table.chips ms.new ss.new ≡ leaves_of (slot_event b) (attached t.n t.chips ms.old ss.old)) }
+pub fn slot(t: &mut Table, b: bool, ms: &mut [u8], ss: &mut [u8]) -> bool
+    ensures { (result ≡ heard (says_of (slot_event b) (attached t.old.n t.old.chips ms.old ss.old)))
+        × (attached t.new.n t.new.chips ms.new ss.new ≡ leaves_of (slot_event b) (attached t.old.n t.old.chips ms.old ss.old)) }
 {
-    let e = line::events::slot(b);
-    put_event(t, e, ms, ss)
+    put_event(t, line::events::slot(b), ms, ss)
 }
 
 // A reset.
-pub fn reset(t: Table, ms: &mut [u8], ss: &mut [u8]) -> Heard
-    ensures { (result.value ≡ heard (says_of reset_event (attached t.n t.chips ms.old ss.old)))
-        × (attached result.table.n result.table.chips ms.new ss.new ≡ leaves_of reset_event (attached t.n t.chips ms.old ss.old)) }
+pub fn reset(t: &mut Table, ms: &mut [u8], ss: &mut [u8]) -> bool
+    ensures { (result ≡ heard (says_of reset_event (attached t.old.n t.old.chips ms.old ss.old)))
+        × (attached t.new.n t.new.chips ms.new ss.new ≡ leaves_of reset_event (attached t.old.n t.old.chips ms.old ss.old)) }
 {
-    let e = line::events::reset();
-    put_event(t, e, ms, ss)
+    put_event(t, line::events::reset(), ms, ss)
 }
 
-// The bit to write after a bit and its complement were read.
+// The bit to write after a bit and its complement were read; where both are 0 the codes part, and t is taken.
 fn turn_of(a: bool, b: bool, t: bool) -> bool
     ensures { result ≡ turn a b t }
 {
-    if a {
-        return true;
-    }
-    if b {
-        return false;
-    }
-    t
+    if a || b { a } else { t }
 }
 
-// The last parting at which 0 was taken, one more than its place.
-fn mark_of(a: bool, b: bool, t: bool, k: u8, last: u8) -> u8
+// The last parting at which 0 was taken.
+fn parting_of(a: bool, b: bool, t: bool, k: u8, last: Option<u8>) -> Option<u8>
     requires { k < 64 }
-    ensures { result ≡ mark a b t k last }
+    ensures { marked result ≡ mark a b t k (marked last) }
 {
-    if a {
-        return last;
-    }
-    if b {
-        return last;
-    }
-    if t {
-        return last;
-    }
-    k + 1
+    if a || b || t { last } else { Some(k) }
 }
 
 // The path with a bit at a place.
@@ -104,81 +77,57 @@ fn put_bit(d: bool, k: u8, path: u64) -> u64
     requires { (k < 64) × (path < 2 ^ k) }
     ensures { result ≡ put d k path }
 {
-    if d {
-        return path + (1 << (k as u64));
-    }
-    path
+    if d { path + (1 << (k as u64)) } else { path }
 }
 
 // The 64 places of a pass: two reads and one write each, left as soon as no chip answers.
-pub fn one_pass(t: Table, want: u64, ms: &mut [u8], ss: &mut [u8]) -> Pass
-    ensures slots_after { played_pass (attached result.table.n result.table.chips ms.new ss.new) result.path result.last result.whole result.slots.0
-        ≡ play wire (pass 64 (begun want)) (attached t.n t.chips ms.old ss.old) }
-    ensures last_bound { (result.last ≤ 64) × (result.slots.0 ≤ 192) }
+pub fn one_pass(t: &mut Table, want: u64, ms: &mut [u8], ss: &mut [u8]) -> Pass
+    ensures slots_after { played (ended result.branch (play wire (pass 64 (begun want)) (attached t.old.n t.old.chips ms.old ss.old)).result)
+        (attached t.new.n t.new.chips ms.new ss.new) 0 result.slots.0
+        ≡ play wire (pass 64 (begun want)) (attached t.old.n t.old.chips ms.old ss.old) }
+    ensures last_bound { (marked_on result.branch ≤ 64) × (result.slots.0 ≤ 192) }
 {
-    let mut table = t;
-    let mut k: u8 = 0;
-    let mut path: u64 = 0;
-    let mut last: u8 = 0;
+    let mut code: u64 = 0;
+    let mut parting = None;
     let mut slots: u64 = 0;
-    let mut whole = true;
-    'bits: while k < 64 {
-        let a = slot(table, true, ms, ss);
-        let after = a.table;
-        let b = slot(after, true, ms, ss);
-        let then = b.table;
-        let none = base::are_both(a.value, b.value);
-        if none {
-            table = then;
-            slots = slots + 2;
-            whole = false;
-            break 'bits;
+    for k in 0..64 {
+        let a = slot(t, true, ms, ss);
+        let b = slot(t, true, ms, ss);
+        slots += 2;
+        if a && b {
+            return Pass {
+                branch: None,
+                slots: Slots(slots),
+            };
         }
         let wanted = base::bit_of(want, k);
-        let d = turn_of(a.value, b.value, wanted);
-        let w = slot(then, d, ms, ss);
-        table = w.table;
-        slots = slots + 3;
-        path = put_bit(d, k, path);
-        last = mark_of(a.value, b.value, wanted, k, last);
-        k = k + 1;
+        let d = turn_of(a, b, wanted);
+        slot(t, d, ms, ss);
+        slots += 1;
+        code = put_bit(d, k, code);
+        parting = parting_of(a, b, wanted, k, parting);
     }
     Pass {
-        table: table,
-        path: path,
-        last: last,
-        whole: whole,
+        branch: Some(Branch { code, parting }),
         slots: Slots(slots),
     }
 }
 
 // The eight bits of a byte, least significant first.
-pub fn write_byte(t: Table, byte: u8, ms: &mut [u8], ss: &mut [u8]) -> Table
-    ensures { played_write (attached result.n result.chips ms.new ss.new) 8
-        ≡ play wire (write 8 0 byte) (attached t.n t.chips ms.old ss.old) }
+pub fn write_byte(t: &mut Table, byte: u8, ms: &mut [u8], ss: &mut [u8])
+    ensures { played_write (attached t.new.n t.new.chips ms.new ss.new) 8
+        ≡ play wire (write 8 0 byte) (attached t.old.n t.old.chips ms.old ss.old) }
 {
-    let mut table = t;
-    let mut i: u8 = 0;
-    while i < 8 {
-        let b = base::bit_of(byte as u64, i);
-        let h = slot(table, b, ms, ss);
-        table = h.table;
-        i = i + 1;
+    for i in 0..8 {
+        slot(t, base::bit_of(byte as u64, i), ms, ss);
     }
-    table
 }
 
-// What the next pass wants by the last parting, one more than its place: the path below it, and a 1 there; 0 where there
-// is none, or no place of a code.
-pub fn wants(last: u8, path: u64) -> u64
-    ensures { result ≡ wanted last path }
+// What the next pass wants by the last parting: the path below it, and a 1 there.
+pub fn wants(parting: u8, path: u64) -> u64
+    requires { parting < 64 }
+    ensures { result ≡ up_to parting path }
 {
-    if last == 0 {
-        return 0;
-    }
-    if last <= 64 {
-        let one: u64 = 1 << ((last - 1) as u64);
-        return path % one + one;
-    }
-    0
+    let one: u64 = 1 << (parting as u64);
+    path % one + one
 }

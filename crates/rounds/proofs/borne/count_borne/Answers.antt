@@ -1,16 +1,27 @@
-use borrow.Author.Tests.{not-true, not-false}
-use native.Mathlib.Omega.{arith}
-use Rattle.rounds.specs.BorneLaw.{counts_one, counts_none, counts_all}
+use Rattle.std.proofs.Common.{arith, sym, ◌∙◌}
+use Rattle.rounds.specs.BorneLaw.{counts_last, counts_shared, counts_other, counts_all}
 use Rattle.rounds.proofs.borne.count_borne.Goals as goal
-
-pub loop-i-init : goal.loop-i-init
-loop-i-init c = (c.requires, (omega arith), omega arith, omega arith, omega arith)
-
-pub loop-i-preserved-then-not-last : goal.loop-i-preserved-then-not-last
-loop-i-preserved-then-not-last c = let l = c.loop-i in (l.invariant.0, l.invariant.1, omega (arith, l.invariant.2), omega (arith, c.loop-i-test.true), counts_none _ _ l.i l.codes c.loop-i-test.true (omega (arith, l.invariant.0, l.invariant.1)) _ _ _ c.is_ds28ec20-kind.ensures c.is_borne_from-later.ensures c.are_both-last.ensures l.invariant.4 (not-true _ c.if-not-last.true-raw))
+use Rattle.rounds.proofs.borne.count_borne.Goals.{then-is_ds28ec20+then-not-is_borne, else-is_ds28ec20, else-is_ds28ec20-via-then-is_ds28ec20+else-not-is_borne, else-is_ds28ec20-via-else-is_ds28ec20}
 
 pub loop-i-preserved : goal.loop-i-preserved
-loop-i-preserved c = let l = c.loop-i in (l.invariant.0, l.invariant.1, omega (arith, l.invariant.2), omega (arith, c.loop-i-test.true), counts_one _ _ l.i l.codes c.loop-i-test.true (omega (arith, l.invariant.0, l.invariant.1)) _ _ _ c.is_ds28ec20-kind.ensures c.is_borne_from-later.ensures c.are_both-last.ensures l.invariant.4 (not-false _ c.if-not-last.false-raw))
+loop-i-preserved c =
+    let l = c.loop-i in
+    let g = l.invariant.counted in
+    let d = c.is_ds28ec20 in
+    elim c.if-is_ds28ec20.branch [
+      | then-is_ds28ec20+then-not-is_borne w ↦ record {
+        few = omega arith;
+        counted = rw w.codes-is (counts_last _ l.i l.codes c.loop-i-test.true g _ w.is_borne.ensures (sym d.ensures ∙ w.if-is_ds28ec20.true) w.if-not-is_borne.true);
+      }
+      | else-is_ds28ec20 w ↦ record {
+        few = omega arith;
+        counted = rw w.codes-is (elim w.else-is_ds28ec20.branch [
+          | else-is_ds28ec20-via-then-is_ds28ec20+else-not-is_borne v ↦
+              counts_shared _ l.i l.codes c.loop-i-test.true g _ v.is_borne.ensures (sym d.ensures ∙ v.if-is_ds28ec20.true) v.if-not-is_borne.false
+          | else-is_ds28ec20-via-else-is_ds28ec20 v ↦ counts_other _ l.i l.codes c.loop-i-test.true g (sym d.ensures ∙ v.if-is_ds28ec20.false)
+        ]);
+      }
+    ]
 
-pub returns : goal.returns
-returns c = let l = c.loop-i in record { value = counts_all _ _ l.i l.codes c.loop-i-test.false (omega (arith, l.invariant.0, l.invariant.1)) l.invariant.4; upper_bound = omega (arith, l.invariant.0, l.invariant.2, l.invariant.3) }
+pub returns-clause-value : goal.returns-clause-value
+returns-clause-value c = let l = c.loop-i in counts_all c.args.chips.now l.i l.codes c.loop-i-test.false l.invariant.counted

@@ -1,12 +1,8 @@
-use Prim.Native.Nat.{◌-◌}
-use lib.ListN.{length}
-use mathlib.Core.Path.{◌≡◌}
 use Rattle.line.specs.Attached.{attached}
 use Rattle.rounds.specs.Reading.{Hearing}
 use Rattle.rounds.proofs.host.read_byte.Given as goal
 
-abbrev pub invariant-loop-i : goal.invariant-loop-i
-invariant-loop-i l = Hearing (attached l.initial.table.n l.initial.table.chips l.initial.ms l.initial.ss) (attached l.table.n l.table.chips l.ms l.ss) l.byte l.i × (length l.ms ≡ length l.initial.ms) × (length l.ss ≡ length l.initial.ss)
-
-abbrev pub decreases-loop-i : goal.decreases-loop-i
-decreases-loop-i l = 8 - l.i
+abbrev pub invariant-loop : goal.invariant-loop
+invariant-loop l = record {
+  hearing : Hearing (attached l.initial.t.n l.initial.t.chips l.initial.ms l.initial.ss) (attached l.t.n l.t.chips l.ms l.ss) l.byte l.counter;
+}

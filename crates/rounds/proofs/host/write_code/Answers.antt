@@ -1,13 +1,15 @@
-use mathlib.Core.Path.{◌∙◌, refl}
+use Rattle.std.proofs.Common.{refl}
 use Rattle.line.specs.Attached.{attached}
 use Rattle.rounds.specs.Reading.{sending_start, sending_next, sending_end}
 use Rattle.rounds.proofs.host.write_code.Goals as goal
 
-pub loop-i-init : goal.loop-i-init
-loop-i-init c = let a = c.args in (sending_start a.code (attached a.t.n a.t.chips a.ms.now a.ss.now), refl, refl)
+pub loop-init : goal.loop-init
+loop-init c = let t = c.args.t.now in record { sending = sending_start c.args.code (attached t.n t.chips c.args.ms.now c.args.ss.now) }
 
-pub loop-i-preserved : goal.loop-i-preserved
-loop-i-preserved c = let s = c.loop-i in let h = c.write_byte-table in (sending_next _ _ _ _ s.rest s.i _ s.invariant.0 c.loop-i-test.true refl h.ensures, h.auto.ms ∙ s.invariant.1, h.auto.ss ∙ s.invariant.2)
+pub loop-preserved : goal.loop-preserved
+loop-preserved c =
+    let s = c.loop in
+    record { sending = sending_next _ _ _ _ s.rest s.counter _ s.invariant.sending c.loop-test.true refl c.write_byte.ensures }
 
 pub returns : goal.returns
-returns c = let s = c.loop-i in sending_end _ _ _ s.rest s.i s.invariant.0 c.loop-i-test.false
+returns c = let s = c.loop in sending_end _ _ _ s.rest s.counter s.invariant.sending c.loop-test.false

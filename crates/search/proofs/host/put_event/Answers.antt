@@ -1,9 +1,9 @@
+use Rattle.std.proofs.Common.{◌∙◌, ap}
 use Rattle.line.specs.Attached.{says_of, leaves_of, left_by}
-use Rattle.search.specs.Host.{heard}
 use Rattle.line.specs.Event.{Outcome}
-use mathlib.Core.Path.{◌∙◌, ap}
+use Rattle.search.specs.Host.{heard}
 use Rattle.search.proofs.host.put_event.Goals as goal
 
 pub returns : goal.returns
 unfolding says_of leaves_of
-returns c = let e = c.take_event-h.ensures in (c.bit_heard-value.ensures ∙ ap (λ (o : Outcome). heard o.answer) e, ap left_by e)
+returns c = let e = c.take_event-happened.ensures in (c.bit_heard.ensures ∙ ap (λ (o : Outcome). heard o.answer) e, ap left_by e)
