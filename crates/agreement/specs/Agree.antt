@@ -16,7 +16,7 @@ use Rattle.card.specs.declared.Refused.{Refused}
 use Rattle.search.specs.Prefix.{search_rest, search-rest}
 use Rattle.line.specs.Attached.{attached}
 use Rattle.search.specs.Search.{searched, Search, outcome as found, search_of}
-use Rattle.search.specs.declared.SearchAnswer.{SearchAnswer}
+use Rattle.search.specs.declared.Fault.{Fault}
 use Rattle.card.specs.Fits.{AtMost, read_fits}
 use Rattle.coincide.specs.Answered.{answered_once}
 use Rattle.coincide.specs.Carded.{carded_once}
@@ -39,7 +39,7 @@ module _ (cs Z : List Chip) where
       )
 
   -- what `search::search_line` leaves of a table, and `lent::search_line` of its chips
-  pub search_agrees : (list ms ss : List ℕ) (a b : SearchAnswer) (n m : ℕ) (x y : List ℕ) (r u s v k : ℕ) (ds ks : List Chip) (is ps js qs : List ℕ)
+  pub search_agrees : (list ms ss : List ℕ) (a b : Result (Unit {0}) Fault) (n m : ℕ) (x y : List ℕ) (r u s v k : ℕ) (ds ks : List Chip) (is ps js qs : List ℕ)
       → found (searched a) n x r s (attached k ds is ps) ≡ search_of list (attached (length cs) (cs ++ Z) ms ss)
       → found (searched b) m y u v (attached (length ks) ks js qs) ≡ search_of list (attached (length cs) cs ms ss)
       → (a ≡ b) × (n ≡ m) × (x ≡ y) × (r ≡ u) × (s ≡ v) × (k ≡ length ks) × (ds ≡ ks ++ Z) × (is ≡ js) × (ps ≡ qs)

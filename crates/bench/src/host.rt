@@ -58,9 +58,7 @@ impl<'a> Bench<'a> {
 
     // A slot read.
     fn read_slot(&mut self) -> bool {
-        let heard = search::slot(self.table, true, self.images, self.pads);
-        self.table = heard.table;
-        heard.value
+        search::slot(&mut self.table, true, self.images, self.pads)
     }
 
     // Eight read slots, and the byte that they make.
@@ -78,7 +76,7 @@ impl<'a> Bench<'a> {
             Action::Rest => {}
             Action::Put(event) => self.put_event(event),
             Action::Write(byte) => {
-                self.table = search::write_byte(self.table, byte, self.images, self.pads);
+                search::write_byte(&mut self.table, byte, self.images, self.pads);
             }
             Action::ReadByte(is_shown) => {
                 let byte = self.read_byte();

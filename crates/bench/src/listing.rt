@@ -1,7 +1,7 @@
 // Cases 2 and 3: what the search lists.
 use crate::host::Bench;
 use crate::{cards, text};
-use search::{Resets, SearchAnswer, Slots};
+use search::Found;
 use std::io::Stdout;
 
 // Writes the codes that a search listed.
@@ -11,19 +11,11 @@ fn say_codes(out: Stdout, list: &[u64], listed: usize) {
     }
 }
 
-// Writes a search's refusal, where it was refused.
-fn say_refusal(out: Stdout, answer: SearchAnswer) {
-    let number = search::number_of(answer);
-    if 0 < number {
-        text::refused(out, number as u64);
-    }
-}
-
 // Writes how many codes a search listed, and what it put on the line.
-fn say_counts(out: Stdout, listed: usize, resets: Resets, slots: Slots) {
-    text::say_count(out, listed as u64, b" codes");
-    text::say_count(out, resets.0, b" resets");
-    text::say_count(out, slots.0, b" slots");
+fn say_counts(out: Stdout, found: Found) {
+    text::say_count(out, found.listed as u64, b" codes");
+    text::say_count(out, found.resets.0, b" resets");
+    text::say_count(out, found.slots.0, b" slots");
     text::say(out, b"\n");
 }
 
@@ -31,12 +23,11 @@ fn say_counts(out: Stdout, listed: usize, resets: Resets, slots: Slots) {
 fn show_search(bench: &mut Bench, card: &[u8], list: &mut [u64]) {
     bench.set_up(card);
     let found = search::search_line(bench.table, list, bench.images, bench.pads);
-    let answer = found.answer;
-    let resets = found.resets;
-    let slots = found.slots;
     say_codes(bench.out, list, found.listed);
-    say_refusal(bench.out, answer);
-    say_counts(bench.out, found.listed, resets, slots);
+    if found.answer.is_err() {
+        text::refused(bench.out, search::number_of(found.answer) as u64);
+    }
+    say_counts(bench.out, found);
 }
 
 // Case 2, the four codes of document 002 with places for all of them, and case 3, a line without chips and then two places

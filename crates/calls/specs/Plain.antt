@@ -23,8 +23,8 @@ use Rattle.search.specs.contracts.search_line as search-line
 use Rattle.search.proofs.search_line.Reads as search-line-reads
 use Rattle.line.specs.Attached.{Attached, attached, left_by, says_of, leaves_of, verdict_at}
 use Rattle.search.specs.Search.{searched, Search, outcome as found, complete_or4, search_by, search_of}
-use Rattle.search.specs.declared.SearchAnswer.{SearchAnswer}
-use Rattle.search.specs.declared.SearchAnswer.TheVariants as search
+use Rattle.search.specs.declared.Fault.{Fault}
+use Rattle.search.specs.declared.Fault.TheVariants as fault
 use Rattle.search.specs.declared.Found.{Found}
 use Rattle.histories.specs.Slots.{slots_on, left_by_run}
 use Rattle.calls.specs.Told.{Told, told, ToldSlots, told_slots}
@@ -130,14 +130,14 @@ answer-for (Ok plan.Reset) n cs ms ss = (Ok _, refl)
 answer-for (Ok plan.PowerOn) n cs ms ss = (Ok true, refl)
 answer-for (Ok (plan.Outside i x)) n cs ms ss = (Ok true, refl)
 
-complete_for : (b : Bool) → (a : SearchAnswer) × (searched a ≡ complete_or4 b)
+complete_for : (b : Bool) → (a : Result (Unit {0}) Fault) × (searched a ≡ complete_or4 b)
 unfolding pick
-complete_for true = (search.Complete, refl)
-complete_for false = (search.TooFewPlaces, refl)
+complete_for true = (Ok tt, refl)
+complete_for false = (Err fault.TooFewPlaces, refl)
 
-search_for : (v : Result (Unit {0}) Refusal) (list : List ℕ) (l : Attached) → (a : SearchAnswer) × (searched a ≡ (search_by v list l).answer)
+search_for : (v : Result (Unit {0}) Refusal) (list : List ℕ) (l : Attached) → (a : Result (Unit {0}) Fault) × (searched a ≡ (search_by v list l).answer)
 search_for (Ok tt) list l = complete_for _
-search_for (Err r) list l = (search.Refused r, refl)
+search_for (Err r) list l = (Err (fault.Refused r), refl)
 
 slots_for : (v : Result (Unit {0}) Refusal) (n : ℕ) (cs : List Chip) (m : ℕ) (bits out ms ss : List ℕ) → (a : Result ℕ Refusal) × (slotted a ≡ (run_by v n cs m bits out ms ss).answer)
 slots_for (Ok tt) n cs m bits out ms ss = (Ok _, refl)

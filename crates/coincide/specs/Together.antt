@@ -111,28 +111,22 @@ recording_play κs a x y v w p q =
       λ i. (tt, (tt, (tt, ((r i).text, ((r i).line.lent.images, ((r i).line.lent.pads, tt)))))),
     )
 
--- what is heard, table, images and scratchpads
+-- what is heard; table, images and scratchpads
 pub search_slot : Settled search.slot.ended search_proofs.slot.Reads.Learnt
 search_slot κs a x y v w p q =
-    let r = p.1 ∙ sym q.1 in (
-      λ i. record { table = record { n = (r i).count; chips = (r i).lent.chips }; value = (p.0 ∙ sym q.0) i },
-      λ i. (tt, (tt, ((r i).lent.images, ((r i).lent.pads, tt)))),
-    )
+    let r = p.1 ∙ sym q.1 in
+    (p.0 ∙ sym q.0, λ i. (record { n = (r i).count; chips = (r i).lent.chips }, (tt, ((r i).lent.images, ((r i).lent.pads, tt)))))
 
 pub search_reset : Settled search.reset.ended search_proofs.reset.Reads.Learnt
 search_reset κs a x y v w p q =
-    let r = p.1 ∙ sym q.1 in (
-      λ i. record { table = record { n = (r i).count; chips = (r i).lent.chips }; value = (p.0 ∙ sym q.0) i },
-      λ i. (tt, ((r i).lent.images, ((r i).lent.pads, tt))),
-    )
+    let r = p.1 ∙ sym q.1 in
+    (p.0 ∙ sym q.0, λ i. (record { n = (r i).count; chips = (r i).lent.chips }, ((r i).lent.images, ((r i).lent.pads, tt))))
 
 -- table, images and scratchpads
 pub search_write_byte : Settled search.write_byte.ended search_proofs.write_byte.Reads.Learnt
 search_write_byte κs a x y v w p q =
-    let r = p ∙ sym q in (
-      λ i. record { n = (r i).line.count; chips = (r i).line.lent.chips },
-      λ i. (tt, (tt, ((r i).line.lent.images, ((r i).line.lent.pads, tt)))),
-    )
+    let r = p ∙ sym q in
+    (refl, λ i. (record { n = (r i).line.count; chips = (r i).line.lent.chips }, (tt, ((r i).line.lent.images, ((r i).line.lent.pads, tt)))))
 
 -- answer, number of codes, resets, slots and table; list, images and scratchpads
 pub search_search_line : Settled search.search_line.ended search_proofs.search_line.Reads.Learnt

@@ -13,12 +13,12 @@ ghost use Rattle.lent.specs.Turning.{plan_done};
 use chip::Chip;
 pub use gathered::{search_line, set_up};
 use line::{Event, Plan, Refusal, Survey};
-use search::{Resets, SearchAnswer, Slots};
+use search::{Fault, Resets, Slots};
 
 // What a search answers, how many codes it listed, and what it put on the line.
 #[derive(Clone, Copy)]
 pub struct Told {
-    pub answer: SearchAnswer,
+    pub answer: Result<(), Fault>,
     pub listed: usize,
     pub resets: Resets,
     pub slots: Slots,

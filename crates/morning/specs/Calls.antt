@@ -10,8 +10,8 @@ use Rattle.base.specs.Pick.{pick}
 use Rattle.line.specs.Attached.{Attached, attached, Stands, line_from}
 use Rattle.line.specs.declared.Table.{Table}
 use Rattle.search.specs.Search.{searched, complete_or4, outcome}
-use Rattle.search.specs.declared.SearchAnswer.{SearchAnswer}
-use Rattle.search.specs.declared.SearchAnswer.TheVariants as search
+use Rattle.search.specs.declared.Fault.{Fault}
+use Rattle.search.specs.declared.Fault.TheVariants as fault
 use Rattle.search.specs.declared.Found.{Found}
 use Rattle.rounds.specs.Borne.{only_borne, page_size, pages_most, pages_asked}
 use Rattle.rounds.specs.Host.{round_host}
@@ -84,14 +84,14 @@ round_told list pages l r c s fits size =
 
 -- ---- there are such calls
 
-complete_for : (b : Bool) → (a : SearchAnswer) × (searched a ≡ complete_or4 b)
+complete_for : (b : Bool) → (a : Result (Unit {0}) Fault) × (searched a ≡ complete_or4 b)
 unfolding pick
-complete_for true = (search.Complete, refl)
-complete_for false = (search.TooFewPlaces, refl)
+complete_for true = (Ok tt, refl)
+complete_for false = (Err fault.TooFewPlaces, refl)
 
-answer-for : (v : Result (Unit {0}) Refusal) (list pages : List ℕ) (l : Attached) → (a : SearchAnswer) × (searched a ≡ (round_by v list pages l).found.answer)
+answer-for : (v : Result (Unit {0}) Refusal) (list pages : List ℕ) (l : Attached) → (a : Result (Unit {0}) Fault) × (searched a ≡ (round_by v list pages l).found.answer)
 answer-for (Ok tt) list pages l = complete_for _
-answer-for (Err r) list pages l = (search.Refused r, refl)
+answer-for (Err r) list pages l = (Err (fault.Refused r), refl)
 
 -- THEOREM: every call has an outcome that its contract permits, whatever is lent and however long it lives
 pub some_round : Lfts 4 → (list pages : List ℕ) (l : Attached) → MakeRound list pages l (round_of list pages l)

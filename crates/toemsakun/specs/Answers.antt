@@ -10,7 +10,7 @@ use Rattle.line.specs.Slots.{slotted}
 use Rattle.card.specs.Card.{Carded, chips, refused, carded}
 use Rattle.card.specs.declared.Refused.{Refused}
 use Rattle.search.specs.Search.{searched, number_in}
-use Rattle.search.specs.declared.SearchAnswer.{SearchAnswer}
+use Rattle.search.specs.declared.Fault.{Fault}
 use Rattle.toemsakun.specs.Library.{minus, answer_number, slots_number, search_number}
 
 -- what set-up answers that left n chips, and where the record at fault begins
@@ -33,12 +33,12 @@ slots-at = along (λ (k : Result ℕ Refusal). slots_number (slotted k))
 pub event_at : (q p : Result Bool Refusal) (r : ℤ) → q ≡ p → r ≡ answer_number (answered p) → r ≡ answer_number (answered q)
 event_at = along (λ (k : Result Bool Refusal). answer_number (answered k))
 
-pub search_at : (n : ℕ) (q p : SearchAnswer) (r : ℤ) → q ≡ p → r ≡ search_number n (searched p) → r ≡ search_number n (searched q)
-search_at n = along (λ (k : SearchAnswer). search_number n (searched k))
+pub search_at : (n : ℕ) (q p : Result (Unit {0}) Fault) (r : ℤ) → q ≡ p → r ≡ search_number n (searched p) → r ≡ search_number n (searched q)
+search_at n = along (λ (k : Result (Unit {0}) Fault). search_number n (searched k))
 
 -- a search that was refused, by its number
-pub refused_at : (n : ℕ) (q p : SearchAnswer) (r : ℤ) → q ≡ p → minus (number_in (searched p)) ≡ search_number n (searched p) → r ≡ minus (number_in (searched q)) → r ≡ search_number n (searched q)
-refused_at n q p r e h k = k ∙ along (λ (a : SearchAnswer). search_number n (searched a)) q p (minus (number_in (searched q))) e (ap (λ (a : SearchAnswer). minus (number_in (searched a))) e ∙ h)
+pub refused_at : (n : ℕ) (q p : Result (Unit {0}) Fault) (r : ℤ) → q ≡ p → minus (number_in (searched p)) ≡ search_number n (searched p) → r ≡ minus (number_in (searched q)) → r ≡ search_number n (searched q)
+refused_at n q p r e h k = k ∙ along (λ (a : Result (Unit {0}) Fault). search_number n (searched a)) q p (minus (number_in (searched q))) e (ap (λ (a : Result (Unit {0}) Fault). minus (number_in (searched a))) e ∙ h)
 
 pub card_at : (n : ℕ) (q p : Result ℕ Refused) (r : ℤ) → q ≡ p → r ≡ card_number n (carded p) → r ≡ card_number n (carded q)
 card_at n = along (λ (k : Result ℕ Refused). card_number n (carded k))

@@ -10,7 +10,7 @@ ghost use Rattle.toemsakun.specs.Answers.{card_number, card_offset, slots_put};
 
 use card::Refused;
 use line::Refusal;
-use search::SearchAnswer;
+use search::Fault;
 
 // A bus bit.
 fn of_bit(b: bool) -> i32
@@ -63,14 +63,13 @@ pub fn of_slots(answer: Result<usize, Refusal>) -> i32
 }
 
 // What a search answers that listed n codes.
-pub fn of_search(answer: SearchAnswer, n: usize) -> i32
+pub fn of_search(answer: Result<(), Fault>, n: usize) -> i32
     requires { n ≤ 16 }
     ensures { result ≡ search_number n (searched answer) }
 {
     match answer {
-        SearchAnswer::Complete => of_count(n),
-        SearchAnswer::TooFewPlaces => minus_of(search::number_of(answer)),
-        SearchAnswer::Refused(r) => of_refusal(r),
+        Ok(()) => of_count(n),
+        Err(_) => minus_of(search::number_of(answer)),
     }
 }
 
