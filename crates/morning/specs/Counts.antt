@@ -14,7 +14,7 @@ use Rattle.line.specs.Attached.{Attached, Stands, line_from}
 use Rattle.line.specs.Event.{table_in_range}
 use Rattle.line.specs.Refusals.{well_judged, in_range_few}
 use Rattle.search.specs.Host.{play, search_host}
-use Rattle.search.specs.Search.{complete, refused, number_in, wire, Search, outcome, from_played, search_of}
+use Rattle.search.specs.Search.{complete, refused, wire, Search, outcome, from_played, search_of}
 use Rattle.rounds.specs.Borne.{only_borne, page_size, pages_asked}
 use Rattle.rounds.specs.Host.{read_pages, round_host}
 use Rattle.rounds.specs.Round.{Round, round, borne_on, round_verdict, from_round, round_by, round_of}
@@ -104,7 +104,7 @@ module _ (list pages : List ℕ) (l : Attached) (s : Stands l) (size : Sized pag
 
   -- under 4 the round is its search
   stops : q.answer ≡ refused 4 → round_of list pages l ≡ round q pages
-  stops f = round_well ∙ sym (round_stops list l q.answer q.number q.list q.resets q.slots q.line searches pages (borne_on l) (number_in q.answer) refl (λ z. let k = ap number_in f in omega arith))
+  stops f = round_well ∙ sym (round_stops list l q.answer q.number q.list q.resets q.slots q.line searches pages (borne_on l) 4 f)
 
   -- the codes whose pages are read
   abbrev to_read : List ℕ
@@ -120,8 +120,7 @@ module _ (list pages : List ℕ) (l : Attached) (s : Stands l) (size : Sized pag
   goes-on f =
       ap (λ (r : Round). r.found) (round_well
       ∙ sym (round_reads_on list l q.answer q.number q.list q.resets q.slots q.line searches pages (borne_on l)
-      (sets pages 0 (play wire (read_pages to_read []) q.line).result) (play wire (read_pages to_read []) q.line).line (length to_read) (refl, refl) refl
-      (number_in q.answer) refl (ap number_in f)))
+      (sets pages 0 (play wire (read_pages to_read []) q.line).result) (play wire (read_pages to_read []) q.line).line (length to_read) (refl, refl) refl f))
 
   module _ (fits : Codes (codes_of (line_from l))) where
     -- as many codes are listed as there are distinct ones
