@@ -57,19 +57,19 @@ pub fn reset(t: &mut Table, ms: &mut [u8], ss: &mut [u8]) -> bool
     put_event(t, line::events::reset(), ms, ss)
 }
 
-// The bit to write after a bit and its complement were read; where both are 0 the codes part, and t is taken.
-fn turn_of(a: bool, b: bool, t: bool) -> bool
-    ensures { result ≡ turn a b t }
+// The bit to write after a bit and its complement were read; where both are 0 the codes part, and the wanted bit is taken.
+fn turn_of(a: bool, b: bool, wanted: bool) -> bool
+    ensures { result ≡ turn a b wanted }
 {
-    if a || b { a } else { t }
+    if a || b { a } else { wanted }
 }
 
 // The last parting at which 0 was taken.
-fn parting_of(a: bool, b: bool, t: bool, k: u8, last: Option<u8>) -> Option<u8>
+fn parting_of(a: bool, b: bool, wanted: bool, k: u8, last: Option<u8>) -> Option<u8>
     requires { k < 64 }
-    ensures { marked result ≡ mark a b t k (marked last) }
+    ensures { marked result ≡ mark a b wanted k (marked last) }
 {
-    if a || b || t { last } else { Some(k) }
+    if a || b || wanted { last } else { Some(k) }
 }
 
 // The path with a bit at a place.
@@ -90,15 +90,14 @@ pub fn one_pass(t: &mut Table, want: u64, ms: &mut [u8], ss: &mut [u8]) -> Pass
     let mut code: u64 = 0;
     let mut parting = None;
     let mut slots: u64 = 0;
-    for k in 0..64 {
+    let mut whole = true;
+    'bits: for k in 0..64 {
         let a = slot(t, true, ms, ss);
         let b = slot(t, true, ms, ss);
         slots += 2;
         if a && b {
-            return Pass {
-                branch: None,
-                slots: Slots(slots),
-            };
+            whole = false;
+            break 'bits;
         }
         let wanted = base::bit_of(want, k);
         let d = turn_of(a, b, wanted);
@@ -108,7 +107,11 @@ pub fn one_pass(t: &mut Table, want: u64, ms: &mut [u8], ss: &mut [u8]) -> Pass
         parting = parting_of(a, b, wanted, k, parting);
     }
     Pass {
-        branch: Some(Branch { code, parting }),
+        branch: if whole {
+            Some(Branch { code, parting })
+        } else {
+            None
+        },
         slots: Slots(slots),
     }
 }
