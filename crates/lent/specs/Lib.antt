@@ -1,3 +1,2 @@
 pub mod Back
 pub mod Gathered
-pub mod Turning

@@ -11,9 +11,9 @@ use Rattle.line.specs.Event.{bit, refused, number_of, verdict_of, Fits, outcome,
 use Rattle.line.specs.Fitted.{map_fitted, length_chips}
 use Rattle.line.specs.Prefix.{capped_is}
 use Rattle.line.specs.Refusals.{judged_fit}
-use Rattle.line.specs.Carrier.{first_spot, plan_seen, bus_over, acts}
+use Rattle.line.specs.Carrier.{first_spot, first_survey, survey_chip, surveyed, plan_seen, bus_over, acts}
 use Rattle.line.specs.Carried as carried
-use Rattle.line.specs.Carried.{Surveyed, walked, walked_by, plan_is, done_map, done_outside, bus_one}
+use Rattle.line.specs.Carried.{Surveyed, over_line, walked, walked_by, plan_is, done_map, done_outside, bus_one}
 use Rattle.line.specs.RunTables.{Carrying, carrying_fits, carrying_line, carrying_places}
 use Rattle.line.specs.declared.Act.TheVariants as act
 use Rattle.line.specs.declared.Event.{Event}
@@ -62,6 +62,24 @@ module _ (n k : ℕ) (cs : List Chip) (ms ss : List ℕ) where
     pub event_planned : (e : Event) (l : Survey) (p : Result Plan Refusal) → Surveyed e.chip n cs l → p ≡ plan_seen l n e (length ms) (length ss)
         → walked_by n k cs ms ss p ≡ event_of n cs e ms ss
     event_planned e l p s h = ap (walked_by n k cs ms ss) (h ∙ plan_is n cs e ms ss l s) ∙ plan_walked e
+
+-- the event of any carrier, by what its walks over the used places come to
+module _ (n : ℕ) (cs : List Chip) (ms ss : List ℕ) (h : n ≤ 16 → n ≤ length cs) (e : Event) (l : Survey) (s : l ≡ surveyed e.chip (capped n) cs) where
+  placed : n ≤ 16 → (n ≤ length cs) × (capped n ≡ n)
+  placed few = (h few, capped_is n few)
+
+  seen : Surveyed e.chip n cs l
+  seen few = (h few, s ∙ ap (λ (k : ℕ). surveyed e.chip k cs) (capped_is n few) ∙ over_line (survey_chip e.chip) n cs first_survey (h few))
+
+  pub carried_refused : (r : Refusal) → Err r ≡ plan_seen l n e (length ms) (length ss) → outcome (refused (number_of r)) n (lent cs ms ss) ≡ event_of n cs e ms ss
+  carried_refused r p = event_planned n (capped n) cs ms ss placed e l (Err r) seen p
+
+  pub carried_done : (d : Plan) → Ok d ≡ plan_seen l n e (length ms) (length ss) → (v : Bool) (m : ℕ) (ds : List Chip) (xs ys : List ℕ) → v ≡ (bus_over d (capped n) cs ms ss).value
+      → lent ds xs ys ≡ acts d v (capped n) 0 first_spot cs ms ss → m ≡ n → outcome (bit v) m (lent ds xs ys) ≡ event_of n cs e ms ss
+  carried_done d p v m ds xs ys f g k =
+      (λ j. outcome (bit v) (k j) (g j))
+      ∙ ap (λ (b : Bool). outcome (bit b) n (acts d b (capped n) 0 first_spot cs ms ss)) f
+      ∙ event_planned n (capped n) cs ms ss placed e l (Ok d) seen p
 
 -- a slot of a run, by the walks of the code
 module _ (n : ℕ) (cs₀ : List Chip) (L : List Whole) (m : ℕ) (cs : List Chip) (ms ss : List ℕ) (g : Carrying n cs₀ L m cs ms ss) where

@@ -2,20 +2,25 @@
 ghost use Rattle.std.specs.Prelude.{◌≡◌, ◌≤◌};
 ghost use Rattle.line.specs.Layout.{images_asked, images_most, pads_asked, pads_most};
 
-use crate::{Table, loops};
+use crate::{Spot, Table, carrier, chips};
+
+// Past the last chip of a table, where it has over 16 chips past none.
+fn past_last(t: Table) -> Spot
+    ensures images { (result.image ≡ images_asked t.n t.chips) × (result.image ≤ images_most) }
+    ensures pads { (result.pad ≡ pads_asked t.n t.chips) × (result.pad ≤ pads_most) }
+{
+    if t.n > 16 {
+        return carrier::first_spot();
+    }
+    chips::survey(&t, 0).spot
+}
 
 // The bytes of images that a table asks for, 0 where it has over 16 chips.
 pub fn images_asked(t: Table) -> usize
     ensures value { result ≡ images_asked t.n t.chips }
     ensures most { result ≤ images_most }
 {
-    let n = t.n;
-    let survey = loops::survey_table(t, 0);
-    let spot = survey.spot;
-    if n <= 16 {
-        return spot.image;
-    }
-    0
+    past_last(t).image
 }
 
 // The bytes of scratchpads that a table asks for, 0 where it has over 16 chips.
@@ -23,11 +28,5 @@ pub fn pads_asked(t: Table) -> usize
     ensures value { result ≡ pads_asked t.n t.chips }
     ensures most { result ≤ pads_most }
 {
-    let n = t.n;
-    let survey = loops::survey_table(t, 0);
-    let spot = survey.spot;
-    if n <= 16 {
-        return spot.pad;
-    }
-    0
+    past_last(t).pad
 }

@@ -8,13 +8,13 @@ mod packing;
 pub use judged::{images_asked, pads_asked};
 
 pub mod carrier;
+pub mod chips;
 mod loops;
 mod runs;
 pub mod tables;
 
 ghost use Rattle.std.specs.Prelude.{◌≡◌, ◌≤◌};
 ghost use Rattle.line.specs.Layout.{lent, capped};
-ghost use Rattle.line.specs.Carried.{walked};
 ghost use Rattle.line.specs.Event.{number_of, answered, outcome, verdict_of, event_of};
 ghost use Rattle.line.specs.Slots.{bytes_asked, slot_bit, with_slot_bit};
 
@@ -181,19 +181,7 @@ pub fn put_slot_bit(bits: &mut [u8], slot: usize, bit: bool)
 pub fn how_stands(t: Table, ms: &[u8], ss: &[u8]) -> Result<(), Refusal>
     ensures { result ≡ verdict_of t.n t.chips ms.now ss.now }
 {
-    let survey = loops::survey_table(t, 0);
-    carrier::verdict_by(survey, t.n, ms.len(), ss.len())
-}
-
-// A plan is carried out: the bus bit, and the table that it leaves.
-fn carry_out(t: Table, plan: Plan, ms: &mut [u8], ss: &mut [u8]) -> Happened
-    ensures { outcome (answered result.answer) result.table.n (lent result.table.chips ms.new ss.new) ≡ walked t.n (capped t.n) t.chips ms.old ss.old plan }
-{
-    let value = loops::line_value(t, plan, ms, ss);
-    Happened {
-        answer: Ok(value),
-        table: loops::all_turn(t, plan, value, ms, ss),
-    }
+    carrier::verdict_by(chips::survey(&t, 0), t.n, ms.len(), ss.len())
 }
 
 // One event: refusals 8, 5, 6 and 7 in this order, each with nothing changed; else the bus bit.
@@ -201,12 +189,7 @@ pub fn take_event(t: Table, e: Event, ms: &mut [u8], ss: &mut [u8]) -> Happened
     ensures { outcome (answered result.answer) result.table.n (lent result.table.chips ms.new ss.new)
         ≡ event_of t.n t.chips e ms.old ss.old }
 {
-    let survey = loops::survey_table(t, e.chip);
-    match carrier::plan_of(survey, t.n, e, ms.len(), ss.len()) {
-        Ok(plan) => carry_out(t, plan, ms, ss),
-        Err(r) => Happened {
-            answer: Err(r),
-            table: t,
-        },
-    }
+    let mut table = t;
+    let answer = chips::take_event(&mut table, e, ms, ss);
+    Happened { answer, table }
 }

@@ -1,13 +1,11 @@
-// Each chip of the table in turn, with its parts of the buffers.
+// One chip with its parts of the buffers.
 ghost use Rattle.std.specs.Prelude.{◌≡◌, ◌+◌, ◌≤◌, leb, length};
 ghost use Rattle.chip.specs.Chip.{whole, sends_of};
 ghost use Rattle.chip.specs.Kinds.{image_size, pad_size};
 ghost use Rattle.line.specs.Line.{act_of};
-ghost use Rattle.line.specs.Layout.{lent, capped};
 ghost use Rattle.line.specs.Bridge.{whole_at, act_within, act_at, bit_at};
-ghost use Rattle.line.specs.Carrier.{first_spot, surveyed, bus_over, acts};
 
-use crate::{Act, Plan, Survey, Table, carrier};
+use crate::Act;
 use chip::Chip;
 
 // What one chip does.
@@ -99,60 +97,4 @@ pub fn bit_at(c: Chip, image: usize, pad: usize, ms: &[u8], ss: &[u8]) -> bool
         return true;
     }
     true
-}
-
-// A look over the chips of the line.
-pub fn survey_table(t: Table, chip: u32) -> Survey
-    ensures { result ≡ surveyed chip (capped t.n) t.chips }
-{
-    let n = crate::used_places(t.n);
-    let chips = t.chips;
-    let mut survey = carrier::first_survey();
-    let mut i: usize = 0;
-    while i < n {
-        let c = chips[i];
-        survey = carrier::survey_chip(c, survey, chip);
-        i += 1;
-    }
-    survey
-}
-
-// The AND of what the host and every chip of the line put on the bus.
-pub fn line_value(t: Table, plan: Plan, ms: &[u8], ss: &[u8]) -> bool
-    ensures { result ≡ (bus_over plan (capped t.n) t.chips ms.now ss.now).value }
-{
-    let n = crate::used_places(t.n);
-    let chips = t.chips;
-    let mut sum = carrier::first_bus(plan);
-    let mut i: usize = 0;
-    while i < n {
-        let c = chips[i];
-        sum = carrier::bus_with(c, sum, plan, ms, ss);
-        i += 1;
-    }
-    sum.value
-}
-
-// Every chip of the line has its turn.
-pub fn all_turn(t: Table, plan: Plan, value: bool, ms: &mut [u8], ss: &mut [u8]) -> Table
-    ensures { (lent result.chips ms.new ss.new ≡ acts plan value (capped t.n) 0 first_spot t.chips ms.old ss.old) × (result.n ≡ t.n) }
-{
-    let n = crate::used_places(t.n);
-    let mut chips = t.chips;
-    let mut spot = carrier::first_spot();
-    let mut i: usize = 0;
-    while i < n {
-        let c = chips[i];
-        let r = carrier::turn(c, spot, plan, value, ms, ss);
-        let after = r.chip;
-        let next = r.spot;
-        chips[i] = after;
-        spot = next;
-        i += 1;
-    }
-    let count = t.n;
-    Table {
-        n: count,
-        chips: chips,
-    }
 }

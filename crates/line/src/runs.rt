@@ -4,7 +4,7 @@ ghost use Rattle.line.specs.Layout.{lent, line_of, lent_from};
 ghost use Rattle.line.specs.Event.{Fits};
 ghost use Rattle.line.specs.Slots.{bits_of, number_from, run_on, slotted, run_outcome, run_verdict, run_by, slots_of, host_bits, bytes_from, bytes_asked};
 
-use crate::{ByteRan, Plan, Ran, Refusal, Table, carrier, loops};
+use crate::{ByteRan, Plan, Ran, Refusal, Table, carrier, chips};
 
 // Up to eight slots, whose host bits are the first of a byte.
 fn run_byte(t: Table, bits: u8, count: usize, ms: &mut [u8], ss: &mut [u8]) -> ByteRan
@@ -17,17 +17,11 @@ fn run_byte(t: Table, bits: u8, count: usize, ms: &mut [u8], ss: &mut [u8]) -> B
     let mut host = bits;
     let mut sum: u16 = 0;
     let mut worth: u16 = 1;
-    let mut i: usize = 0;
-    while i < count {
-        let plan = Plan::Slot(host % 2 == 1);
-        let value = loops::line_value(table, plan, ms, ss);
-        let after = loops::all_turn(table, plan, value, ms, ss);
-        table = after;
-        let more = carrier::with_bit(sum, value, worth);
-        sum = more as u16;
-        host = host / 2;
+    for i in 0..count {
+        let value = chips::carry_out(&mut table, Plan::Slot(host % 2 == 1), ms, ss);
+        sum = carrier::with_bit(sum, value, worth) as u16;
+        host /= 2;
         worth = 2 * worth;
-        i += 1;
     }
     ByteRan {
         byte: sum as u8,
@@ -104,7 +98,7 @@ pub fn take_slots(
     ensures { run_outcome (slotted result.answer) answers.new result.table.n (lent result.table.chips ms.new ss.new)
         ≡ slots_of t.n t.chips slots bits.now answers.old ms.old ss.old }
 {
-    let survey = loops::survey_table(t, 0);
+    let survey = chips::survey(&t, 0);
     let judged = carrier::run_verdict_by(
         survey,
         t.n,
