@@ -1,4 +1,5 @@
 // Cases 4 to 7 and 9, and that of M-102: one DS28EC20, chosen by Match ROM or Skip ROM.
+// Stays a function for each case, here and in the other files: each only calls `script::run` with the words of its case.
 use crate::host::Bench;
 use crate::{cards, script};
 

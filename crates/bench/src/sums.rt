@@ -5,16 +5,15 @@ use std::io::Stdout;
 
 // The check sums of 01h, computed; a chip sends the CRC-16 inverted, low byte first.
 fn computed(out: Stdout) {
-    let sum = crc::crc16(b"\x01");
-    let inverted = 0xFFFF - sum;
+    let [high, low] = crc::crc16(b"\x01").to_be_bytes();
     text::say(out, b"case 1: of 01, CRC-8");
     text::say_byte(out, crc::crc8(b"\x01"));
     text::say(out, b", CRC-16");
-    text::say_byte(out, (sum / 256) as u8);
-    text::say_digits(out, (sum % 256) as u8);
+    text::say_byte(out, high);
+    text::say_digits(out, low);
     text::say(out, b", sent");
-    text::say_byte(out, (inverted % 256) as u8);
-    text::say_byte(out, (inverted / 256) as u8);
+    text::say_byte(out, 0xFF - low);
+    text::say_byte(out, 0xFF - high);
     text::say(out, b"\n");
 }
 

@@ -53,7 +53,7 @@ pub struct Carded {
 #[derive(Clone, Copy)]
 pub struct Entry {
     pub code: u64,
-    // Stays a number: refusal 2 of `line` speaks of kinds in a table that no enum names.
+    // Stays a number: it becomes a chip's kind, which is one too, since a table from C may hold any (refusal 8 of the line).
     pub kind: u8,
     pub next: usize,
 }

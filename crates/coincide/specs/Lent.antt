@@ -3,6 +3,7 @@ use Rattle.std.specs.Prelude.{refl}
 use Rattle.std.proofs.Common.{◌∙◌, ap, sym}
 use Rattle.line.specs.Event.{Outcome}
 use Rattle.search.specs.Search.{Search}
+use Rattle.line.specs.contracts as line
 use Rattle.lent.specs.contracts as lent
 use Rattle.coincide.specs.Answered.{answered_once}
 use Rattle.coincide.specs.Carded.{carded_once}
@@ -22,6 +23,13 @@ lent_record_power_on M 𝓤 𝓛 mem run κs a g x y v w =
 -- answer, chips, images and scratchpads
 pub lent_take_event : Fixed lent.take_event.ended (λ M 𝓤 𝓛. lent.take_event.clauses 𝓛)
 lent_take_event M 𝓤 𝓛 mem run κs a g x y v w =
+    two_facts 𝓤 _ _ _ (λ p q.
+    let r = p ∙ sym q in
+    (answered_once x y (ap (λ (o : Outcome). o.answer) r), λ i. ((r i).lent.chips, (tt, ((r i).lent.images, ((r i).lent.pads, tt))))))
+
+-- the same of the event in `line`
+pub line_take_lent_event : Fixed line.take_lent_event.ended (λ M 𝓤 𝓛. line.take_lent_event.clauses 𝓛)
+line_take_lent_event M 𝓤 𝓛 mem run κs a g x y v w =
     two_facts 𝓤 _ _ _ (λ p q.
     let r = p ∙ sym q in
     (answered_once x y (ap (λ (o : Outcome). o.answer) r), λ i. ((r i).lent.chips, (tt, ((r i).lent.images, ((r i).lent.pads, tt))))))

@@ -92,7 +92,7 @@ pub fn read_full<R: Read>(input: &mut R, bytes: &mut [u8]) -> usize
     ensures prefix_len { IsPrefixLen result bytes.new }
     ensures known { Consumes (R.remaining input.old) (R.remaining input.new) (take result bytes.new) }
 {
-    // Stays: each read says how far the next one begins, so no range counts here.
+    // Stays: each read says where the next one begins, so no range counts here.
     let mut done: usize = 0;
     while done < bytes.len() {
         match read_some(input, &mut bytes[done..]) {

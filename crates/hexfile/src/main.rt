@@ -19,6 +19,7 @@ fn say_usage(errors: Stderr) {
 }
 
 // Goes one way with an input.
+// Stays a match: each way is generic over the input, which no closure is.
 fn go<R: Read>(way: Way, input: &mut R, name: &[u8], to: Outputs) -> Result<(), Told> {
     match way {
         Way::Write => writing::write(input, name, to),

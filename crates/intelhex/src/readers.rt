@@ -10,6 +10,7 @@ use crate::record::Judged;
 use crate::{Ending, Fault, IMAGE_SIZE, Refused, Taken, lines, record, storing};
 
 // What a turn comes to.
+// Stays an enum: an `Option` in place of `Stop` would not say that the text ends there, and so be no plainer.
 #[derive(Clone, Copy)]
 pub enum Turn {
     // a record was taken: the characters that it takes up, and whether it was the end record

@@ -38,10 +38,8 @@ fn gather(table: &[Chip]) -> Table
     ensures { result ≡ gathered table.now }
 {
     let mut t = line::tables::blank(0);
-    let mut i = 0;
-    while i < table.len() {
+    for i in 0..table.len() {
         t = line::tables::with_chip(t, table[i]);
-        i += 1;
     }
     t
 }
@@ -50,11 +48,9 @@ fn gather(table: &[Chip]) -> Table
 fn put_back(table: &mut [Chip], t: Table)
     ensures { table.new ≡ puts t (length table.old) 0 table.old }
 {
-    let mut i = 0;
-    while i < table.len() {
+    for i in 0..table.len() {
         let c = line::tables::chip_for(t, i, table[i]);
         table[i] = c;
-        i += 1;
     }
 }
 

@@ -4,41 +4,14 @@
 mod gathered;
 pub mod record;
 
-ghost use Rattle.std.specs.Prelude.{◌≡◌, length, Some};
+ghost use Rattle.std.specs.Prelude.{◌≡◌, length};
 ghost use Rattle.line.specs.Event.{answered, outcome, event_of};
 ghost use Rattle.line.specs.Layout.{lent};
 
 use chip::Chip;
 pub use gathered::{search_line, set_up};
-use line::chips::Chips;
 use line::{Event, Refusal};
 use search::{Fault, Resets, Slots};
-
-// A lent slice of chips, all of which count.
-#[derive(Drop)]
-struct Slice<'a> {
-    chips: &'a mut [Chip],
-}
-
-impl Chips for Slice<'_> {
-    ghost number = { λ s. length s.chips.now };
-
-    ghost places = { λ s. s.chips.now };
-
-    ghost lender = { λ s. Some s.chips.ghost_name };
-
-    fn number(&self) -> usize {
-        self.chips.len()
-    }
-
-    fn chip(&self, place: usize) -> Chip {
-        self.chips[place]
-    }
-
-    fn put(&mut self, place: usize, c: Chip) {
-        self.chips[place] = c;
-    }
-}
 
 // What a search answers, how many codes it listed, and what it put on the line.
 #[derive(Clone, Copy)]
@@ -59,5 +32,5 @@ pub fn take_event(
     ensures { outcome (answered result) (length table.new) (lent table.new ms.new ss.new)
         ≡ event_of (length table.old) table.old e ms.old ss.old }
 {
-    line::chips::take_event(&mut Slice { chips: table }, e, ms, ss)
+    line::take_lent_event(table, e, ms, ss)
 }

@@ -5,6 +5,7 @@ ghost use Rattle.chip.specs.Chip.{whole, takes_of, sends_of, reset_chip, power_o
 use chip::Chip;
 
 // What a slot of the value v does to a chip, its memory and its scratchpad.
+// Stays beside `chip`, here and below: the crate `coincide` has a theorem of each form.
 pub fn takes(c: &mut Chip, v: bool, m: &mut [u8], s: &mut [u8])
     ensures { whole c.new m.new s.new ≡ takes_of v (whole c.old m.old s.old) }
 {

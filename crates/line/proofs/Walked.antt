@@ -7,13 +7,13 @@ use Rattle.chip.specs.Chip.{Whole}
 use Rattle.chip.specs.declared.Chip.{Chip}
 use Rattle.line.specs.Line.{value_of, act_of, bus_of, after_by}
 use Rattle.line.specs.Layout.{capped, chips_of, images_of, pads_of, Lent, lent, line_of, lent_from}
-use Rattle.line.specs.Event.{bit, refused, number_of, verdict_of, Fits, outcome, plan_in, plan_by, plan_of, did, done_of, event_of}
+use Rattle.line.specs.Event.{bit, answered, refused, number_of, verdict_of, Fits, outcome, plan_in, plan_by, plan_of, did, done_of, event_of}
 use Rattle.line.specs.Fitted.{map_fitted, length_chips}
 use Rattle.line.specs.Prefix.{capped_is}
 use Rattle.line.specs.Refusals.{judged_fit}
-use Rattle.line.specs.Carrier.{first_spot, first_survey, survey_chip, surveyed, plan_seen, bus_over, acts}
+use Rattle.line.specs.Carrier.{first_spot, first_survey, survey_chip, surveyed, plan_seen, bus_over, acts, answer_for}
 use Rattle.line.specs.Carried as carried
-use Rattle.line.specs.Carried.{Surveyed, over_line, walked, walked_by, plan_is, done_map, done_outside, bus_one}
+use Rattle.line.specs.Carried.{Surveyed, over_line, walked, walked_by, Walks, plan_is, done_map, done_outside, bus_one}
 use Rattle.line.specs.RunTables.{Carrying, carrying_fits, carrying_line, carrying_places}
 use Rattle.line.specs.declared.Act.TheVariants as act
 use Rattle.line.specs.declared.Event.{Event}
@@ -62,6 +62,17 @@ module _ (n k : ℕ) (cs : List Chip) (ms ss : List ℕ) where
     pub event_planned : (e : Event) (l : Survey) (p : Result Plan Refusal) → Surveyed e.chip n cs l → p ≡ plan_seen l n e (length ms) (length ss)
         → walked_by n k cs ms ss p ≡ event_of n cs e ms ss
     event_planned e l p s h = ap (walked_by n k cs ms ss) (h ∙ plan_is n cs e ms ss l s) ∙ plan_walked e
+
+    -- the event, from what the walks leave
+    walked_all : (d : Result Plan Refusal) (v : Bool) (g : Lent) → Walks n k cs ms ss d v g → outcome (answered (answer_for d v)) n g ≡ walked_by n k cs ms ss d
+    walked_all (Ok p) v g w =
+        ap (λ (x : Lent). outcome (bit v) n x) w.1 ∙ ap (λ (b : Bool). outcome (bit b) n (acts p b k 0 first_spot cs ms ss)) w.0
+    walked_all (Err r) v g w = ap (λ (x : Lent). outcome (refused (number_of r)) n x) w
+
+    pub event_walked : (e : Event) (l : Survey) (d : Result Plan Refusal) (v : Bool) (a : Result Bool Refusal) (m : ℕ) (g : Lent) → Surveyed e.chip n cs l → d ≡ plan_seen l n e (length ms) (length ss)
+        → Walks n k cs ms ss d v g → a ≡ answer_for d v → m ≡ n → outcome (answered a) m g ≡ event_of n cs e ms ss
+    event_walked e l d v a m g hl hd hw ha hm =
+        (λ j. outcome (answered (ha j)) (hm j) g) ∙ walked_all d v g hw ∙ event_planned e l d hl hd
 
 -- the event of any carrier, by what its walks over the used places come to
 module _ (n : ℕ) (cs : List Chip) (ms ss : List ℕ) (h : n ≤ 16 → n ≤ length cs) (e : Event) (l : Survey) (s : l ≡ surveyed e.chip (capped n) cs) where

@@ -6,7 +6,7 @@ use mathlib.Core.List.{List, [], ◌∷◌, ◌++◌, map, append_assoc}
 use Rattle.std.proofs.Math.Path.{refl, ap, sym}
 use Rattle.std.proofs.lemmas.Bool.{lt-leb}
 use Rattle.std.proofs.Math.ListN.{length, take, drop, length-drop, length-append}
-use Rattle.std.proofs.lemmas.List.{get_or_at, set_at, set-get_or}
+use Rattle.std.proofs.lemmas.List.{get_or_at, set_at}
 use Rattle.std.proofs.Math.Seq.{length-take-le}
 use Rattle.base.specs.Pick.{pick, pick_true, pick_false}
 use Rattle.base.specs.Bits.{both}
@@ -17,7 +17,7 @@ use Rattle.chip.specs.Kinds.{image_most, pad_most, image_size, pad_size}
 use Rattle.chip.specs.Limits.{image_small, pad_small}
 use Rattle.chip.specs.declared.Chip.{Chip}
 use Rattle.line.specs.Line.{bus_from, act_of, outside_at, puts_of, host_of, bus_of}
-use Rattle.line.specs.Layout.{capped, images_asked, pads_asked, images_size, pads_size, images_most, pads_most, split, chips_of, images_of, pads_of, Lent, lent, line_of, lent_from}
+use Rattle.line.specs.Layout.{Lent, capped, images_asked, pads_asked, images_size, pads_size, images_most, pads_most, split, chips_of, images_of, pads_of, lent, line_of, lent_from}
 use Rattle.chip.specs.With.{no_chip}
 use Rattle.line.specs.Event.{refused, number_of, answered, all_in_range, table_in_range, sizes_fit, judge, table_tests, verdict_of, Fits, Outcome, outcome, plan_event, plan_in, plan_by, plan_of, done_of, bit}
 use Rattle.line.specs.Sizes.{act_sized}
@@ -325,6 +325,11 @@ module _ (n k : ℕ) (cs : List Chip) (ms ss : List ℕ) where
 
   abbrev pub walked : Plan → Outcome
   walked d = outcome (bit (valued d)) n (acts d (valued d) k 0 first_spot cs ms ss)
+
+  -- what the walks leave: the bit on the bus, and the chips with their buffers; a refused event leaves them as they were
+  abbrev pub Walks : Result Plan Refusal → Bool → Lent → Type 0
+  Walks (Ok d) v g = (v ≡ valued d) × (g ≡ acts d v k 0 first_spot cs ms ss)
+  Walks (Err r) v g = g ≡ lent cs ms ss
 
   -- refused, nothing is walked
   abbrev pub walked_by : Result Plan Refusal → Outcome

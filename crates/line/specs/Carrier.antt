@@ -115,6 +115,31 @@ turn_of d v c p ms ss =
     let x = does_at d v c p ms ss in
     turned x.chip (spot_after c.kind p) x.memory x.pad
 
+-- the same of what an event comes to: one that is refused puts a 1 on the bus and does nothing
+abbrev pub host_by : Result Plan Refusal → Bool
+host_by (Ok d) = host_of d
+host_by (Err r) = true
+
+abbrev pub first_bus_by : Result Plan Refusal → Bus
+first_bus_by (Ok d) = first_bus d
+first_bus_by (Err r) = record { value = true; spot = first_spot }
+
+abbrev pub puts_by : Result Plan Refusal → Chip → Spot → List ℕ → List ℕ → Bool
+puts_by (Ok d) c p ms ss = puts_at d c p ms ss
+puts_by (Err r) c p ms ss = true
+
+abbrev pub bus_by : Result Plan Refusal → Chip → Bus → List ℕ → List ℕ → Bus
+bus_by (Ok d) c s ms ss = bus_with d c s ms ss
+bus_by (Err r) c s ms ss = record { value = s.value; spot = spot_after c.kind s.spot }
+
+abbrev pub does_by : Result Plan Refusal → Bool → Chip → Spot → List ℕ → List ℕ → Whole
+does_by (Ok d) v c p ms ss = does_at d v c p ms ss
+does_by (Err r) v c p ms ss = whole c ms ss
+
+abbrev pub turn_by : Result Plan Refusal → Bool → Chip → Spot → List ℕ → List ℕ → Turn
+turn_by (Ok d) v c p ms ss = turn_of d v c p ms ss
+turn_by (Err r) v c p ms ss = turned c (spot_after c.kind p) ms ss
+
 -- k chips from place i on
 unfoldable pub acts : Plan → Bool → ℕ → ℕ → Spot → List Chip → List ℕ → List ℕ → Lent
 acts d v zero i p cs ms ss = lent cs ms ss

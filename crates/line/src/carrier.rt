@@ -4,13 +4,12 @@
 ghost use Rattle.std.specs.Prelude.{true, ◌≡◌, ◌+◌, ◌≤◌};
 ghost use Rattle.base.specs.Pick.{pick};
 ghost use Rattle.chip.specs.Chip.{whole, outside_chip};
-ghost use Rattle.line.specs.Line.{host_of};
 ghost use Rattle.line.specs.Event.{judge, table_tests, outside_fits, asked_by, plan_event, plan_by};
 ghost use Rattle.line.specs.Slots.{run_fits};
 ghost use Rattle.line.specs.Runs.{count_of};
-ghost use Rattle.line.specs.Carrier.{first_spot, spot_after, first_survey, survey_chip, verdict_with, verdict_by, run_verdict_by, plan_seen, first_bus, puts_at, bus_with, does_at, turned, turn_of, happens_by, answer_for};
+ghost use Rattle.line.specs.Carrier.{first_spot, spot_after, first_survey, survey_chip, verdict_with, verdict_by, run_verdict_by, plan_seen, host_by, first_bus_by, puts_by, bus_by, does_by, turned, turn_by, happens_by, answer_for};
 
-use crate::{Act, Bus, Event, Plan, Refusal, SLOTS_MOST, Spot, Survey, Turned, loops};
+use crate::{Bus, Event, Plan, Refusal, SLOTS_MOST, Spot, Survey, Turned, steps};
 use chip::Chip;
 
 // Where the first chip stands.
@@ -208,50 +207,49 @@ pub fn happens(plan: Result<Plan, Refusal>) -> bool
     plan.is_ok()
 }
 
-// What the host puts on the bus.
-pub fn host_bit(plan: Plan) -> bool
-    ensures { result ≡ host_of plan }
+// What the host puts on the bus, a 1 where the event is refused.
+pub fn host_bit(plan: Result<Plan, Refusal>) -> bool
+    ensures { result ≡ host_by plan }
 {
     match plan {
-        Plan::Slot(b) => b,
-        _ => true,
+        Ok(plan) => steps::host_bit(plan),
+        Err(_) => true,
     }
 }
 
 // Before the first chip puts its bit on the bus.
-pub fn first_bus(plan: Plan) -> Bus
-    ensures { result ≡ first_bus plan }
+pub fn first_bus(plan: Result<Plan, Refusal>) -> Bus
+    ensures { result ≡ first_bus_by plan }
 {
-    let spot = first_spot();
-    let host = host_bit(plan);
-    Bus {
-        value: host,
-        spot: spot,
+    match plan {
+        Ok(plan) => steps::first_bus(plan),
+        Err(_) => Bus {
+            value: true,
+            spot: first_spot(),
+        },
     }
 }
 
 // What one chip puts on the bus: in a slot what it sends, 0 at a reset.
-pub fn puts_at(c: Chip, p: Spot, plan: Plan, ms: &[u8], ss: &[u8]) -> bool
-    ensures { result ≡ puts_at plan c p ms.now ss.now }
+pub fn puts_at(c: Chip, p: Spot, plan: Result<Plan, Refusal>, ms: &[u8], ss: &[u8]) -> bool
+    ensures { result ≡ puts_by plan c p ms.now ss.now }
 {
     match plan {
-        Plan::Slot(_) => loops::bit_at(c, p.image, p.pad, ms, ss),
-        Plan::Reset => false,
-        Plan::PowerOn | Plan::Outside { .. } => true,
+        Ok(plan) => steps::puts_at(c, p, plan, ms, ss),
+        Err(_) => true,
     }
 }
 
 // The bit on the bus with one chip more.
-pub fn bus_with(c: Chip, s: Bus, plan: Plan, ms: &[u8], ss: &[u8]) -> Bus
-    ensures { result ≡ bus_with plan c s ms.now ss.now }
+pub fn bus_with(c: Chip, s: Bus, plan: Result<Plan, Refusal>, ms: &[u8], ss: &[u8]) -> Bus
+    ensures { result ≡ bus_by plan c s ms.now ss.now }
 {
-    let spot = s.spot;
-    let bit = puts_at(c, spot, plan, ms, ss);
-    let value = base::are_both(bit, s.value);
-    let after = spot_after(spot, c.kind);
-    Bus {
-        value: value,
-        spot: after,
+    match plan {
+        Ok(plan) => steps::bus_with(c, s, plan, ms, ss),
+        Err(_) => Bus {
+            value: s.value,
+            spot: spot_after(s.spot, c.kind),
+        },
     }
 }
 
@@ -265,27 +263,40 @@ pub fn outside_if(named: bool, c: Chip, outside: u8) -> Chip
     c
 }
 
-// What one chip does, once the bit on the bus is known.
-pub fn does_at(c: Chip, p: Spot, plan: Plan, value: bool, ms: &mut [u8], ss: &mut [u8]) -> Chip
-    ensures { whole result ms.new ss.new ≡ does_at plan value c p ms.old ss.old }
+// What one chip does, once the bit on the bus is known: nothing where the event is refused.
+pub fn does_at(
+    c: Chip,
+    p: Spot,
+    plan: Result<Plan, Refusal>,
+    value: bool,
+    ms: &mut [u8],
+    ss: &mut [u8],
+) -> Chip
+    ensures { whole result ms.new ss.new ≡ does_by plan value c p ms.old ss.old }
 {
     match plan {
-        Plan::Slot(_) => loops::act_at(c, Act::Take(value), p.image, p.pad, ms, ss),
-        Plan::Reset => loops::act_at(c, Act::Reset, p.image, p.pad, ms, ss),
-        Plan::PowerOn => loops::act_at(c, Act::PowerOn, p.image, p.pad, ms, ss),
-        Plan::Outside { chip, outside } => outside_if(p.place == chip, c, outside),
+        Ok(plan) => steps::does_at(c, p, plan, value, ms, ss),
+        Err(_) => c,
     }
 }
 
 // A turn: one chip, and on to the next.
-pub fn turn(c: Chip, p: Spot, plan: Plan, value: bool, ms: &mut [u8], ss: &mut [u8]) -> Turned
-    ensures { turned result.chip result.spot ms.new ss.new ≡ turn_of plan value c p ms.old ss.old }
+pub fn turn(
+    c: Chip,
+    p: Spot,
+    plan: Result<Plan, Refusal>,
+    value: bool,
+    ms: &mut [u8],
+    ss: &mut [u8],
+) -> Turned
+    ensures { turned result.chip result.spot ms.new ss.new ≡ turn_by plan value c p ms.old ss.old }
 {
-    let after = does_at(c, p, plan, value, ms, ss);
-    let spot = spot_after(p, c.kind);
-    Turned {
-        chip: after,
-        spot: spot,
+    match plan {
+        Ok(plan) => steps::turn(c, p, plan, value, ms, ss),
+        Err(_) => Turned {
+            chip: c,
+            spot: spot_after(p, c.kind),
+        },
     }
 }
 

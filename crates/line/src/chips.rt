@@ -1,14 +1,14 @@
 // Chips at numbered places, in whatever form they are carried, and the walks over them: the look over all of them, the bus,
 // the turns, and so an event.
 ghost use base.Fml.{GName};
-ghost use Rattle.std.specs.Prelude.{ℕ, ◌≡◌, ◌<◌, ◌≤◌, List, length, get_or, set, Option, None};
+ghost use Rattle.std.specs.Prelude.{ℕ, ◌≡◌, ◌<◌, ◌≤◌, List, length, get_or, set, Option, None, Some};
 ghost use Rattle.chip.specs.declared.Chip.{Chip};
 ghost use Rattle.chip.specs.With.{no_chip};
 ghost use Rattle.line.specs.Event.{answered, outcome, event_of};
 ghost use Rattle.line.specs.Layout.{lent, capped};
 ghost use Rattle.line.specs.Carrier.{first_spot, surveyed, bus_over, acts};
 
-use crate::{Event, Plan, Refusal, Survey, Table, carrier};
+use crate::{Event, Plan, Refusal, Survey, Table, carrier, steps};
 use chip::Chip;
 
 // Who carries chips: how many there are, and what stands at their places.
@@ -56,6 +56,32 @@ impl Chips for Table {
     }
 }
 
+// A lent slice of chips, all of which count.
+#[derive(Drop)]
+pub struct Slice<'a> {
+    pub chips: &'a mut [Chip],
+}
+
+impl Chips for Slice<'_> {
+    ghost number = { λ s. length s.chips.now };
+
+    ghost places = { λ s. s.chips.now };
+
+    ghost lender = { λ s. Some s.chips.ghost_name };
+
+    fn number(&self) -> usize {
+        self.chips.len()
+    }
+
+    fn chip(&self, place: usize) -> Chip {
+        self.chips[place]
+    }
+
+    fn put(&mut self, place: usize, c: Chip) {
+        self.chips[place] = c;
+    }
+}
+
 // A look over the chips of the line.
 pub fn survey<C: Chips>(chips: &C, chip: u32) -> Survey
     ensures { result ≡ surveyed chip (capped (C.number chips.now)) (C.places chips.now) }
@@ -71,9 +97,9 @@ pub fn survey<C: Chips>(chips: &C, chip: u32) -> Survey
 pub fn bus_value<C: Chips>(chips: &C, plan: Plan, ms: &[u8], ss: &[u8]) -> bool
     ensures { result ≡ (bus_over plan (capped (C.number chips.now)) (C.places chips.now) ms.now ss.now).value }
 {
-    let mut bus = carrier::first_bus(plan);
+    let mut bus = steps::first_bus(plan);
     for i in 0..crate::used_places(chips.number()) {
-        bus = carrier::bus_with(chips.chip(i), bus, plan, ms, ss);
+        bus = steps::bus_with(chips.chip(i), bus, plan, ms, ss);
     }
     bus.value
 }
@@ -87,7 +113,7 @@ pub fn all_turn<C: Chips>(chips: &mut C, plan: Plan, value: bool, ms: &mut [u8],
 {
     let mut spot = carrier::first_spot();
     for i in 0..crate::used_places(chips.number()) {
-        let turned = carrier::turn(chips.chip(i), spot, plan, value, ms, ss);
+        let turned = steps::turn(chips.chip(i), spot, plan, value, ms, ss);
         chips.put(i, turned.chip);
         spot = turned.spot;
     }

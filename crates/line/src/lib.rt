@@ -8,17 +8,19 @@ mod packing;
 pub use judged::{images_asked, pads_asked};
 
 pub mod carrier;
-pub mod chips;
+mod chips;
 mod loops;
 mod runs;
+mod steps;
 pub mod tables;
 
-ghost use Rattle.std.specs.Prelude.{◌≡◌, ◌≤◌};
+ghost use Rattle.std.specs.Prelude.{◌≡◌, ◌≤◌, length};
 ghost use Rattle.line.specs.Layout.{lent, capped};
 ghost use Rattle.line.specs.Event.{number_of, answered, outcome, verdict_of, event_of};
 ghost use Rattle.line.specs.Slots.{bytes_asked, slot_bit, with_slot_bit};
 
 use chip::Chip;
+use chips::Slice;
 pub use loops::{act_at, bit_at};
 pub use runs::take_slots;
 
@@ -32,6 +34,7 @@ pub const PADS_MOST: usize = 512;
 pub const SLOTS_MOST: usize = 65535;
 
 // The table: the first n places hold the attached chips.
+// Stays an array with a number: n may be 17, for which every call refuses the table, in fixed memory.
 #[derive(Clone, Copy)]
 pub struct Table {
     pub n: usize,
@@ -39,6 +42,7 @@ pub struct Table {
 }
 
 // An event by its number, with the chip and the outside levels that event 4 names.
+// Stays with a number: C hands it over, and refusal 6 is of every number but 0 to 4, which no enum names.
 #[derive(Clone, Copy)]
 pub struct Event {
     pub number: u32,
@@ -81,6 +85,7 @@ pub struct ByteRan {
 }
 
 // What every chip does at once: take a slot's value, be reset, or be powered on.
+// Stays an enum: the definition `act_of` and the theorem `line_act_at` are of it.
 #[derive(Clone, Copy)]
 pub enum Act {
     Take(bool),
@@ -109,6 +114,7 @@ pub struct Spot {
 
 // What is known of the chips so far: whether all are in range, the kind of the chip that an event names, and where the
 // next one stands, which is also the sizes that they ask.
+// Stays with a number for the kind, 0 before the chip is seen: so do the definitions `first_survey` and `survey_chip`.
 #[derive(Clone, Copy)]
 pub struct Survey {
     pub within: bool,
@@ -131,6 +137,7 @@ pub struct Turned {
 }
 
 // The number of a refusal.
+// Stays a function: the theorem `line_number_of` of the crate `coincide` is of it.
 pub fn number_of(r: Refusal) -> u8
     ensures { result ≡ number_of r }
 {
@@ -185,6 +192,7 @@ pub fn how_stands(t: Table, ms: &[u8], ss: &[u8]) -> Result<(), Refusal>
 }
 
 // One event: refusals 8, 5, 6 and 7 in this order, each with nothing changed; else the bus bit.
+// Stays with images and scratchpads side by side, here and in the crates above: C lends them apart, and each clause speaks of each.
 pub fn take_event(t: Table, e: Event, ms: &mut [u8], ss: &mut [u8]) -> Happened
     ensures { outcome (answered result.answer) result.table.n (lent result.table.chips ms.new ss.new)
         ≡ event_of t.n t.chips e ms.old ss.old }
@@ -192,4 +200,17 @@ pub fn take_event(t: Table, e: Event, ms: &mut [u8], ss: &mut [u8]) -> Happened
     let mut table = t;
     let answer = chips::take_event(&mut table, e, ms, ss);
     Happened { answer, table }
+}
+
+// The same event on chips that stand in a lent slice.
+pub fn take_lent_event(
+    chips: &mut [Chip],
+    e: Event,
+    ms: &mut [u8],
+    ss: &mut [u8],
+) -> Result<bool, Refusal>
+    ensures { outcome (answered result) (length chips.new) (lent chips.new ms.new ss.new)
+        ≡ event_of (length chips.old) chips.old e ms.old ss.old }
+{
+    chips::take_event(&mut Slice { chips }, e, ms, ss)
 }

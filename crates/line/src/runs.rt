@@ -46,6 +46,7 @@ fn run_all(
     let mut table = t;
     let mut left = slots;
     let mut at: usize = 0;
+    // Stays a `while`: what is left says how many slots the next byte has, and a range would count them beside it.
     while 0 < left {
         let count = carrier::next_count(left);
         let host = bits[at];

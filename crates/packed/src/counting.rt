@@ -51,6 +51,7 @@ pub fn take_count(r: &mut [u8], last: u8, parts: Parts, v: bool, ms: &mut [u8], 
 }
 
 // A bit of a byte.
+// Stays beside its like here and in `data`: they differ in both places and in what the last bit does; a closure for that is no plainer.
 #[tactic(auto, using(base::specs::Rules::cases), unfolding(crate::specs::Takes::byte_in))]
 pub fn take_byte(r: &mut [u8], parts: Parts, v: bool, ms: &mut [u8], ss: &mut [u8])
     ensures { taken r.new ms.new ss.new ≡ byte_in v parts.image parts.pad r.old ms.old ss.old }

@@ -11,21 +11,21 @@ use scratchpad::Registers;
 // Kind, RC, E/S, latches and outside levels lie in their ranges.
 // Stays with `&`, here and below: by `&&` an event on 16 chips took 3 in 100 more instructions, 1752 for 1695.
 #[tactic(auto, using(base::specs::Rules::cases), unfolding(crate::specs::Judged::fields_stand, base::specs::Bits::both))]
-fn fields_stand(record: &[u8; RECORD_SIZE]) -> bool
-    ensures { result ≡ fields_stand record.now }
+fn fields_stand(bytes: &[u8; RECORD_SIZE]) -> bool
+    ensures { result ≡ fields_stand bytes.now }
 {
     let registers = Registers {
-        t: records::pair_at(record, 10),
-        es: record[12],
+        t: records::pair_at(bytes, 10),
+        es: bytes[12],
     };
     let switch = Switch {
-        latches: record[13],
-        outside: record[14],
+        latches: bytes[13],
+        outside: bytes[14],
     };
-    chip::kinds::is_known(record[8])
+    chip::kinds::is_known(bytes[8])
         & scratchpad::registers_in_range(registers)
         & ds2413::in_range(switch)
-        & (record[9] <= 1)
+        & (bytes[9] <= 1)
 }
 
 // Two bytes are 0.
@@ -39,45 +39,45 @@ fn are_zero(low: u8, high: u8) -> bool
 // The bytes after the step are 0.
 // Stays pair by pair: so does the definition `rest_is_zero`, by which `bytes_judged` is proved.
 #[tactic(auto, using(base::specs::Rules::cases), unfolding(crate::specs::Judged::rest_is_zero, base::specs::Bits::both))]
-fn rest_is_zero(record: &[u8; RECORD_SIZE]) -> bool
-    ensures { result ≡ rest_is_zero record.now }
+fn rest_is_zero(bytes: &[u8; RECORD_SIZE]) -> bool
+    ensures { result ≡ rest_is_zero bytes.now }
 {
-    are_zero(record[21], record[22])
-        & are_zero(record[23], record[24])
-        & are_zero(record[25], record[26])
-        & are_zero(record[27], record[28])
-        & are_zero(record[29], record[30])
-        & (record[31] == 0)
+    are_zero(bytes[21], bytes[22])
+        & are_zero(bytes[23], bytes[24])
+        & are_zero(bytes[25], bytes[26])
+        & are_zero(bytes[27], bytes[28])
+        & are_zero(bytes[29], bytes[30])
+        & (bytes[31] == 0)
 }
 
 // No field of the step is over its limit.
 #[tactic(auto, using(base::specs::Rules::cases), unfolding(crate::specs::Limits::within, base::specs::Bits::both))]
-fn is_within(record: &[u8; RECORD_SIZE], most: Limits) -> bool
-    ensures { result ≡ within (step_at record.now) most }
+fn is_within(bytes: &[u8; RECORD_SIZE], most: Limits) -> bool
+    ensures { result ≡ within (step_at bytes.now) most }
 {
-    let w = records::pair_at(record, 16);
-    (w <= most.w) & (record[18] <= most.a) & (record[19] <= most.b) & (record[20] <= most.c)
+    let w = records::pair_at(bytes, 16);
+    (w <= most.w) & (bytes[18] <= most.a) & (bytes[19] <= most.b) & (bytes[20] <= most.c)
 }
 
 // The chip can be in the step, with such fields.
 #[tactic(auto, using(base::specs::Rules::cases), unfolding(crate::specs::Limits::step_stands, base::specs::Bits::both))]
-fn step_stands(record: &[u8; RECORD_SIZE]) -> bool
-    ensures { result ≡ step_stands (get_or record.now 8 0) (step_at record.now) }
+fn step_stands(bytes: &[u8; RECORD_SIZE]) -> bool
+    ensures { result ≡ step_stands (get_or bytes.now 8 0) (step_at bytes.now) }
 {
-    let kind = record[8];
-    let number = record[15];
+    let kind = bytes[8];
+    let number = bytes[15];
     if number == 0 {
-        return is_within(record, steps::up_to(0, 0, 0, 0));
+        return is_within(bytes, steps::up_to(0, 0, 0, 0));
     }
-    steps::can_be(kind, number) && is_within(record, steps::limits_of(kind, number))
+    steps::can_be(kind, number) && is_within(bytes, steps::limits_of(kind, number))
 }
 
 // Bytes, as many as a record has, stand as one.
 #[tactic(auto, using(base::specs::Rules::cases), unfolding(crate::specs::Judged::bytes_stand, base::specs::Bits::both))]
-fn bytes_stand(record: &[u8; RECORD_SIZE]) -> bool
-    ensures { result ≡ bytes_stand record.now }
+fn bytes_stand(bytes: &[u8; RECORD_SIZE]) -> bool
+    ensures { result ≡ bytes_stand bytes.now }
 {
-    fields_stand(record) && rest_is_zero(record) && step_stands(record)
+    fields_stand(bytes) && rest_is_zero(bytes) && step_stands(bytes)
 }
 
 // Bytes are a record, and its fields lie in their ranges.
@@ -85,7 +85,7 @@ pub fn stands(r: &[u8]) -> bool
     ensures { result ≡ stands r.now }
 {
     match r.as_array::<RECORD_SIZE>() {
-        Some(record) => bytes_stand(record),
+        Some(bytes) => bytes_stand(bytes),
         None => false,
     }
 }

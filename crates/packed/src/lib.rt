@@ -50,6 +50,7 @@ pub struct Limits {
 }
 
 // What a slot does to the bytes of a step.
+// Stays an enum with a match: the definitions `shape_of` and `takes_by` of specs/Takes are of it.
 #[derive(Clone, Copy)]
 pub enum Shape {
     // nothing

@@ -38,36 +38,36 @@ pub fn pack(c: Chip) -> [u8; RECORD_SIZE]
 }
 
 // The step that a record names.
-fn step_of(record: &[u8; RECORD_SIZE]) -> Step
-    ensures { result ≡ step_at record.now }
+fn step_of(bytes: &[u8; RECORD_SIZE]) -> Step
+    ensures { result ≡ step_at bytes.now }
 {
     Step {
-        number: record[15],
-        w: records::pair_at(record, 16),
-        a: record[18],
-        b: record[19],
-        c: record[20],
+        number: bytes[15],
+        w: records::pair_at(bytes, 16),
+        a: bytes[18],
+        b: bytes[19],
+        c: bytes[20],
     }
 }
 
 // The chip that the bytes of a record stand for.
 #[tactic(auto, unfolding(crate::specs::Packed::unpacked))]
-fn unpack_whole(record: &[u8; RECORD_SIZE]) -> Chip
-    ensures { result ≡ unpacked record.now }
+fn unpack_whole(bytes: &[u8; RECORD_SIZE]) -> Chip
+    ensures { result ≡ unpacked bytes.now }
 {
     let registers = Registers {
-        t: records::pair_at(record, 10),
-        es: record[12],
+        t: records::pair_at(bytes, 10),
+        es: bytes[12],
     };
     let switch = Switch {
-        latches: record[13],
-        outside: record[14],
+        latches: bytes[13],
+        outside: bytes[14],
     };
     Chip {
-        code: records::code_at(record, 0),
-        kind: record[8],
-        rc: record[9] == 1,
-        level: Level::from(step_of(record)),
+        code: records::code_at(bytes, 0),
+        kind: bytes[8],
+        rc: bytes[9] == 1,
+        level: Level::from(step_of(bytes)),
         registers: registers,
         switch: switch,
     }
@@ -77,8 +77,8 @@ fn unpack_whole(record: &[u8; RECORD_SIZE]) -> Chip
 pub fn unpack(s: &[u8]) -> Chip
     ensures { result ≡ unpacked s.now }
 {
-    if let Some(record) = s.first_chunk::<RECORD_SIZE>() {
-        return unpack_whole(record);
+    if let Some(bytes) = s.first_chunk::<RECORD_SIZE>() {
+        return unpack_whole(bytes);
     }
     let mut whole = [0; RECORD_SIZE];
     whole[..s.len()].copy_from_slice(s);
@@ -96,7 +96,7 @@ pub fn is_packed(c: Chip, s: &[u8]) -> bool
 pub fn put_record(s: &mut [u8], c: Chip)
     ensures { s.new ≡ put_record c s.old }
 {
-    if let Some(record) = s.first_chunk_mut::<RECORD_SIZE>() {
-        *record = pack(c);
+    if let Some(bytes) = s.first_chunk_mut::<RECORD_SIZE>() {
+        *bytes = pack(c);
     }
 }

@@ -36,6 +36,7 @@ fn shape_of(number: u8) -> Shape
 }
 
 // Any slot, by the chip that the record stands for.
+// Stays with images and scratchpads side by side, as in `line`.
 #[tactic(auto, unfolding(crate::specs::Takes::any_in))]
 pub fn take_any(r: &mut [u8], parts: Parts, v: bool, ms: &mut [u8], ss: &mut [u8])
     ensures { taken r.new ms.new ss.new ≡ any_in v parts.image parts.pad r.old ms.old ss.old }

@@ -105,7 +105,7 @@ pub struct Played {
 }
 
 // The number of a refusal.
-// Stays a function beside `From`: the theorem `recording_number_of` of the crate `coincide` is of it.
+// Stays a function: the theorem `recording_number_of` of the crate `coincide` is of it.
 pub fn number_of(f: Fault) -> u8
     ensures { result ≡ number_of_fault f }
 {

@@ -10,6 +10,7 @@ use line::Event;
 use records::Head;
 
 // One of kinds 16 to 19.
+// Stays a number, here and below: so it is for `is_event`, `length_asked` and `event_in`, and refusal 2 is of kinds that no enum names.
 fn is_event(kind: u16) -> bool
     ensures { result ≡ is_event kind }
 {

@@ -6,7 +6,7 @@ ghost use Rattle.records.specs.Numbers.{number_at};
 ghost use Rattle.records.specs.Records.{head_at};
 
 // What starts at an offset of a run of records.
-// The kinds stay numbers: refusal 2 and the recording's order of faults speak of kinds that no enum names.
+// Stays with numbers for kinds: refusal 2 and the recording's order of faults speak of kinds that no enum names.
 #[derive(Clone, Copy)]
 pub enum Head {
     // nothing: the run ends here
@@ -48,6 +48,7 @@ pub fn pair(low: u8, high: u8) -> u16
 }
 
 // The number of eight bytes.
+// Stays with eight bytes apart: the theorem `records_code` of the crate `coincide` is of them.
 pub fn code(b0: u8, b1: u8, b2: u8, b3: u8, b4: u8, b5: u8, b6: u8, b7: u8) -> u64
     ensures { result ≡ number_at (b0 ∷ b1 ∷ b2 ∷ b3 ∷ b4 ∷ b5 ∷ b6 ∷ b7 ∷ []) 0 8 }
 {

@@ -23,16 +23,15 @@ fn page_line(page: &[u8]) -> [u8; LINE_SIZE]
 
 // Writes the pages and the counts, and why the round was refused, if it was; then it has no pages.
 fn write_round(to: Outputs, found: Found, pages: &[u8]) -> Result<(), Told> {
-    let number = search::number_of(found.answer);
-    if number == 0 {
+    if found.answer.is_ok() {
         for page in pages.chunks_exact(PAGE_SIZE) {
             to.write(&page_line(page))?;
         }
     }
     let (codes, resets, slots) = (found.listed, found.resets.0, found.slots.0);
     to.print(format_args!("{codes} codes {resets} resets {slots} slots\n"))?;
-    if 0 < number {
-        console::say_refused(to, number);
+    if found.answer.is_err() {
+        console::say_refused(to, search::number_of(found.answer));
     }
     Ok(())
 }

@@ -40,6 +40,7 @@ impl From<Refusal> for Fault {
 
 // What a search answers, that the list is complete or why it is refused; how many codes it listed, what it put on the line, and the table
 // that it leaves. Under refusal 4 the list is full.
+// Stays with `listed` beside the lent list: C has both (`tk_search`), and the list keeps its length.
 #[derive(Clone, Copy)]
 pub struct Found {
     pub answer: Result<(), Fault>,
@@ -136,6 +137,7 @@ fn find(t: Table, list: &mut [u64], ms: &mut [u8], ss: &mut [u8]) -> Found
 }
 
 // The number of what a search answers: 0 where the list is complete, else that of the refusal.
+// Stays a function, with 0 for a complete list: the theorem `search_number_of` of the crate `coincide` is of it.
 pub fn number_of(answer: Result<(), Fault>) -> u8
     ensures { result ≡ number_in (searched answer) }
 {
@@ -147,6 +149,7 @@ pub fn number_of(answer: Result<(), Fault>) -> u8
 }
 
 // The search over a table, its buffers and a lent list: refusals 8 and 5 without an event, then 4.
+// Stays with images and scratchpads side by side, as in `line`.
 pub fn search_line(t: Table, list: &mut [u64], ms: &mut [u8], ss: &mut [u8]) -> Found
     ensures { outcome (searched result.answer) result.listed list.new result.resets.0 result.slots.0 (attached result.table.n result.table.chips ms.new ss.new)
         ≡ search_of list.old (attached t.n t.chips ms.old ss.old) }

@@ -6,6 +6,7 @@ ghost use Rattle.setpoints.specs.Pages.{length_of};
 use crate::Kind;
 
 // The number of a kind.
+// Stays beside `length`: two tables of a kind, which a common function would only hand through.
 pub fn number(kind: Kind) -> u16
     ensures { result ≡ (form_of kind).kind }
 {

@@ -96,6 +96,7 @@ pub fn write_code(out: Stdout, code: u64) {
 }
 
 // Writes the lines of the first n codes of a list.
+// Stays with n beside the list: the theorem `terminal_write_codes` is of it, and no caller need show that n is within.
 pub fn write_codes(out: Stdout, list: &[u64], n: usize) {
     for code in list.iter().take(n) {
         write_code(out, *code);

@@ -13,6 +13,7 @@ use line::Refusal;
 use search::Fault;
 
 // A bus bit.
+// Stays with numbers, a function for each of four answers: the C interface has them, and each has its definition in specs/.
 fn of_bit(b: bool) -> i32
     ensures { result ≡ pos (flag b) }
 {

@@ -67,17 +67,15 @@ pub fn line_value(table: &[u8], plan: Plan, ms: &[u8], ss: &[u8]) -> bool
     ensures { result ≡ (bus_over plan (length (unpacked_table table.now)) (unpacked_table table.now) ms.now ss.now).value }
 {
     let n = table.len() / RECORD_SIZE;
-    let mut value = line::carrier::host_bit(plan);
+    let mut value = line::carrier::host_bit(Ok(plan));
     let mut spot = line::carrier::first_spot();
-    let mut i: usize = 0;
-    while i < n {
+    for i in 0..n {
         let at = i * RECORD_SIZE;
         let end = at + RECORD_SIZE;
         let c = packed::unpack(&table[at..end]);
-        let bit = line::carrier::puts_at(c, spot, plan, ms, ss);
+        let bit = line::carrier::puts_at(c, spot, Ok(plan), ms, ss);
         value = base::are_both(bit, value);
         spot = line::carrier::spot_after(spot, c.kind);
-        i += 1;
     }
     value
 }
@@ -91,16 +89,12 @@ pub fn all_turn(table: &mut [u8], plan: Plan, value: bool, ms: &mut [u8], ss: &m
 {
     let n = table.len() / RECORD_SIZE;
     let mut spot = line::carrier::first_spot();
-    let mut i: usize = 0;
-    while i < n {
+    for i in 0..n {
         let at = i * RECORD_SIZE;
         let end = at + RECORD_SIZE;
         let c = packed::unpack(&table[at..end]);
-        let r = line::carrier::turn(c, spot, plan, value, ms, ss);
-        let after = r.chip;
-        let next = r.spot;
-        packed::put_record(&mut table[at..end], after);
-        spot = next;
-        i += 1;
+        let r = line::carrier::turn(c, spot, Ok(plan), value, ms, ss);
+        packed::put_record(&mut table[at..end], r.chip);
+        spot = r.spot;
     }
 }

@@ -11,6 +11,7 @@ ghost use Rattle.toemsakun.specs.Slots.{Lined, line_in, Outside};
 use packed::{Parts, RECORD_SIZE};
 
 // The chips of a table from first on and before past, and where the parts of the chip at first begin.
+// Stays a clause at each function, also in `runs` and `event`: `Lined` is of three slices that C lends apart.
 #[derive(Clone, Copy)]
 pub struct Range {
     pub first: usize,

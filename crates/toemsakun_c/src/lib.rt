@@ -1,4 +1,5 @@
 // The library for C: each function of `toemsakun` under its own name, by the C calling convention.
+// Stays a function beside each of `toemsakun`: the C interface names them.
 #![tactic(auto)]
 
 ghost use Rattle.std.specs.Prelude.{◌≡◌, ◌≤◌};

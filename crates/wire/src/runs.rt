@@ -16,6 +16,7 @@ pub struct Run {
 
 impl Run {
     // No slot.
+    // Stays beside `Answers::new`: alike in text alone; a run counts bits, and its invariant is another.
     pub fn new() -> Run {
         Run {
             slots: 0,

@@ -9,6 +9,7 @@ pub enum Begun {
 }
 
 // The number of a hexadecimal digit of either case. Another character has a number that no chip and no outside levels have.
+// Stays a number where a digit is none: the line refuses it (7), as event 5 below (6); an `Option` would need that refusal here again.
 fn hex_digit(b: u8) -> u32 {
     (b as char).to_digit(16).unwrap_or(u32::MAX)
 }

@@ -1,5 +1,4 @@
 use Rattle.std.proofs.Common.{rules, arith, ℕ, ◌≡◌, ◌<◌, ◌≤◌, ◌-◌, suc, ◌+◌, List, ◌∙◌, sym, length, get_or, set, add-one}
-use native.Mathlib.Nat.{sub-zero}
 use Rattle.chip.specs.declared.Chip.{Chip}
 use Rattle.chip.specs.With.{no_chip}
 use Rattle.line.specs.declared.Table.{Table}
@@ -17,13 +16,9 @@ more t n i cs c h e =
 done : (t : Table) (n i : ℕ) (cs : List Chip) → n ≤ i → cs ≡ puts t (n - i) i cs
 done t n i cs h = let z : n - i ≡ 0 = omega arith in puts_none t i cs ∙ (λ j. puts t (sym z j) i cs)
 
-pub loop-i-init : goal.loop-i-init
-loop-i-init c = (search rules, simp sub-zero)
-
 pub loop-i-preserved : goal.loop-i-preserved
 loop-i-preserved c =
-    let l = c.loop-i in
-    (search rules, more _ (length c.args.table.now) _ _ _ (search rules) c.chip_for-c.ensures ∙ l.invariant.1)
+    more _ (length c.args.table.now) _ _ _ (search rules) c.chip_for-c.ensures ∙ c.loop-i.invariant
 
 pub returns : goal.returns
-returns c = done _ (length c.args.table.now) _ _ (search rules) ∙ c.loop-i.invariant.1
+returns c = done _ (length c.args.table.now) _ _ (omega arith) ∙ c.loop-i.invariant

@@ -1,4 +1,4 @@
-use Rattle.std.proofs.Common.{rules, ◌≡◌, ◌∙◌, sym, ap, Bool, Result, Ok, Err, length}
+use Rattle.std.proofs.Common.{rules, ◌≡◌, ◌∙◌, ap, Bool, Result, Err, length}
 use Rattle.line.specs.declared.Refusal.{Refusal}
 use Rattle.line.specs.Event.{answered, outcome}
 use Rattle.line.specs.Layout.{lent}

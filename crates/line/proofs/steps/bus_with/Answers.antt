@@ -1,5 +1,5 @@
 use Rattle.line.specs.Carrier.{bus_with}
-use Rattle.line.proofs.carrier.bus_with.Goals as goal
+use Rattle.line.proofs.steps.bus_with.Goals as goal
 
 pub returns : goal.returns
 unfolding bus_with

@@ -1,6 +1,6 @@
 use Rattle.line.specs.Carrier.{does-at}
 use Rattle.base.specs.Rules.{cases}
-use Rattle.line.proofs.carrier.does_at.Goals as goal
+use Rattle.line.proofs.steps.does_at.Goals as goal
 
 pub returns-in-Slot : goal.returns-in-Slot
 returns-in-Slot c = search (cases, does-at, ← c.act_at.ensures)

@@ -1,6 +1,6 @@
 use Rattle.line.specs.Carrier.{puts-at}
 use Rattle.base.specs.Rules.{cases}
-use Rattle.line.proofs.carrier.puts_at.Goals as goal
+use Rattle.line.proofs.steps.puts_at.Goals as goal
 
 pub returns-in-Slot : goal.returns-in-Slot
 returns-in-Slot c = search (cases, puts-at, c.bit_at.ensures)
