@@ -1,7 +1,7 @@
 -- Laws: the loop that reads the card of a recording.
 use Prim.Native.Nat.{ℕ, suc, ◌+◌, ◌-◌, ◌<◌, ◌≤◌}
 use native.Mathlib.Omega.{arith}
-use Rattle.std.specs.Prelude.{Bool, true, false, List, ◌≡◌, refl, length, Result, Ok}
+use Rattle.std.specs.Prelude.{Bool, true, false, List, ◌≡◌, refl, length, Result, Ok, Err}
 use Rattle.std.proofs.Common.{◌∙◌, sym}
 use Rattle.std.proofs.Math.Path.{ap}
 use Rattle.base.specs.Pick.{pick, pick_true, pick_false}
@@ -11,14 +11,23 @@ use Rattle.line.specs.Tables.{joined}
 use Rattle.line.specs.declared.Table.{Table}
 use Rattle.recording.specs.declared.Fault.{Fault}
 use Rattle.recording.specs.Reading.{found_at, starts_event}
-use Rattle.recording.specs.Cards.{room_for, cards_read, on_card, cards_on, cards_from, cards_of}
+use Rattle.recording.specs.Cards.{room_for, cards_read, stopped_by, table_by, stopped_at, on_card, cards_on, cards_from, cards_of}
 use Rattle.recording.specs.Next.{Lies, found_lies}
 use Rattle.recording.specs.declared.Record.{Record}
 use Rattle.recording.specs.declared.Record.TheVariants as record_of
 use Rattle.recording.specs.declared.Found.{Found}
 use Rattle.recording.specs.declared.Found.TheVariants as found
+use Rattle.recording.specs.declared.Ending.{Ending}
 use Rattle.recording.specs.declared.CardsEnding.TheVariants as cards
 use Rattle.recording.specs.declared.CardsRead.{CardsRead}
+
+-- where no record is found, the card stops
+stops : (go : ℕ → Table → CardsRead) (at : ℕ) (t : Table) (f : Result Found Fault) → ((r : Record) (next : ℕ) → f ≡ Ok (found.Record r next) → ⊥)
+    → cards_on go at t f ≡ stopped_at at t f
+stops go at t (Ok found.End) none = refl
+stops go at t (Ok found.Part) none = refl
+stops go at t (Ok (found.Record r next)) none = absurd (none r next refl)
+stops go at t (Err x) none = refl
 
 -- a record that is no chip ends the card
 ends : (go : ℕ → Table → CardsRead) (at : ℕ) (t : Table) (next : ℕ) (r : Record) → ((code kind : ℕ) → r ≡ record_of.Chip code kind → ⊥)
@@ -67,8 +76,9 @@ module _ (more : Bool) (s : List ℕ) (first : Table) (at : ℕ) (t : Table) (g 
           ∙ one_record
 
       -- no record can be taken
-      pub taking_stopped : (p : Result Found Fault) (x : CardsRead) → f ≡ p → ((go : ℕ → Table → CardsRead) → x ≡ cards_on go at t p) → x ≡ cards_of more s first
-      taking_stopped p x e h = h onward ∙ ap (cards_on onward at t) (sym e) ∙ by_found
+      pub taking_stopped : (x : Result Ending Fault) (u : Table) → ((r : Record) (next : ℕ) → f ≡ Ok (found.Record r next) → ⊥) → x ≡ stopped_by f → u ≡ table_by f t
+          → cards_read (cards.Stopped x) at u ≡ cards_of more s first
+      taking_stopped x u none a b = (λ j. cards_read (cards.Stopped (a j)) at (b j)) ∙ sym (stops onward at t f none) ∙ by_found
 
       module _ (r : Record) (next : ℕ) (k : f ≡ Ok (found.Record r next)) where
         by_record : on_card onward at t next r ≡ cards_of more s first

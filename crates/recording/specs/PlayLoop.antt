@@ -12,7 +12,7 @@ use Rattle.line.specs.Slots.{host_bits}
 use Rattle.line.proofs.Standing.{event_places, run_places}
 use Rattle.recording.specs.declared.Fault.{Fault}
 use Rattle.recording.specs.Reading.{found_at}
-use Rattle.recording.specs.Cards.{room_for}
+use Rattle.recording.specs.Cards.{room_for, stopped_by}
 use Rattle.recording.specs.Playing.{Ends, ends_of, Said, bits, none, Step, said_by, run_step, slots_step, record_step, Played, played, after, on_step, play_on, play_from, play_all, put_digits, Handed, handed, handed_from}
 use Rattle.recording.specs.Putting.{Written, wrote, unwritten, ends_after, Put, put, put_said, put_from, answers_most}
 use Rattle.recording.specs.Next.{Lies, found_lies}
@@ -24,6 +24,7 @@ use Rattle.recording.specs.declared.Record.TheVariants as record_of
 use Rattle.recording.specs.declared.Played.{Played as PlayedTo}
 use Rattle.recording.specs.declared.Found.{Found}
 use Rattle.recording.specs.declared.Found.TheVariants as found
+use Rattle.recording.specs.declared.Ending.{Ending}
 
 -- ---- how many answers a record has
 
@@ -79,9 +80,13 @@ abbrev number_written : Written → ℕ
 number_written (wrote n) = n
 number_written (unwritten r) = r
 
--- a record that a match found
-pub found_record : (f : Result Found Fault) (x : Found) (r q : Record) (n m : ℕ) → f ≡ Ok x → x ≡ found.Record r n → q ≡ r → m ≡ n → f ≡ Ok (found.Record q m)
-found_record f x r q n m e d a b = e ∙ (λ j. Ok (d j)) ∙ (λ j. Ok (found.Record (sym a j) (sym b j)))
+-- where no record is found, playing stops
+stops : (go : ℕ → Attached → Played) (s : List ℕ) (at : ℕ) (l : Attached) (f : Result Found Fault) → ((r : Record) (next : ℕ) → f ≡ Ok (found.Record r next) → ⊥)
+    → play_on go s at l f ≡ played [] (ends_of (stopped_by f)) at l
+stops go s at l (Ok found.End) absent = refl
+stops go s at l (Ok found.Part) absent = refl
+stops go s at l (Ok (found.Record r next)) absent = absurd (absent r next refl)
+stops go s at l (Err f) absent = refl
 
 -- what the player hands back, with the text and the buffers
 abbrev pub handed_by : List ℕ → List ℕ → List ℕ → PlayedTo → Handed
@@ -137,11 +142,13 @@ module _ (more : Bool) (s out₀ : List ℕ) (l₀ : Attached) (out : List ℕ) 
       (λ j. handed e at ((g.number ∙ ap length n) j) ((t ∙ g.text ∙ ap (λ (bs : List Bool). put_digits bs 0 out₀) n) j) k) ∙ ap (handed_from out₀) h
 
   -- no record can be taken
-  pub underway_stopped : (p : Result Found Fault) (e : Ends) → f ≡ p → ((go : ℕ → Attached → Played) → play_on go s at l p ≡ played [] e at l)
-      → handed e at place out l ≡ handed_from out₀ (play_all more s l₀)
-  underway_stopped p e k h =
-      let go = λ (n : ℕ) (m : Attached). play_from g.turns more s n m in
-      ends_here e out l refl (ap (after g.said) (sym (h go) ∙ ap (play_on go s at l) (sym k)) ∙ by_found)
+  pub underway_stopped : (x : Result Ending Fault) → ((r : Record) (next : ℕ) → f ≡ Ok (found.Record r next) → ⊥) → x ≡ stopped_by f
+      → handed (ends_of x) at place out l ≡ handed_from out₀ (play_all more s l₀)
+  underway_stopped x absent e =
+      ends_here (ends_of x) out l refl
+      (ap (λ (y : Result Ending Fault). after g.said (played [] (ends_of y) at l)) e
+      ∙ sym (ap (after g.said) (stops (λ n m. play_from g.turns more s n m) s at l f absent))
+      ∙ by_found)
 
   module _ (taken : Record) (next : ℕ) (k : f ≡ Ok (found.Record taken next)) where
     -- the record lies in the recording

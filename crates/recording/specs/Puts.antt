@@ -17,7 +17,7 @@ use Rattle.line.specs.Slots as slots
 use Rattle.line.specs.declared.Event.{Event}
 use Rattle.line.specs.declared.Refusal.{Refusal}
 use Rattle.recording.specs.Playing.{step, bits, said_by, event_step, run_step, slots_step, record_step, digit, put_digits}
-use Rattle.recording.specs.Putting.{wrote, unwritten, Put, put, put_from}
+use Rattle.recording.specs.Putting.{Written, wrote, unwritten, written_by, written_in, Put, put, put_from}
 use Rattle.recording.specs.declared.Record.{Record}
 use Rattle.recording.specs.Unpacked.{unpacked, bytes_length}
 
@@ -38,8 +38,8 @@ module _ (e : Event) (n : ℕ) (cs : List Chip) (ms ss : List ℕ) (a : Result B
   event_bit b d text k f t = ap (λ (x : List ℕ). put (wrote 1) x (attached m ds xs ys)) (t ∙ ap (λ (x : ℕ). set out place x) f) ∙ event_put (Ok b) k
 
   -- refused
-  pub event_refused : (r : Refusal) → a ≡ Err r → put (unwritten (number_of r)) out (attached m ds xs ys) ≡ put_from place out (event_step e (attached n cs ms ss))
-  event_refused r k = event_put (Err r) k
+  pub event_refused : (r : Refusal) (w : Written) → a ≡ Err r → w ≡ written_in (answered a) → put w out (attached m ds xs ys) ≡ put_from place out (event_step e (attached n cs ms ss))
+  event_refused r w k f = ap (λ (x : Written). put x out (attached m ds xs ys)) (f ∙ ap (λ (x : Result Bool Refusal). written_in (answered x)) k) ∙ event_put (Err r) k
 
 -- ---- a run of slots
 
@@ -130,8 +130,8 @@ module _ (n : ℕ) (cs : List Chip) (count : ℕ) (host answers ms ss : List ℕ
 
     -- refused
     pub slots_refused : (r : Refusal) → (count ≡ 0 → ⊥) → a ≡ Err r
-        → put (unwritten (number_of r)) out (attached m ds xs ys) ≡ put_from place out (slots_step count host (attached n cs ms ss))
-    slots_refused r z e = refused_by (verdict_of n cs ms ss) (number_of r) (by_verdict (Err r) e) ∙ judged_step z
+        → put (written_by a) out (attached m ds xs ys) ≡ put_from place out (slots_step count host (attached n cs ms ss))
+    slots_refused r z e = ap (λ (x : Result ℕ Refusal). put (written_by x) out (attached m ds xs ys)) e ∙ refused_by (verdict_of n cs ms ss) (number_of r) (by_verdict (Err r) e) ∙ judged_step z
 
 -- a run without a slot puts nothing
 pub slots_none : (count : ℕ) (host : List ℕ) (l : Attached) (place : ℕ) (out : List ℕ) → count ≡ 0 → put (wrote 0) out l ≡ put_from place out (slots_step count host l)

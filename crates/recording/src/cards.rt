@@ -1,7 +1,6 @@
 // The chips that a recording starts with.
 ghost use Rattle.std.specs.Prelude.{◌≡◌};
-ghost use Rattle.recording.specs.Cards.{room_for, cards_read, cards_of};
-ghost use Rattle.recording.specs.declared.CardsEnding.TheVariants.{Stopped};
+ghost use Rattle.recording.specs.Cards.{room_for, stopped_by, table_by, cards_of};
 
 use crate::{CardsEnding, CardsRead, Ending, Fault, Found, Record, reading};
 use line::Table;
@@ -16,14 +15,23 @@ pub fn room_for(n: usize) -> usize
     PLACES.saturating_sub(n)
 }
 
-// Reading a card that stops at an offset, where no record can be taken.
-fn stopped(ending: Result<Ending, Fault>, at: usize, table: Table) -> CardsRead
-    ensures { result ≡ cards_read (Stopped ending) at table }
+// How reading or playing ends where no record can be taken.
+pub fn stopped_by(found: Result<Found, Fault>) -> Result<Ending, Fault>
+    ensures { result ≡ stopped_by found }
 {
-    CardsRead {
-        ending: CardsEnding::Stopped(ending),
-        at,
-        table,
+    match found? {
+        Found::End => Ok(Ending::End),
+        Found::Part | Found::Record(..) => Ok(Ending::Part),
+    }
+}
+
+// The table where no record can be taken: none where one is refused.
+fn table_by(found: Result<Found, Fault>, t: Table) -> Table
+    ensures { result ≡ table_by found t }
+{
+    match found {
+        Ok(_) => t,
+        Err(_) => line::tables::blank(0),
     }
 }
 
@@ -43,17 +51,18 @@ pub fn read_cards(t: Table, s: &[u8], more: bool) -> CardsRead
         if reading::starts_event(s, at) {
             return events;
         }
-        match reading::record_at(s, at, room_for(table.n), false, more) {
-            Ok(Found::Record(taken, next)) => {
-                let Record::Chip { code, kind } = taken else {
-                    return events;
-                };
-                table = line::tables::with_chip(table, chip::set_up(code, kind));
-                at = next;
-            }
-            Ok(Found::End) => return stopped(Ok(Ending::End), at, table),
-            Ok(Found::Part) => return stopped(Ok(Ending::Part), at, table),
-            Err(fault) => return stopped(Err(fault), at, line::tables::blank(0)),
-        }
+        let found = reading::record_at(s, at, room_for(table.n), false, more);
+        let Ok(Found::Record(taken, next)) = found else {
+            return CardsRead {
+                ending: CardsEnding::Stopped(stopped_by(found)),
+                at,
+                table: table_by(found, table),
+            };
+        };
+        let Record::Chip { code, kind } = taken else {
+            return events;
+        };
+        table = line::tables::with_chip(table, chip::set_up(code, kind));
+        at = next;
     }
 }

@@ -34,6 +34,22 @@ fn put_digits(answers: &[u8], n: usize, out: &mut [u8], place: usize)
     }
 }
 
+// The refusal in the answer of an event; a bit has none, and counts as one answer.
+fn refused_event(answer: Result<bool, Refusal>) -> Result<usize, Refusal>
+    ensures { written_by result ≡ written_in (answered answer) }
+{
+    answer?;
+    Ok(1)
+}
+
+// The refusal in the answer of a record, by which playing ends.
+fn refused_record(answer: Result<usize, Refusal>) -> Result<Ending, Fault>
+    ensures { ends_of result ≡ ends_after (written_by answer) }
+{
+    answer?;
+    Ok(Ending::Part)
+}
+
 // An event, with its answer put into the text at a place.
 fn put_event(
     t: Table,
@@ -48,18 +64,16 @@ fn put_event(
 {
     let happened = line::take_event(t, e, ms, ss);
     let table = happened.table;
-    match happened.answer {
-        Ok(b) => {
-            base::put_at(out, place, digit_of(b));
-            RecordPut {
-                answer: Ok(1),
-                table,
-            }
-        }
-        Err(r) => RecordPut {
-            answer: Err(r),
+    let Ok(b) = happened.answer else {
+        return RecordPut {
+            answer: refused_event(happened.answer),
             table,
-        },
+        };
+    };
+    base::put_at(out, place, digit_of(b));
+    RecordPut {
+        answer: Ok(1),
+        table,
     }
 }
 
@@ -87,18 +101,16 @@ fn put_slots(
     let bytes = bits.len();
     let ran = line::take_slots(t, bits, count as usize, &mut packed[..bytes], ms, ss);
     let table = ran.table;
-    match ran.answer {
-        Ok(n) => {
-            put_digits(packed, n, out, place);
-            RecordPut {
-                answer: Ok(n),
-                table,
-            }
-        }
-        Err(r) => RecordPut {
-            answer: Err(r),
+    let Ok(n) = ran.answer else {
+        return RecordPut {
+            answer: ran.answer,
             table,
-        },
+        };
+    };
+    put_digits(packed, n, out, place);
+    RecordPut {
+        answer: Ok(n),
+        table,
     }
 }
 
@@ -155,23 +167,18 @@ fn play_all(t: Table, s: &[u8], more: bool, out: &mut [u8], ms: &mut [u8], ss: &
     // Stays a loop over offsets: each record, or run of records, says where the next one begins.
     loop {
         let room = cards::room_for(table.n);
-        match reading::record_at(s, at, room, true, more) {
-            Ok(Found::Record(taken, next)) => {
-                let joined = joining::with_next_runs(taken, s, next, room, more, &mut host);
-                let put = put_record(table, joined.record, &host, &mut packed, out, place, ms, ss);
-                table = put.table;
-                match put.answer {
-                    Ok(n) => {
-                        place += n;
-                        at = joined.next;
-                    }
-                    Err(r) => return played(Err(Fault::from(r)), at, place, table),
-                }
-            }
-            Ok(Found::End) => return played(Ok(Ending::End), at, place, table),
-            Ok(Found::Part) => return played(Ok(Ending::Part), at, place, table),
-            Err(fault) => return played(Err(fault), at, place, table),
-        }
+        let found = reading::record_at(s, at, room, true, more);
+        let Ok(Found::Record(taken, next)) = found else {
+            return played(cards::stopped_by(found), at, place, table);
+        };
+        let joined = joining::with_next_runs(taken, s, next, room, more, &mut host);
+        let put = put_record(table, joined.record, &host, &mut packed, out, place, ms, ss);
+        table = put.table;
+        let Ok(n) = put.answer else {
+            return played(refused_record(put.answer), at, place, table);
+        };
+        place += n;
+        at = joined.next;
     }
 }
 
