@@ -1,5 +1,5 @@
 -- Document 02, M-110: "Write an image as data records of 16 bytes in rising address order and an end record." The text of an image. What `:` and the
--- order of the bytes are is the request's "A line is ..".
+-- order of the bytes are is ruled (docs/DECISIONS.md).
 use Prim.Native.Char.{code as letter}
 use Rattle.std.specs.Prelude.{ℕ, zero, suc, ◌+◌, ◌/◌, ◌%◌, List, [], ◌∷◌, ◌++◌, length, take, drop, ◌==◌, Result, Ok, Err}
 use Rattle.base.specs.Bits.{both}
@@ -14,7 +14,7 @@ use Rattle.intelhex.specs.declared.Fault.{Fault}
 abbrev pub line_feed : ℕ
 line_feed = 0x0A
 
--- the line of a record that has no check byte yet: "`:`, then two hex digits .. for each byte (count, address high, address low, type, data, check byte), then LF"
+-- the line of a record that has no check byte yet: ruled: `:`, then two hex digits for each byte (count, address high, address low, type, data, check byte), then LF
 unfoldable pub line_of : List ℕ → List ℕ
 line_of bytes = letter ":" ∷ digits_of (bytes ++ (check_of bytes ∷ [])) ++ (line_feed ∷ [])
 
@@ -35,7 +35,7 @@ unfoldable pub data_lines : ℕ → ℕ → List ℕ → List ℕ
 data_lines zero address image = []
 data_lines (suc k) address image = line_of (data_record address (take data_bytes image)) ++ data_lines k (address + data_bytes) (drop data_bytes image)
 
--- the request: "164 data records of 16 bytes from 0000h to 0A30h, then `:00000001FF`"
+-- ruled: 164 data records of 16 bytes from 0000h to 0A30h, then `:00000001FF`
 abbrev pub data_records : ℕ
 data_records = 164
 

@@ -1,5 +1,5 @@
--- The request M-108, "How long is a morning round?": "Slots: 200 n + 352 m, at most 8,832 with 16 chips. Resets: n (1 if n is 0) and m
--- more, counted apart. Under refusal 4 both counts are the search's."
+-- M-108, "How long is a morning round?". Ruled: slots are 200 n + 352 m, at most 8,832 with 16 chips; resets are n (1 if n is 0) and m
+-- more, counted apart; under refusal 4 both counts are the search's.
 use Rattle.std.specs.Prelude.{ℕ, max, ◌+◌, ◌*◌, ◌<◌, ◌≤◌, true, List, [], ◌++◌, ◌≡◌, refl, leb, length, take, drop, Result, Ok}
 use Rattle.line.specs.declared.Refusal.{Refusal}
 use Rattle.std.proofs.Common.{arith, append-nil, sym, ◌∙◌, drop_of_length-le, take_all, length-take-le}
@@ -26,11 +26,11 @@ use Rattle.listing.proofs.Count.{once_distinct, no_more, order_distinct}
 use Rattle.listing.proofs.Public.{order_of, search_finds}
 use Rattle.morning.specs.Bearing.{borne_listed, borne_few, codes_few}
 
--- "n is the number of distinct codes"
+-- ruled: n is the number of distinct codes
 abbrev pub codes_count : Attached → ℕ
 codes_count l = distinct_in (codes_of (line_from l))
 
--- "m of them are borne by a DS28EC20" (which, says borne-exactly)
+-- ruled: m of them are borne by a DS28EC20 (which, says borne-exactly)
 abbrev pub borne_count : Attached → ℕ
 borne_count l = distinct_in (borne_on l)
 
@@ -38,7 +38,7 @@ borne_count l = distinct_in (borne_on l)
 abbrev pub Sized : List ℕ → Attached → Type 0
 Sized pages l = length pages ≡ pages_asked l.count l.lent.chips
 
--- THEOREM: "a page buffer not of 32 m bytes, m being that of the whole table": 32 m is what a table asks that 8 does not refuse
+-- THEOREM: a page buffer is of 32 m bytes, m being that of the whole table (ruled): 32 m is what a table asks that 8 does not refuse
 pub pages_asked_are : (l : Attached) → table_in_range l.count l.lent.chips ≡ true → pages_asked l.count l.lent.chips ≡ page_size * borne_count l
 unfolding pages_asked
 pages_asked_are l h = pick_true (leb l.count 16) _ 0 (le-leb l.count 16 (in_range_few l.count l.lent.chips h))
@@ -54,7 +54,7 @@ same_distinct xs ys m =
     let b = no_more (once_each ys) (once_each xs) (once_distinct ys) (λ x i. in_once x xs ((m x).1 (once_in x ys i))) in
     omega arith
 
--- THEOREM: "n and m by the set of codes": tables with the same codes, and the same ones of them borne, however often and in whatever order, have
+-- THEOREM: n and m go by the set of codes (ruled): tables with the same codes, and the same ones of them borne, however often and in whatever order, have
 -- the same n and m
 pub counts_by_codes : (l k : Attached) → SameMembers (codes_of (line_from l)) (codes_of (line_from k)) → SameMembers (borne_on l) (borne_on k)
     → (codes_count l ≡ codes_count k) × (borne_count l ≡ borne_count k)
@@ -71,7 +71,7 @@ pub record Complete (places : List ℕ) (l : Attached) (s : Search) : Type 0 whe
   pub codes : codes_count l ≤ 16
   pub borne : borne_count l ≤ codes_count l
 
--- and where it has fewer: "list filled to its end, no page read, the buffer as found", and all else is the search's
+-- and where it has fewer (ruled): the list filled to its end, no page read, the buffer as found, and all else is the search's
 pub record TooFew (places buffer : List ℕ) (l : Attached) (r : Round) : Type 0 where
   pub searched : r ≡ round (search_of places l) buffer
   pub answer : r.found.answer ≡ refused 4

@@ -1,5 +1,5 @@
--- The request M-108: "Refusals: 8; 5 for images or scratchpads; 5 for a page buffer not of 32 m bytes, m being that of the whole table; these
--- without an event, counts 0, list and pages as found. Then 4: list filled to its end, no page read, the buffer as found." Each exactly when,
+-- M-108, ruled: refusals 8; 5 for images or scratchpads; 5 for a page buffer not of 32 m bytes, m being that of the whole table; these
+-- without an event, counts 0, list and pages as found. Then 4: list filled to its end, no page read, the buffer as found. Each exactly when,
 -- for every input, and what it leaves.
 use Rattle.std.specs.Prelude.{ℕ, ◌<◌, ◌≤◌, Bool, true, false, List, ◌⊎◌, ◌≡◌, refl, eqb, leb, length, Result}
 use Rattle.line.specs.declared.Refusal.{Refusal}
@@ -55,7 +55,7 @@ module _ (list pages : List ℕ) (l : Attached) where
     pub exactly : Iff ((round_of list pages l).found.answer ≡ refused r) Holds
     pub leaves : (round_of list pages l).found.answer ≡ refused r → Leaves
 
-  -- "without an event, counts 0, list and pages as found"
+  -- ruled: without an event, counts 0, list and pages as found
   abbrev pub Eventless : ℕ → Type 0
   Eventless r = round_of list pages l ≡ round (outcome (refused r) 0 list 0 0 l) pages
 

@@ -27,7 +27,7 @@ room_for n = places - n
 abbrev pub cards_read : CardsEnding → ℕ → Table → CardsRead
 cards_read e at t = record { ending = e; at = at; table = t }
 
--- how reading ends where no record can be taken, and what is left. The request: "a refused card leaves none". The case of a record is never asked for: it
+-- how reading ends where no record can be taken, and what is left. Ruled: a refused card leaves none. The case of a record is never asked for: it
 -- stands there so that both are functions of all that can be found
 abbrev pub stopped_by : Result Found Fault → Result Ending Fault
 stopped_by (Ok found.End) = Ok ending.End

@@ -60,7 +60,7 @@ abbrev pub run_step : Result (Unit {0}) Refusal → List Bool → Attached → S
 run_step (Ok tt) hs l = let r = run_on hs (line_from l) in step (bits r.bits) (with_line l r.line)
 run_step (Err r) hs l = step (none (number_of r)) l
 
--- the request: "Count 0 is a record without an event"
+-- ruled: count 0 is a record without an event
 unfoldable pub slots_step : ℕ → List ℕ → Attached → Step
 slots_step count bytes l = pick (eqb count 0) (step (bits []) l) (run_step (verdict_at l) (host_bits count bytes) l)
 
@@ -84,7 +84,7 @@ played bs e at l = record { answers = bs; ends = e; at = at; line = l }
 abbrev pub after : List Bool → Played → Played
 after bs p = played (bs ++ p.answers) p.ends p.at p.line
 
--- how playing goes on after a record. The request: "The line left is that before the refused record or event"
+-- how playing goes on after a record. Ruled: the line left is that before the refused record or event
 abbrev pub on_step : (ℕ → Attached → Played) → ℕ → ℕ → Said → Attached → Played
 on_step go at next (bits bs) l = after bs (go next l)
 on_step go at next (none r) l = played [] (refusal r) at l
@@ -133,7 +133,7 @@ play_of more s out l = pick (eqb (length out) (8 * length s)) (handed_from out (
 
 -- the whole recording --------------------------------------------------------------------------------------
 
--- 02: "Images start as FFh"; the request: "16 places, .. scratchpads FFh also without a power on in the recording"
+-- 02: "Images start as FFh"; ruled: 16 places, and scratchpads FFh also without a power on in the recording
 abbrev pub set_up_line : Table → Attached
 set_up_line t = attached t.n t.chips (replicate (images_asked t.n t.chips) 0xFF) (replicate (pads_asked t.n t.chips) 0xFF)
 
@@ -141,7 +141,7 @@ set_up_line t = attached t.n t.chips (replicate (images_asked t.n t.chips) 0xFF)
 abbrev pub further : ℕ → Played → Played
 further n p = played p.answers p.ends (n + p.at) p.line
 
--- after the card: the events of the rest. The request: "A recording without cards is a line without chips"
+-- after the card: the events of the rest. Ruled: a recording without cards is a line without chips
 abbrev pub after_cards : List ℕ → ℕ → Table → CardsEnding → Played
 after_cards s at t cards.Events = further at (play_all false (drop at s) (set_up_line t))
 after_cards s at t (cards.Stopped e) = played [] (ends_of e) at (set_up_line t)

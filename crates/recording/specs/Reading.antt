@@ -1,7 +1,7 @@
 -- Document 02, M-103: "Its records are length first, little-endian, with a two-byte kind: card records as in 01, which must come first; 16, a
 -- run of slots (a 2-byte count, then host bits packed least significant first, unused bits 0); 17, reset; 18, power on; 19, outside levels
--- (chip number, levels, a byte each)". What stands at an offset of a recording, whether more of it may come or not. "The request" is the issue that
--- settled the rest of M-103; docs/DECISIONS.md has its sentences.
+-- (chip number, levels, a byte each)". What stands at an offset of a recording, whether more of it may come or not. What is ruled of M-103
+-- stands in docs/DECISIONS.md.
 use Rattle.std.specs.Prelude.{ℕ, ◌+◌, ◌-◌, Bool, true, false, not, List, [], ◌∷◌, eqb, ltb, leb, length, take, drop, get_or, Option, Some, None, Result, Ok, Err}
 use Rattle.base.specs.Pick.{pick}
 use Rattle.base.specs.Bits.{both}
@@ -36,7 +36,7 @@ number_of_fault (fault.OnLine r) = number_of r
 unfoldable pub is_event : ℕ → Bool
 is_event kind = both (leb 16 kind) (leb kind 19)
 
--- the length that a record of these kinds has, where its body starts. The request: "16: 4 + ⌈count / 8⌉; 17 and 18: 2; 19: 4", which counts the two bytes
+-- the length that a record of these kinds has, where its body starts. Ruled: 4 + ⌈count / 8⌉ of 16, 2 of 17 and 18, 4 of 19, which counts the two bytes
 -- of the kind
 unfoldable pub length_asked : List ℕ → ℕ → ℕ → ℕ
 length_asked s body kind = pick (eqb kind 16) (4 + bytes_asked (number_at s body 2)) (pick (eqb kind 19) 4 2)
