@@ -175,6 +175,11 @@ pub turn_is : (d : Plan) (v : Bool) (c : Chip) (p : Spot) (ms ss : List ℕ) (a 
 unfolding turn_of
 turn_is d v c p ms ss a x y s h e = λ j. turned (h j).chip (e j) (h j).memory (h j).pad
 
+pub turned_is : (d : Result Plan Refusal) (v : Bool) (c : Chip) (p : Spot) (ms ss : List ℕ) (a : Chip) (x y : List ℕ) (s : Spot) → whole a x y ≡ does_by d v c p ms ss → s ≡ spot_after c.kind p
+    → turned a s x y ≡ turn_by d v c p ms ss
+turned_is (Ok d) v c p ms ss a x y s h e = turn_is d v c p ms ss a x y s h e
+turned_is (Err r) v c p ms ss a x y s h e = λ j. turned (h j).chip (e j) (h j).memory (h j).pad
+
 -- the loops of the code: a turn, and the end
 over_suc : {S : Type 0} (f : Chip → S → S) (k n i : ℕ) (cs : List Chip) (s r : S) → n - i ≡ suc k → r ≡ f (get_or cs i no_chip) s → over f (n - i) i cs s ≡ over f k (i + 1) cs r
 unfolding over

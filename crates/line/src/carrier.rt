@@ -291,12 +291,11 @@ pub fn turn(
 ) -> Turned
     ensures { turned result.chip result.spot ms.new ss.new ≡ turn_by plan value c p ms.old ss.old }
 {
-    match plan {
-        Ok(plan) => steps::turn(c, p, plan, value, ms, ss),
-        Err(_) => Turned {
-            chip: c,
-            spot: spot_after(p, c.kind),
-        },
+    let after = does_at(c, p, plan, value, ms, ss);
+    let spot = spot_after(p, c.kind);
+    Turned {
+        chip: after,
+        spot: spot,
     }
 }
 

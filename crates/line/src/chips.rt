@@ -8,7 +8,7 @@ ghost use Rattle.line.specs.Event.{answered, outcome, event_of};
 ghost use Rattle.line.specs.Layout.{lent, capped};
 ghost use Rattle.line.specs.Carrier.{first_spot, surveyed, bus_over, acts};
 
-use crate::{Event, Plan, Refusal, Survey, Table, carrier, steps};
+use crate::{Event, Plan, Refusal, Survey, Table, carrier};
 use chip::Chip;
 
 // Who carries chips: how many there are, and what stands at their places.
@@ -97,9 +97,9 @@ pub fn survey<C: Chips>(chips: &C, chip: u32) -> Survey
 pub fn bus_value<C: Chips>(chips: &C, plan: Plan, ms: &[u8], ss: &[u8]) -> bool
     ensures { result ≡ (bus_over plan (capped (C.number chips.now)) (C.places chips.now) ms.now ss.now).value }
 {
-    let mut bus = steps::first_bus(plan);
+    let mut bus = carrier::first_bus(Ok(plan));
     for i in 0..crate::used_places(chips.number()) {
-        bus = steps::bus_with(chips.chip(i), bus, plan, ms, ss);
+        bus = carrier::bus_with(chips.chip(i), bus, Ok(plan), ms, ss);
     }
     bus.value
 }
@@ -113,7 +113,7 @@ pub fn all_turn<C: Chips>(chips: &mut C, plan: Plan, value: bool, ms: &mut [u8],
 {
     let mut spot = carrier::first_spot();
     for i in 0..crate::used_places(chips.number()) {
-        let turned = steps::turn(chips.chip(i), spot, plan, value, ms, ss);
+        let turned = carrier::turn(chips.chip(i), spot, Ok(plan), value, ms, ss);
         chips.put(i, turned.chip);
         spot = turned.spot;
     }
@@ -145,5 +145,6 @@ pub fn take_event<C: Chips>(
 {
     let survey = survey(chips, e.chip);
     let plan = carrier::plan_of(survey, chips.number(), e, ms.len(), ss.len())?;
-    Ok(carry_out(chips, plan, ms, ss))
+    let value = carry_out(chips, plan, ms, ss);
+    carrier::answer_of(Ok(plan), value)
 }

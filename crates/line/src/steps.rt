@@ -2,10 +2,10 @@
 ghost use Rattle.std.specs.Prelude.{◌≡◌};
 ghost use Rattle.chip.specs.Chip.{whole};
 ghost use Rattle.line.specs.Line.{host_of};
-ghost use Rattle.line.specs.Carrier.{first_bus, puts_at, bus_with, does_at, turned, turn_of};
+ghost use Rattle.line.specs.Carrier.{first_bus, puts_at, bus_with, does_at};
 
 use crate::carrier::{first_spot, outside_if, spot_after};
-use crate::{Act, Bus, Plan, Spot, Turned, loops};
+use crate::{Act, Bus, Plan, Spot, loops};
 use chip::Chip;
 
 // What the host puts on the bus.
@@ -64,17 +64,5 @@ pub fn does_at(c: Chip, p: Spot, plan: Plan, value: bool, ms: &mut [u8], ss: &mu
         Plan::Reset => loops::act_at(c, Act::Reset, p.image, p.pad, ms, ss),
         Plan::PowerOn => loops::act_at(c, Act::PowerOn, p.image, p.pad, ms, ss),
         Plan::Outside { chip, outside } => outside_if(p.place == chip, c, outside),
-    }
-}
-
-// A turn: one chip, and on to the next.
-pub fn turn(c: Chip, p: Spot, plan: Plan, value: bool, ms: &mut [u8], ss: &mut [u8]) -> Turned
-    ensures { turned result.chip result.spot ms.new ss.new ≡ turn_of plan value c p ms.old ss.old }
-{
-    let after = does_at(c, p, plan, value, ms, ss);
-    let spot = spot_after(p, c.kind);
-    Turned {
-        chip: after,
-        spot: spot,
     }
 }

@@ -63,5 +63,6 @@ pub fn take_event(table: &mut [u8], e: Event, ms: &mut [u8], ss: &mut [u8]) -> R
         ≡ event_bytes table.old e ms.old ss.old }
 {
     let plan = plan_bytes(table, e, ms, ss)?;
-    Ok(carry_out(table, e, plan, ms, ss))
+    let value = carry_out(table, e, plan, ms, ss);
+    line::carrier::answer_of(Ok(plan), value)
 }

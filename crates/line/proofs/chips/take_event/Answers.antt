@@ -25,7 +25,8 @@ returns-clause-event g c =
     let cs = g.C.Chips.places a.chips.now in
     let l = c.survey-survey in
     let q = c.number in
-    let r = c.carry_out in
-    carried_done n cs a.ms.now a.ss.now q.ensures.placed a.e l.result l.ensures c.in_ok-plan.plan
+    let r = c.carry_out-value in
+    ap (λ (x : Result Bool Refusal). outcome (answered x) (g.C.Chips.number r.new.chips) (lent (g.C.Chips.places r.new.chips) r.new.ms r.new.ss)) c.answer_of.ensures
+    ∙ carried_done n cs a.ms.now a.ss.now q.ensures.placed a.e l.result l.ensures c.in_ok-plan.plan
     (c.in_ok-plan.ensures ∙ ap (λ k. plan_seen l.result k a.e (length a.ms.now) (length a.ss.now)) q.ensures.value)
     r.result _ _ _ _ r.ensures.value r.ensures.ss_after r.ensures.as_many

@@ -11,3 +11,8 @@ returns-in_err-plan c =
     let r : c.from_residual.result ≡ Err c.in_err-plan.field-0.0 = search rules in
     ap (λ (x : Result Bool Refusal). event_left (answer_number (answered x)) a.table.now a.ms.now a.ss.now) r
     ∙ none_done a.table.now a.e a.ms.now a.ss.now (Err c.in_err-plan.field-0.0) c.in_err-plan.ensures (Err c.in_err-plan.field-0.0) refl refl
+
+pub returns : goal.returns
+returns c =
+    let r = c.carry_out-value in
+    ap (λ (x : Result Bool Refusal). event_left (answer_number (answered x)) r.new.table r.new.ms r.new.ss) c.answer_of.ensures ∙ r.ensures
