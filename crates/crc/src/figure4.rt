@@ -61,11 +61,15 @@ pub fn step(r: ShiftRegister, input: bool) -> ShiftRegister
 pub fn take_byte(r: ShiftRegister, b: u8) -> ShiftRegister
     ensures { result ≡ drawn_byte r b }
 {
-    let mut after = r;
-    for k in 0..8 {
-        after = step(after, base::bit_of(b as u64, k));
-    }
-    after
+    let n = b as u64;
+    let r1 = step(r, base::bit_of(n, 0));
+    let r2 = step(r1, base::bit_of(n, 1));
+    let r3 = step(r2, base::bit_of(n, 2));
+    let r4 = step(r3, base::bit_of(n, 3));
+    let r5 = step(r4, base::bit_of(n, 4));
+    let r6 = step(r5, base::bit_of(n, 5));
+    let r7 = step(r6, base::bit_of(n, 6));
+    step(r7, base::bit_of(n, 7))
 }
 
 // The register read as a byte: the 8th stage, which leaves first, is bit 0; the 1st is bit 7.
