@@ -36,10 +36,13 @@ impl Process<'_> {
         happened.answer
     }
 
-    // Puts the run that waits on the line, and answers each of its slots.
+    // Puts the run that waits on the line, if one does, and answers each of its slots.
     fn end_run(&mut self)
         ensures { self.new.run.slots ≡ 0 }
     {
+        if self.run.slots == 0 {
+            return;
+        }
         let run = &self.run;
         let slots = run.slots;
         let bytes = line::bytes_asked(slots);
