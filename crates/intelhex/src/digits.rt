@@ -7,7 +7,7 @@ ghost use Rattle.intelhex.specs.Bytes.{is_digit, worth, byte_of, sum_of, check_o
 pub fn is_digit(c: u8) -> bool
     ensures { result ≡ is_digit c }
 {
-    matches!(c, b'0'..=b'9' | b'A'..=b'F' | b'a'..=b'f')
+    b'0' <= c && c <= b'9' || b'A' <= c && c <= b'F' || b'a' <= c && c <= b'f'
 }
 
 // What a hex digit is worth, 0 for any other character.

@@ -6,7 +6,7 @@ pub slice_bounds-take_line-end : goal.slice_bounds-take_line-end
 slice_bounds-take_line-end c = sym (length-take-le _ _ (line_within false c.args.text.now c.args.text.now _ _ _ c.standing_in.ensures c.in-Line.is))
 
 pub take_line-requires : goal.take_line-requires
-take_line-requires c = line_few false c.args.text.now c.args.text.now _ _ _ c.standing_in.ensures c.in-Line.is
+take_line-requires c = (line_few false c.args.text.now c.args.text.now _ _ _ c.standing_in.ensures c.in-Line.is, c.requires)
 
 pub returns-in-Endless : goal.returns-in-Endless
 returns-in-Endless c = by_standing _ _ _ _ _ _ c.standing_in.ensures c.in-Endless.is refl
