@@ -109,6 +109,10 @@ fn move_down(at: usize, held: usize, bytes: &mut [u8]) -> usize
     ensures value { result ≡ held - at }
     ensures bytes_after { bytes.new ≡ moved_down at (held - at) bytes.old }
 {
+    // nothing was taken, and nothing moves: a record that comes in pieces is not copied onto itself at each
+    if at == 0 {
+        return held;
+    }
     let from = at.min(held);
     bytes.copy_within(from..held, 0);
     held - from

@@ -100,10 +100,11 @@ impl Outputs {
         self.checked(self.out.print(value))
     }
 
-    // Writes a line: a text, and a number after it.
+    // Writes a line: a text, and a number after it, each part by itself.
     fn write_line(self, before: &[u8], n: u64) -> Result<(), Told> {
         self.write(before)?;
-        self.print(format_args!("{n}\n"))
+        self.print(n)?;
+        self.write(b"\n")
     }
 }
 
@@ -133,8 +134,11 @@ pub fn tell_failed(errors: Stderr, name: &[u8], why: io::Error) {
     let text = room.into_inner();
     let n = input::within(place, &text);
     let words = str::from_utf8(&text[..n]).map_or("", words_in);
+    // Each part is tried even where one before it was not written.
     tell(errors, name);
-    let _ = errors.print(format_args!(": {words}\n"));
+    tell(errors, b": ");
+    tell(errors, words.as_bytes());
+    tell(errors, b"\n");
 }
 
 // The system's number for a path that leads to no file.
@@ -164,5 +168,5 @@ pub fn say_line(to: Outputs, before: &[u8], n: u64) {
 
 // Writes `refused R`.
 pub fn say_refused(to: Outputs, number: u8) {
-    let _ = to.print(format_args!("refused {number}\n"));
+    say_line(to, b"refused ", number as u64);
 }

@@ -3,6 +3,7 @@
 #![tactic(auto)]
 
 mod reading;
+mod telling;
 mod words;
 mod writing;
 

@@ -1,4 +1,5 @@
 // A text as an image, in pieces: a line in form has few characters, so that no more than a buffer is at hand of a file of any length.
+use crate::telling;
 use console::{Outputs, Told, input};
 use intelhex::{Ending, Fault};
 use std::io::{Read, Stderr};
@@ -9,7 +10,7 @@ const BYTES_MOST: usize = 65536;
 // Tells the line at fault, of which so many stand before it, and what is wrong with it.
 fn tell_refused(errors: Stderr, fault: Fault, before: u64) {
     let line = console::count_on(before, 1);
-    let _ = errors.print(format_args!("hexfile: line {line}: {fault}\n"));
+    telling::tell(errors, format_args!("hexfile: line {line}: {fault}\n"));
 }
 
 // Reads a text, and writes the image that it gives, or why it gives none: the lines at hand are read into the image, and more is fetched where

@@ -1,4 +1,5 @@
 // An image as text.
+use crate::telling;
 use console::{Outputs, Told, input};
 use intelhex::{Fault, IMAGE_SIZE, TEXT_SIZE};
 use std::io::{Read, Stderr};
@@ -8,11 +9,11 @@ const BYTES_MOST: usize = IMAGE_SIZE + 1;
 
 // Tells why so many bytes are not written as text.
 fn tell_refused(errors: Stderr, fault: Fault, bytes: usize) {
-    let _ = if bytes < BYTES_MOST {
-        errors.print(format_args!("hexfile: {fault}, this has {bytes}\n"))
+    if bytes < BYTES_MOST {
+        telling::tell(errors, format_args!("hexfile: {fault}, this has {bytes}\n"));
     } else {
-        errors.print(format_args!("hexfile: {fault}, this has more\n"))
-    };
+        telling::tell(errors, format_args!("hexfile: {fault}, this has more\n"));
+    }
 }
 
 // Reads an image, and writes it as text, or why not.

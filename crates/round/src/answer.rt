@@ -29,7 +29,12 @@ fn write_round(to: Outputs, found: Found, pages: &[u8]) -> Result<(), Told> {
         }
     }
     let (codes, resets, slots) = (found.listed, found.resets.0, found.slots.0);
-    to.print(format_args!("{codes} codes {resets} resets {slots} slots\n"))?;
+    to.print(codes)?;
+    to.write(b" codes ")?;
+    to.print(resets)?;
+    to.write(b" resets ")?;
+    to.print(slots)?;
+    to.write(b" slots\n")?;
     if found.answer.is_err() {
         console::say_refused(to, search::number_of(found.answer));
     }
