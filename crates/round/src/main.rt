@@ -65,9 +65,15 @@ fn with_table(
 const CARD_MOST: usize = 4096;
 
 // Reads the images, if a file of them is named, then the card, and makes the round on the line that it sets up. What cannot be read is told already.
-fn go<R: Env + Files>(rt: &R, mut stdin: Stdin, to: Outputs, r: Request) -> Result<(), Told> {
+fn go<R: Env + Files>(
+    rt: &R,
+    mut stdin: Stdin,
+    to: Outputs,
+    r: Request,
+    argument: &mut [u8],
+) -> Result<(), Told> {
     let mut images = [0xFFu8; images::ROOM];
-    let bytes = images::load(rt, to.errors, r.images, &mut images)?;
+    let bytes = images::load(rt, to.errors, r.images, argument, &mut images)?;
     let mut card = [0u8; CARD_MOST];
     let n = input::fill(&mut stdin, to.errors, b"standard input", &mut card)?;
     let set_up = card::set_up(&card[..n], 16, line::tables::blank(0));
@@ -85,9 +91,11 @@ fn main(rt: HostRuntime) {
         out: rt.stdout(),
         errors: rt.stderr(),
     };
-    match arguments::read(&rt) {
+    // one room for every argument, so that the stack holds no two of them at once
+    let mut room = console::argument_room();
+    match arguments::read(&rt, &mut room) {
         Some(r) => {
-            let _ = go(&rt, rt.stdin(), to, r);
+            let _ = go(&rt, rt.stdin(), to, r, &mut room);
         }
         None => say_usage(to.errors),
     }
