@@ -7,6 +7,7 @@ mod words;
 use console::{Outputs, Told, input};
 use setpoints::{Fault, Kind};
 use std::io::{Stderr, Stdin};
+use std::rt::Env;
 use words::Command;
 
 // The most that is read: one byte more than a page has, so that a page is told from what only begins with one.
@@ -57,6 +58,17 @@ fn write(mut input: Stdin, to: Outputs, kind: Kind, value: i64) -> Result<(), To
     }
 }
 
+// Writes the value that an argument says. Apart from `main`, so that a run that reads has no room for an argument to fill with zeros.
+fn write_said<E: Env>(env: &E, input: Stdin, to: Outputs, kind: Kind) {
+    let mut text = console::argument_room();
+    match numerals::read_number(console::argument(env, 2, &mut text)) {
+        Some(value) => {
+            let _ = write(input, to, kind, value);
+        }
+        None => say_usage(to.errors),
+    }
+}
+
 fn main(rt: HostRuntime) {
     let input = rt.stdin();
     let to = Outputs {
@@ -70,15 +82,7 @@ fn main(rt: HostRuntime) {
         Some(Command::Read(kind)) if count == 2 => {
             let _ = read(input, to, kind);
         }
-        Some(Command::Write(kind)) if count == 3 => {
-            let mut text = console::argument_room();
-            match numerals::read_number(console::argument(&rt, 2, &mut text)) {
-                Some(value) => {
-                    let _ = write(input, to, kind, value);
-                }
-                None => say_usage(to.errors),
-            }
-        }
+        Some(Command::Write(kind)) if count == 3 => write_said(&rt, input, to, kind),
         _ => say_usage(to.errors),
     }
 }
