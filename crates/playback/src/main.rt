@@ -81,7 +81,35 @@ fn read_card(source: &mut Source) -> Result<(Table, CardsEnding), Told> {
     Ok((table, CardsEnding::Stopped(Ok(Ending::Part))))
 }
 
-// Plays the events on the line that the card set up: first those that came with the card, then those that come.
+// A turn of the events: what is at hand of them is played and its answers are written, and more is fetched where more is awaited. Whether there is
+// another turn.
+fn play_turn(
+    source: &mut Source,
+    to: Outputs,
+    table: &mut Table,
+    text: &mut [u8; TEXT_MOST],
+    images: &mut [u8],
+    pads: &mut [u8],
+) -> Result<bool, Told> {
+    let bytes = source.at_hand();
+    let room = &mut text[..8 * bytes.len()];
+    let played = recording::play(*table, bytes, source.hand.more, room, images, pads);
+    source.take(played.at);
+    *table = played.table;
+    to.write(&text[..input::within(played.answers, text)])?;
+    let ending = played.ending;
+    match ending {
+        Ok(Ending::Part) => source.fetch()?,
+        _ => {
+            write_end(to, ending, source.hand.offset)?;
+            return Ok(false);
+        }
+    }
+    Ok(true)
+}
+
+// Plays the events on the line that the card set up: first those that came with the card, then those that come. The first turn stands before the
+// loop: called from two places, a turn stays a function, and the table is copied as it lies.
 fn play_events(source: &mut Source, to: Outputs, start: Table) -> Result<(), Told> {
     let mut images = terminal::image_room();
     let mut pads = terminal::pad_room();
@@ -89,18 +117,12 @@ fn play_events(source: &mut Source, to: Outputs, start: Table) -> Result<(), Tol
     let pads = &mut pads[..line::pads_asked(start)];
     let mut text = [0u8; TEXT_MOST];
     let mut table = start;
+    let mut goes_on = play_turn(source, to, &mut table, &mut text, images, pads)?;
     for _ in 0..u64::MAX {
-        let bytes = source.at_hand();
-        let room = &mut text[..8 * bytes.len()];
-        let played = recording::play(table, bytes, source.hand.more, room, images, pads);
-        source.take(played.at);
-        table = played.table;
-        to.write(&text[..input::within(played.answers, &text)])?;
-        let ending = played.ending;
-        match ending {
-            Ok(Ending::Part) => source.fetch()?,
-            _ => return write_end(to, ending, source.hand.offset),
+        if !goes_on {
+            break;
         }
+        goes_on = play_turn(source, to, &mut table, &mut text, images, pads)?;
     }
     Ok(())
 }
