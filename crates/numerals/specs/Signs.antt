@@ -1,6 +1,6 @@
 -- Laws: numbers with their sign, as words of 64 bits hold them.
 use Prim.Native.Char.{code as letter}
-use Rattle.std.specs.Prelude.{ℕ, zero, suc, ◌≤◌, Bool, true, false, List, [], ◌∷◌, ◌≡◌, refl, eqb, ltb, get_or, take, drop, ◌&&◌, ℤ, pos, negsuc, neg_ℤ, ◌-ℤ◌, Some, None}
+use Rattle.std.specs.Prelude.{ℕ, zero, suc, ◌≤◌, Bool, true, false, List, [], ◌∷◌, ◌≡◌, refl, eqb, ltb, get_or, take, drop, ◌&&◌, ℤ, pos, negsuc, neg_ℤ, ◌-ℤ◌, Option, Some, None}
 use Rattle.std.proofs.Common.{arith, ◌∙◌, ap, sym, subst, ltb-true, ltb-false, SFits, to_z, of_z}
 use Rattle.std.proofs.Math.IntN.{+ℤ_idl}
 use Rattle.std.specs.Int.{w64}
@@ -43,21 +43,20 @@ pub some_most : (d : Digits) (n : ℕ) → Some n ≡ counted_by d → n ≤ mos
 some_most (digits m) n e = let h = kept_most m in let q : n ≡ kept m = cc in omega arith
 some_most no_digits n e = cc
 
-by_sign : (sign : ℕ → ℤ) → ((n : ℕ) → sign (kept n) ≡ capped (sign n)) → (d : Digits) (n : ℕ) → Some n ≡ counted_by d → Some (sign n) ≡ numeral_by (signed_as sign d)
-by_sign sign h (digits m) n e = let q : n ≡ kept m = cc in ap (λ (k : ℕ). Some (sign k)) q ∙ ap (λ (z : ℤ). Some z) (h m)
-by_sign sign h no_digits n e = cc
+-- what a sign makes of what digits come to
+abbrev pub with_sign : (ℕ → ℤ) → Option ℕ → Option ℤ
+with_sign sign (Some n) = Some (sign n)
+with_sign sign None = None
 
-read_plain : (d : Digits) (n : ℕ) → Some n ≡ counted_by d → Some (pos n) ≡ numeral_by (signed_as pos d)
+by_sign : (sign : ℕ → ℤ) → ((n : ℕ) → sign (kept n) ≡ capped (sign n)) → (d : Digits) → with_sign sign (counted_by d) ≡ numeral_by (signed_as sign d)
+by_sign sign h (digits n) = ap (λ (z : ℤ). Some z) (h n)
+by_sign sign h no_digits = refl
+
+pub read_plain : (d : Digits) → with_sign pos (counted_by d) ≡ numeral_by (signed_as pos d)
 read_plain = by_sign pos kept_plain
 
-read_minus : (d : Digits) (n : ℕ) → Some n ≡ counted_by d → Some (minus n) ≡ numeral_by (signed_as minus d)
+pub read_minus : (d : Digits) → with_sign minus (counted_by d) ≡ numeral_by (signed_as minus d)
 read_minus = by_sign minus kept_minus
-
--- and where they come to none
--- where they come to none, there is none
-none_signed : (sign : ℕ → ℤ) (d : Digits) → None ≡ counted_by d → None ≡ numeral_by (signed_as sign d)
-none_signed sign (digits m) e = cc
-none_signed sign no_digits e = refl
 
 -- ---- the sign that a text begins with
 pub begins : (text : List ℕ) → pointwise eqb (take 1 text) (letter "-" ∷ []) ≡ eqb (get_or text 0 0) (letter "-")
@@ -75,10 +74,10 @@ module _ (text : List ℕ) (e : pointwise eqb (take 1 text) (letter "-" ∷ []) 
 
   module _ (behind : List ℕ) (d : behind ≡ drop 1 text) where
     pub minus_number : (n : ℕ) → Some n ≡ counted_by (digits_in behind) → Some (minus n) ≡ numeral_of text
-    minus_number n q = read_minus _ n (q ∙ ap (λ (l : List ℕ). counted_by (digits_in l)) d) ∙ sym (ap numeral_by said_minus)
+    minus_number n q = ap (with_sign minus) (q ∙ ap (λ (l : List ℕ). counted_by (digits_in l)) d) ∙ read_minus _ ∙ sym (ap numeral_by said_minus)
 
     pub minus_none : None ≡ counted_by (digits_in behind) → None ≡ numeral_of text
-    minus_none q = none_signed minus _ (q ∙ ap (λ (l : List ℕ). counted_by (digits_in l)) d) ∙ sym (ap numeral_by said_minus)
+    minus_none q = ap (with_sign minus) (q ∙ ap (λ (l : List ℕ). counted_by (digits_in l)) d) ∙ read_minus _ ∙ sym (ap numeral_by said_minus)
 
 module _ (text : List ℕ) (e : pointwise eqb (take 1 text) (letter "-" ∷ []) ≡ false) where
   said_plain : said text ≡ signed_as pos (digits_in text)
@@ -86,10 +85,10 @@ module _ (text : List ℕ) (e : pointwise eqb (take 1 text) (letter "-" ∷ []) 
   said_plain = pick_false _ _ _ (sym (begins text) ∙ e)
 
   pub plain_number : (n : ℕ) → Some n ≡ counted_by (digits_in text) → Some (pos n) ≡ numeral_of text
-  plain_number n q = read_plain _ n q ∙ sym (ap numeral_by said_plain)
+  plain_number n q = ap (with_sign pos) q ∙ read_plain _ ∙ sym (ap numeral_by said_plain)
 
   pub plain_none : None ≡ counted_by (digits_in text) → None ≡ numeral_of text
-  plain_none q = none_signed pos _ q ∙ sym (ap numeral_by said_plain)
+  plain_none q = ap (with_sign pos) q ∙ read_plain _ ∙ sym (ap numeral_by said_plain)
 
 -- ---- such a number as a word of 64 bits holds it, and its negative
 module _ (n : ℕ) (h : n ≤ most) where
@@ -99,7 +98,7 @@ module _ (n : ℕ) (h : n ≤ most) where
   pub number_word : to_z w64 n ≡ pos n
   number_word = to_z_pos w64 n number_fits.sfits
 
-  minus_is : pos 0 -ℤ to_z w64 n ≡ minus n
+  pub minus_is : pos 0 -ℤ to_z w64 n ≡ minus n
   minus_is = +ℤ_idl (neg_ℤ (to_z w64 n)) ∙ ap neg_ℤ number_word
 
   minus_small : (m : ℕ) → m ≤ most → SFits w64 (minus m)

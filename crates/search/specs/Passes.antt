@@ -148,7 +148,7 @@ module _ (places : ℕ) (l₀ l : Attached) (list₀ list : List ℕ) (want n sl
       ∙ ap (λ (k : Host Listed). more n slots (play wire k l)) (sym (pick_true (eqb (places - n) 0) _ _ (eq-eqb (places - n) 0 (omega arith)))) ∙ g.left
 
 -- a list that was filled to its first n places is what the host listed, then what stood there
-found_list : (n : ℕ) (list list₀ : List ℕ) (l : Attached) (b : Bool) (r s : ℕ) (a : Searched) → n ≤ length list → drop n list ≡ drop n list₀ → a ≡ complete_or4 b
+pub found_list : (n : ℕ) (list list₀ : List ℕ) (l : Attached) (b : Bool) (r s : ℕ) (a : Searched) → n ≤ length list → drop n list ≡ drop n list₀ → a ≡ complete_or4 b
     → outcome a n list r s l ≡ from_played list₀ (played_list l (take n list) b r s)
 found_list n list list₀ l b r s a h e f =
     let k : length (take n list) ≡ n = length-take-le n list h in
