@@ -11,3 +11,4 @@ pub mod Putting
 pub mod Sound
 pub mod Decoding
 pub mod Turning
+pub mod Words

@@ -1,9 +1,14 @@
 // What is wrong with a line, or with an image, in words.
+ghost use Rattle.std.specs.Prelude.{Some};
+ghost use Rattle.intelhex.specs.Words.{words_of};
+
 use crate::{Fault, IMAGE_SIZE};
 use std::error::Error;
 use std::fmt;
 
 impl fmt::Display for Fault {
+    ghost output = { λ f. Some (words_of f) };
+
     fn fmt<W: fmt::Write>(&self, f: &mut fmt::Formatter<W>) -> fmt::Result {
         let words = match self {
             Fault::WrongSize => return write!(f, "an image has {IMAGE_SIZE} bytes"),
