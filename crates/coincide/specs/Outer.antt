@@ -22,6 +22,9 @@ use Rattle.coincide.specs.Settled.{Settled, Fixed, two_facts}
 
 -- card
 
+pub card_U8FromFault_from : Settled card.U8FromFault.from.ended card_proofs.U8FromFault.from.Reads.Learnt
+card_U8FromFault_from κs a x y v w p q = (p ∙ sym q, refl)
+
 pub card_is_known : Settled card.is_known.ended card_proofs.is_known.Reads.Learnt
 card_is_known κs a x y v w p q = (p ∙ sym q, refl)
 
@@ -29,6 +32,12 @@ pub card_entry_at : Settled card.entry_at.ended card_proofs.entry_at.Reads.Learn
 card_entry_at κs a x y v w p q = (p ∙ sym q, refl)
 
 -- recording
+
+pub recording_FaultFromCardFault_from : Settled recording.FaultFromCardFault.from.ended recording_proofs.FaultFromCardFault.from.Reads.Learnt
+recording_FaultFromCardFault_from κs a x y v w p q = (p ∙ sym q, refl)
+
+pub recording_FaultFromRefusal_from : Settled recording.FaultFromRefusal.from.ended recording_proofs.FaultFromRefusal.from.Reads.Learnt
+recording_FaultFromRefusal_from κs a x y v w p q = (p ∙ sym q, refl)
 
 pub recording_number_of : Settled recording.number_of.ended recording_proofs.number_of.Reads.Learnt
 recording_number_of κs a x y v w p q = (p ∙ sym q, refl)
@@ -40,6 +49,9 @@ pub recording_record_at : Settled recording.record_at.ended recording_proofs.rec
 recording_record_at κs a x y v w p q = (p ∙ sym q, refl)
 
 -- search
+
+pub search_FaultFromRefusal_from : Settled search.FaultFromRefusal.from.ended search_proofs.FaultFromRefusal.from.Reads.Learnt
+search_FaultFromRefusal_from κs a x y v w p q = (p ∙ sym q, refl)
 
 pub search_number_of : Settled search.number_of.ended search_proofs.number_of.Reads.Learnt
 search_number_of κs a x y v w p q = (p ∙ sym q, refl)
@@ -70,6 +82,30 @@ packed_waits κs a x y v w p q = (p ∙ sym q, refl)
 
 pub packed_stands : Settled packed.stands.ended packed_proofs.stands.Reads.Learnt
 packed_stands κs a x y v w p q = (p ∙ sym q, refl)
+
+pub packed_level_StepFromRomStep_from : Settled packed.level.StepFromRomStep.from.ended packed_proofs.level.StepFromRomStep.from.Reads.Learnt
+packed_level_StepFromRomStep_from κs a x y v w p q = (p ∙ sym q, refl)
+
+pub packed_level_StepFromMemoryPhase_from : Settled packed.level.StepFromMemoryPhase.from.ended packed_proofs.level.StepFromMemoryPhase.from.Reads.Learnt
+packed_level_StepFromMemoryPhase_from κs a x y v w p q = (p ∙ sym q, refl)
+
+pub packed_level_StepFromSwitchPhase_from : Settled packed.level.StepFromSwitchPhase.from.ended packed_proofs.level.StepFromSwitchPhase.from.Reads.Learnt
+packed_level_StepFromSwitchPhase_from κs a x y v w p q = (p ∙ sym q, refl)
+
+pub packed_level_StepFromLevel_from : Settled packed.level.StepFromLevel.from.ended packed_proofs.level.StepFromLevel.from.Reads.Learnt
+packed_level_StepFromLevel_from κs a x y v w p q = (p ∙ sym q, refl)
+
+pub packed_level_RomStepFromStep_from : Settled packed.level.RomStepFromStep.from.ended packed_proofs.level.RomStepFromStep.from.Reads.Learnt
+packed_level_RomStepFromStep_from κs a x y v w p q = (p ∙ sym q, refl)
+
+pub packed_level_MemoryPhaseFromStep_from : Settled packed.level.MemoryPhaseFromStep.from.ended packed_proofs.level.MemoryPhaseFromStep.from.Reads.Learnt
+packed_level_MemoryPhaseFromStep_from κs a x y v w p q = (p ∙ sym q, refl)
+
+pub packed_level_SwitchPhaseFromStep_from : Settled packed.level.SwitchPhaseFromStep.from.ended packed_proofs.level.SwitchPhaseFromStep.from.Reads.Learnt
+packed_level_SwitchPhaseFromStep_from κs a x y v w p q = (p ∙ sym q, refl)
+
+pub packed_level_LevelFromStep_from : Settled packed.level.LevelFromStep.from.ended packed_proofs.level.LevelFromStep.from.Reads.Learnt
+packed_level_LevelFromStep_from κs a x y v w p q = (p ∙ sym q, refl)
 
 pub packed_pack : Settled packed.pack.ended packed_proofs.pack.Reads.Learnt
 packed_pack κs a x y v w p q = (p ∙ sym q, refl)
