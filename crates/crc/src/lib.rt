@@ -59,7 +59,10 @@ pub fn byte16(x: u16, b: u8) -> u16
 pub fn crc8(s: &[u8]) -> u8
     ensures { result ≡ crc_of poly8 0 s.now }
 {
-    let r = s.iter().copied().fold(figure4::start(), figure4::take_byte);
+    let mut r = figure4::start();
+    for b in s {
+        r = figure4::take_byte(r, *b);
+    }
     figure4::as_byte(r)
 }
 

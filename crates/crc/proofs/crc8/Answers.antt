@@ -1,13 +1,9 @@
-use Rattle.std.proofs.Common.{rules, ◌≡◌}
-use Rattle.std.proofs.lemmas.Grind.{common_steps}
-use Rattle.std.specs.List.{fold}
-use Rattle.crc.specs.Loop.{drawn_folded}
+use Rattle.crc.specs.Loop.{drawn_next, drawn_end}
 use Rattle.crc.specs.Drawn.{drawn_from_0}
-use Rattle.crc.specs.Figure4.{cleared, drawn_byte}
 use Rattle.crc.proofs.crc8.Goals as goal
 
+pub loop-b-preserved : goal.loop-b-preserved
+loop-b-preserved c = let l = c.loop-b in cc (drawn_next l.r c.args.s.now l.b-index c.loop-b-test.true, l.invariant, c.take_byte-r.ensures)
+
 pub returns : goal.returns
-returns c =
-    let s = c.args.s.now in
-    let e : c.fold-r.result ≡ fold drawn_byte c.start.result s = grind (rules, common_steps) in
-    cc (e, drawn_folded cleared s, drawn_from_0 s)
+returns c = let s = c.args.s.now in cc (drawn_end c.loop-b.r s c.loop-b.b-index c.loop-b-test.false, c.loop-b.invariant, c.as_byte.ensures, drawn_from_0 s)
