@@ -7,6 +7,7 @@ ghost use Rattle.intelhex.specs.Bytes.{is_digit, worth, byte_of, sum_of, check_o
 pub fn is_digit(c: u8) -> bool
     ensures { result ≡ is_digit c }
 {
+    // comparisons, since by ranges in a pattern every digit of a text takes an instruction more
     b'0' <= c && c <= b'9' || b'A' <= c && c <= b'F' || b'a' <= c && c <= b'f'
 }
 
