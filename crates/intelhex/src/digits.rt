@@ -7,7 +7,7 @@ ghost use Rattle.intelhex.specs.Bytes.{is_digit, worth, byte_of, sum_of, check_o
 pub fn is_digit(c: u8) -> bool
     ensures { result ≡ is_digit c }
 {
-    // comparisons, since by ranges in a pattern every digit of a text takes an instruction more
+    // comparisons, here and below, since by ranges in a pattern each digit of a text takes an instruction or two more
     b'0' <= c && c <= b'9' || b'A' <= c && c <= b'F' || b'a' <= c && c <= b'f'
 }
 
@@ -17,11 +17,14 @@ pub fn is_digit(c: u8) -> bool
 fn worth_of(c: u8) -> u8
     ensures { result ≡ worth c }
 {
-    match c {
-        b'0'..=b'9' => c - b'0',
-        b'A'..=b'F' => c - b'A' + 10,
-        b'a'..=b'f' => c - b'a' + 10,
-        _ => 0,
+    if b'0' <= c && c <= b'9' {
+        c - b'0'
+    } else if b'A' <= c && c <= b'F' {
+        c - b'A' + 10
+    } else if b'a' <= c && c <= b'f' {
+        c - b'a' + 10
+    } else {
+        0
     }
 }
 
