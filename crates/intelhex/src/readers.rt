@@ -43,7 +43,7 @@ fn take_record(bytes: &[u8], size: usize, image: &mut [u8]) -> Result<Turn, Faul
     }
 }
 
-// A line's turn. Its bytes stand in room that all lines share: zeros for each line cost a third of the time where lines are short.
+// A line's turn. Its bytes stand in room that all lines share: zeros for each line take a tenth of a run where lines are short.
 fn take_line(line: &[u8], size: usize, bytes: &mut [u8], image: &mut [u8]) -> Result<Turn, Fault>
     requires { (length line.now ≤ 522) × (length bytes.old ≡ 260) }
     ensures { turned result image.new ≡ turned_by image.old (next_in size line.now (form_of line.now)) }
